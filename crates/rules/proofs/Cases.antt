@@ -1,0 +1,297 @@
+-- What antt computes of the definitions: the marked cases of document 01 as one table and one statement, and a second table of the same
+-- form: the errors that look right, the order of the refusals, damaged books, and what lies empty.
+-- Assumes nothing.
+use Prim.Native.Nat.{ℕ}
+use Prim.Native.String.{String}
+use mathlib.Core.Path.{_≡_, refl}
+use mathlib.Core.Bool.{true, false}
+use mathlib.Core.List.{List, [], _∷_, _++_, map}
+use lib.ListN.{length, take, replicate}
+use lib.Ieee.{Float, toBits, ofBits, binary32}
+use Rattle.rules.specs.declared.Limits.{Limits}
+use Rattle.rules.specs.declared.Mode.{Mode}
+use Rattle.rules.specs.declared.Mode.the-variants.{Elimination, TopDown}
+use Rattle.rules.specs.Bytes.{text}
+use Rattle.rules.specs.Lines.{line, lines, lineCount}
+use Rattle.rules.specs.Passes.{aggressive}
+use Rattle.rules.specs.Search.{View, view}
+use Rattle.rules.specs.Book.{written, compiled, recordAt, nextPlace, At, end, whole, broken}
+use Rattle.rules.specs.Refusal.{Areas}
+use Rattle.rules.specs.Jobs.{check, compile, outputAfter, areaAfter, scoreJob, boundsJob, scan, resultsAfter}
+use Rattle.rules.proofs.Opened.{opened}
+
+pub record Case : Type 0 where
+  pub got : List ℕ
+  pub want : List ℕ
+
+-- ---- the marked book, 58 bytes written out: licence A, whose text is `My First License`
+bodyA : List ℕ
+bodyA =
+    0x02 ∷ 0x00 ∷ 0x00 ∷ 0x00 ∷ 0x02 ∷ 0x00 ∷ 0x00 ∷ 0x00 ∷
+    0x01 ∷ 0x00 ∷ 0x00 ∷ 0x00 ∷ 0x0D ∷ 0x00 ∷ 0x00 ∷ 0x00 ∷
+    0x66 ∷ 0x69 ∷ 0x72 ∷ 0x73 ∷ 0x74 ∷ 0x20 ∷ 0x6C ∷ 0x69 ∷ 0x63 ∷ 0x65 ∷ 0x6E ∷ 0x73 ∷ 0x65 ∷
+    0x01 ∷ 0x00 ∷ 0x00 ∷ 0x00 ∷ 0x08 ∷ 0x00 ∷ 0x00 ∷ 0x00 ∷
+    0x6D ∷ 0x79 ∷ 0x20 ∷ 0x66 ∷ 0x69 ∷ 0x72 ∷ 0x73 ∷ 0x74 ∷ []
+
+bookA : List ℕ
+bookA = 0x01 ∷ 0x00 ∷ 0x00 ∷ 0x00 ∷ 0x01 ∷ 0x00 ∷ 0x41 ∷ 0x2D ∷ 0x00 ∷ 0x00 ∷ 0x00 ∷ 0x02 ∷ 0x00 ∷ bodyA
+
+-- text 2 of the marked cases
+second : List ℕ
+second = text "copyright 20xx me irl\n// My First License\nfn hello() {\n ..."
+
+-- ---- what a row computes
+room : Areas
+room = record { bytes = 100_000; words = 100_000 }
+
+limits : ℕ → ℕ → Limits
+limits threshold shallow = record { threshold = ofBits binary32 threshold; shallow = ofBits binary32 shallow }
+
+wholeView : List ℕ → View
+wholeView t = view 0 (lineCount t)
+
+lineCase : String → String → Case
+lineCase s w = record { got = line (text s); want = text w }
+
+viewCase : String → String → Case
+viewCase s w = record { got = aggressive (lines (text s)); want = text w }
+
+bytesCase : List ℕ → List ℕ → Case
+bytesCase g w = record { got = g; want = w }
+
+-- refusal and N
+bookCase : List ℕ → List ℕ → Case
+bookCase b w = record { got = check b .refusal ∷ check b .texts ∷ []; want = w }
+
+-- refusal and length, then the output and a work area, both of 9 at entry
+compileCase : List ℕ → Areas → ℕ → List ℕ → Case
+compileCase t a out w =
+    let n = compile t a out .refusal in
+    record { got = n ∷ compile t a out .len ∷ outputAfter t a (replicate out 9) ++ areaAfter n (9 ∷ 9 ∷ []); want = w }
+
+-- refusal and score bits
+scoreCase : List ℕ → List ℕ → View → ℕ → Areas → List ℕ → Case
+scoreCase t book v k a w =
+    let r = scoreJob t book v k a in
+    record { got = r .refusal ∷ toBits binary32 (r .score) ∷ []; want = w }
+
+-- refusal, first line, line after last, score bits, count
+boundsCase : List ℕ → List ℕ → List ℕ → Case
+boundsCase t book w =
+    let r = boundsJob t book (wholeView t) 0 room in
+    record { got = r .refusal ∷ r .first ∷ r .after ∷ toBits binary32 (r .score) ∷ r .count ∷ []; want = w }
+
+-- refusal, count, overall score bits, kind, the name's length and first two bytes, records; then the results area, 7 at entry
+scanCase : List ℕ → List ℕ → Limits → Mode → ℕ → Areas → ℕ → List ℕ → Case
+scanCase t book lim mode b a results w =
+    let r = scan t book lim mode b a results in
+    record {
+      got =
+          (r .refusal ∷ r .count ∷ toBits binary32 (r .score) ∷ r .kind ∷ r .len ∷ r .records ∷ []) ++
+          r .name ++ resultsAfter t book lim mode b a (replicate results 7);
+      want = w;
+    }
+
+-- the answer's 64 bytes of name
+name : List ℕ → ℕ → List ℕ
+name s zeros = s ++ replicate zeros 0
+
+noName : List ℕ
+noName = replicate 64 0
+
+-- ---- the marked cases
+budgetCase : ℕ → List ℕ → Case
+budgetCase b w = scanCase second bookA (limits 0x3f666666 0x3f7d70a4) (Elimination true 10) b room 40 w
+
+pub marked : List Case
+marked =
+    scoreCase (text "copyright 20xx me irl\n\n //  my   first license") bookA (view 0 3) 0 room (0 ∷ 0x3f800000 ∷ []) ∷
+    boundsCase second bookA (0 ∷ 1 ∷ 2 ∷ 0x3f800000 ∷ 8 ∷ []) ∷
+    lineCase "see https://a.b/c now" "see http: blackboxed url now" ∷
+    lineCase "GPL 4x" "GPL x" ∷
+    lineCase "$5 + tax" "5 tax" ∷
+    viewCase "Foo License\n\nbody text" "body text" ∷
+    viewCase "Foo License\nbody text" "foo license body text" ∷
+    viewCase "dnl one\ndnl two\ndnl tri" "dnl one wo ri" ∷
+    viewCase "a b\ncopyright c\n1999 d\nkeep me" "a b keep me" ∷
+    viewCase "x\ncopyright holder" "x copyright holder" ∷
+    budgetCase 9 ((12 ∷ 9 ∷ 0x3f2aaaab ∷ 0 ∷ 0 ∷ 1 ∷ []) ++ noName ++ (0 ∷ 1 ∷ 2 ∷ 0x3f800000 ∷ []) ++ replicate 36 7) ∷
+    budgetCase 8 ((12 ∷ 8 ∷ 0x3f2aaaab ∷ 0 ∷ 0 ∷ 0 ∷ []) ++ noName ++ replicate 40 7) ∷
+    budgetCase 20 ((0 ∷ 20 ∷ 0x3f2aaaab ∷ 0 ∷ 0 ∷ 1 ∷ []) ++ noName ++ (0 ∷ 1 ∷ 2 ∷ 0x3f800000 ∷ []) ++ replicate 36 7) ∷
+    bytesCase (length bookA ∷ []) (58 ∷ []) ∷
+    bytesCase (compiled (text "My First License")) bodyA ∷
+    bookCase bookA (0 ∷ 1 ∷ []) ∷
+    []
+
+pub marked-hold : map (λ c. c .got) marked ≡ map (λ c. c .want) marked
+unfolding
+    marked budgetCase noName scanCase boundsCase scoreCase bookCase bytesCase viewCase lineCase wholeView limits room second bookA bodyA opened
+marked-hold = refl
+
+-- ---- books by hand
+-- one record
+rec : ℕ → List ℕ → List ℕ
+rec kind body = written 4 (length body) ++ written 2 kind ++ body
+
+entry : ℕ → List ℕ → List ℕ
+entry n b = written 4 n ++ written 4 (length b) ++ b
+
+body : ℕ → ℕ → List ℕ → List ℕ
+body total distinct es = written 4 total ++ written 4 distinct ++ es
+
+-- a licence whose original is an empty table, and one with this original
+bare : String → List ℕ
+bare n = rec 1 (text n) ++ rec 2 (body 0 0 [])
+
+with : List ℕ → List ℕ
+with b = rec 1 (text "A") ++ rec 2 b
+
+-- a book that is refused
+unsound : List ℕ → Case
+unsound b = bookCase b (4 ∷ 0 ∷ [])
+
+-- what a reader finds at a place, as numbers, and the place after it
+shown : At → List ℕ
+shown end = 0 ∷ []
+shown (whole kind start len) = 1 ∷ kind ∷ start ∷ len ∷ []
+shown broken = 2 ∷ []
+
+readCase : ℕ → List ℕ → Case
+readCase place w = record { got = shown (recordAt bookA place) ++ nextPlace place (recordAt bookA place) ∷ []; want = w }
+
+-- ---- scans that are refused: the number, all else zero, results as they were
+refusedCase : List ℕ → List ℕ → Limits → Mode → Areas → ℕ → Case
+refusedCase t book lim mode a n = scanCase t book lim mode 0 a 3 ((n ∷ 0 ∷ 0 ∷ 0 ∷ 0 ∷ 0 ∷ []) ++ noName ++ 7 ∷ 7 ∷ 7 ∷ [])
+
+nan : ℕ
+nan = 0x7fc00000
+
+unity : ℕ
+unity = 0x3f800000
+
+half : ℕ
+half = 0x3f000000
+
+note : List ℕ
+note = text "My First License"
+
+tiny : Areas
+tiny = record { bytes = 0; words = 0 }
+
+pub others : List Case
+others =
+    -- errors that look right: naming at equality, the first index, several lines by A, resuming at the range end
+    scanCase note bookA (limits unity unity) (Elimination false 0) 100 room 0 ((0 ∷ 1 ∷ unity ∷ 0 ∷ 0 ∷ 0 ∷ []) ++ noName) ∷
+    scanCase note bookA (limits 0x3f7fffff unity) (Elimination false 0) 100 room 0 ((0 ∷ 1 ∷ unity ∷ 2 ∷ 1 ∷ 0 ∷ []) ++ name (text "A") 63) ∷
+    boundsCase (text "my first license\n\n") bookA (0 ∷ 0 ∷ 2 ∷ unity ∷ 7 ∷ []) ∷
+    viewCase "x\n\ncopyright a\ncopyright b\n\ny" "x copyright a copyright b y" ∷
+    viewCase "x\n\ncopyright a\n\ncopyright b\n\ny" "x copyright b y" ∷
+    scanCase (text "my first license\nmy first license\nmy first license") bookA (limits 0x3f666666 unity) (TopDown 1) 100 room 12
+    ((0 ∷ 13 ∷ 0 ∷ 0 ∷ 0 ∷ 2 ∷ []) ++ noName ++ (0 ∷ 0 ∷ 1 ∷ unity ∷ 0 ∷ 2 ∷ 3 ∷ unity ∷ []) ++ replicate 4 7) ∷
+    -- the passes
+    viewCase "abcd xabcd\nabcd e\nx\nabcd e\nabcd e" "xabcd e x e e" ∷
+    viewCase "\ncopyright x\n\nb c" "b c" ∷
+    viewCase "a license version 2 copyright me\n\nb c" "b c" ∷
+    viewCase "abc x\nabc y\nabc z" "abc x abc y abc z" ∷
+    viewCase "copyright company\nb c" "b c" ∷
+    viewCase "" "" ∷
+    lineCase "a\t\\/|b--c__d[({e)]}'\"f" "a b-c_d(e)'f" ∷
+    -- ties to the earliest; a text of kind 3 and of kind 4 named
+    scanCase note (with bodyA ++ rec 1 (text "B") ++ rec 2 bodyA) (limits half half) (Elimination false 0) 100 room 0
+    ((0 ∷ 2 ∷ unity ∷ 2 ∷ 1 ∷ 0 ∷ []) ++ name (text "A") 63) ∷
+    scanCase note (bare "A" ++ bare "B-1" ++ rec 3 bodyA) (limits half half) (Elimination false 0) 100 room 0
+    ((0 ∷ 3 ∷ unity ∷ 3 ∷ 3 ∷ 0 ∷ []) ++ name (text "B-1") 61) ∷
+    scanCase note (bare "A" ++ rec 4 bodyA) (limits half half) (Elimination false 0) 100 room 0
+    ((0 ∷ 2 ∷ unity ∷ 4 ∷ 1 ∷ 0 ∷ []) ++ name (text "A") 63) ∷
+    -- the shallow limit at equality goes on; after the last pass the best is taken again
+    scanCase note bookA (limits half unity) (Elimination true 1) 100 room 4
+    ((0 ∷ 6 ∷ unity ∷ 2 ∷ 1 ∷ 1 ∷ []) ++ name (text "A") 63 ++ 0 ∷ 0 ∷ 1 ∷ unity ∷ []) ∷
+    scanCase note bookA (limits half unity) (Elimination true 1) 5 room 4
+    ((12 ∷ 5 ∷ unity ∷ 2 ∷ 1 ∷ 1 ∷ []) ++ name (text "A") 63 ++ 0 ∷ 0 ∷ 1 ∷ unity ∷ []) ∷
+    scanCase note bookA (limits half 0x3f7fffff) (Elimination true 1) 100 room 4 ((0 ∷ 1 ∷ unity ∷ 2 ∷ 1 ∷ 0 ∷ []) ++ name (text "A") 63 ++ replicate 4 7) ∷
+    -- no results without optimize; a budget of none; the largest step; -0.0 is from 0.0
+    scanCase note bookA (limits half half) (Elimination false 2) 100 room 0 ((0 ∷ 1 ∷ unity ∷ 2 ∷ 1 ∷ 0 ∷ []) ++ name (text "A") 63) ∷
+    scanCase note bookA (limits half half) (Elimination false 2) 0 room 0 ((12 ∷ 0 ∷ 0 ∷ 0 ∷ 0 ∷ 0 ∷ []) ++ noName) ∷
+    scanCase (text "my first license\nx") bookA (limits 0x80000000 0) (TopDown 0xFFFFFFFFFFFFFFFF) 100 room 8
+    ((0 ∷ 6 ∷ 0 ∷ 0 ∷ 0 ∷ 2 ∷ []) ++ noName ++ 0 ∷ 0 ∷ 0 ∷ 0 ∷ 0 ∷ 1 ∷ 1 ∷ 0 ∷ []) ∷
+    -- the order of the refusals: to each row two neighbours apply
+    refusedCase (128 ∷ []) (1 ∷ []) (limits nan nan) (TopDown 0) tiny 2 ∷
+    refusedCase note (1 ∷ []) (limits nan nan) (TopDown 0) tiny 4 ∷
+    refusedCase note [] (limits nan nan) (TopDown 0) tiny 5 ∷
+    refusedCase note bookA (limits nan half) (TopDown 0) tiny 6 ∷
+    refusedCase note bookA (limits half 0x3f800001) (TopDown 0) tiny 6 ∷
+    refusedCase note bookA (limits half half) (TopDown 0) tiny 7 ∷
+    refusedCase note bookA (limits half half) (TopDown 1) tiny 10 ∷
+    refusedCase note bookA (limits half half) (TopDown 1) room 10 ∷
+    refusedCase note bookA (limits half half) (Elimination true 1) (record { bytes = 192; words = 256 }) 10 ∷
+    scanCase note bookA (limits half half) (Elimination false 1) 1 (record { bytes = 192; words = 256 }) 0 ((0 ∷ 1 ∷ unity ∷ 2 ∷ 1 ∷ 0 ∷ []) ++ name (text "A") 63) ∷
+    scanCase note bookA (limits half half) (Elimination false 1) 0 (record { bytes = 191; words = 256 }) 0 ((10 ∷ 0 ∷ 0 ∷ 0 ∷ 0 ∷ 0 ∷ []) ++ noName) ∷
+    scoreCase note (1 ∷ []) (view 1 0) 9 tiny (4 ∷ 0 ∷ []) ∷
+    scoreCase note [] (view 1 0) 9 tiny (5 ∷ 0 ∷ []) ∷
+    scoreCase note bookA (view 1 0) 9 tiny (8 ∷ 0 ∷ []) ∷
+    scoreCase note bookA (view 0 2) 0 room (8 ∷ 0 ∷ []) ∷
+    scoreCase note bookA (view 0 1) 1 tiny (9 ∷ 0 ∷ []) ∷
+    scoreCase note bookA (view 0 1) 0 (record { bytes = 192; words = 255 }) (10 ∷ 0 ∷ []) ∷
+    scoreCase note bookA (view 1 1) 0 (record { bytes = 192; words = 256 }) (0 ∷ 0 ∷ []) ∷
+    compileCase (128 ∷ []) tiny 0 (2 ∷ 0 ∷ 9 ∷ 9 ∷ []) ∷
+    compileCase note tiny 3 (10 ∷ 0 ∷ 9 ∷ 9 ∷ 9 ∷ 9 ∷ 9 ∷ []) ∷
+    compileCase note room 44 ((11 ∷ 0 ∷ []) ++ replicate 44 9 ++ 0 ∷ 0 ∷ []) ∷
+    compileCase note room 46 ((0 ∷ 45 ∷ []) ++ bodyA ++ 9 ∷ 0 ∷ 0 ∷ []) ∷
+    compileCase [] (record { bytes = 64; words = 64 }) 8 ((0 ∷ 8 ∷ []) ++ replicate 10 0) ∷
+    -- books: empty; an empty table; every kind in its place; names that rise
+    bookCase [] (0 ∷ 0 ∷ []) ∷
+    bookCase (bare "A") (0 ∷ 1 ∷ []) ∷
+    scoreCase note (bare "A") (view 0 1) 0 room (0 ∷ 0 ∷ []) ∷
+    bookCase (bare "A" ++ rec 3 bodyA ++ rec 3 bodyA ++ rec 4 bodyA ++ rec 5 (text "A") ++ rec 5 (text "A") ++ bare "A-1" ++ rec 4 bodyA) (0 ∷ 6 ∷ []) ∷
+    bookCase (rec 1 (replicate 64 126) ++ rec 2 bodyA) (0 ∷ 1 ∷ []) ∷
+    -- unsound: a length that is 2^32 with its 6 bytes, a body past the end, a byte too many
+    unsound (0xFA ∷ 0xFF ∷ 0xFF ∷ 0xFF ∷ 0x01 ∷ 0x00 ∷ []) ∷
+    unsound (take 57 bookA) ∷
+    unsound (take 6 bookA) ∷
+    unsound (bookA ++ 0 ∷ []) ∷
+    -- kinds out of order
+    unsound (rec 1 (text "A")) ∷
+    unsound (rec 2 bodyA) ∷
+    unsound (bare "A" ++ rec 2 bodyA) ∷
+    unsound (rec 1 (text "A") ++ rec 3 bodyA) ∷
+    unsound (bare "A" ++ rec 4 bodyA ++ rec 3 bodyA) ∷
+    unsound (bare "A" ++ rec 5 (text "B") ++ rec 4 bodyA) ∷
+    unsound (bare "A" ++ rec 6 (text "B")) ∷
+    unsound (bare "A" ++ rec 0 (text "B")) ∷
+    -- names
+    unsound (bookA ++ bookA) ∷
+    unsound (bare "B" ++ bare "A") ∷
+    unsound (bare "A-1" ++ bare "A") ∷
+    unsound (bare "") ∷
+    unsound (bare "A B") ∷
+    unsound (rec 1 (127 ∷ []) ++ rec 2 bodyA) ∷
+    unsound (rec 1 (replicate 65 126) ++ rec 2 bodyA) ∷
+    unsound (bare "A" ++ rec 5 []) ∷
+    -- table bodies: counts, order, sums, words
+    bookCase (with (body 8_388_608 1 (entry 8_388_608 (text "a b")))) (0 ∷ 1 ∷ []) ∷
+    unsound (with (body 8_388_609 1 (entry 8_388_609 (text "a b")))) ∷
+    unsound (with (body 2 2 (entry 1 (text "a b") ++ entry 1 (text "a b")))) ∷
+    unsound (with (body 2 2 (entry 1 (text "a c") ++ entry 1 (text "a b")))) ∷
+    unsound (with (body 2 1 (entry 1 (text "a b")))) ∷
+    unsound (with (body 1 2 (entry 1 (text "a b")))) ∷
+    unsound (with (body 1 2 (entry 0 (text "a a") ++ entry 1 (text "a b")))) ∷
+    unsound (with (body 1 1 (entry 1 (text "ab")))) ∷
+    unsound (with (body 1 1 (entry 1 (text "a ")))) ∷
+    unsound (with (body 1 1 (entry 1 (text "a  b")))) ∷
+    unsound (with (body 1 1 (entry 1 (text "a b c")))) ∷
+    unsound (with (body 1 1 (entry 1 (text "A b")))) ∷
+    unsound (with (body 1 1 (entry 1 (text "a b") ++ 0 ∷ []))) ∷
+    unsound (with (replicate 7 0)) ∷
+    -- the reader, at each record, at the end, inside, and past all
+    readCase 0 (1 ∷ 1 ∷ 6 ∷ 1 ∷ 7 ∷ []) ∷
+    readCase 7 (1 ∷ 2 ∷ 13 ∷ 45 ∷ 58 ∷ []) ∷
+    readCase 58 (0 ∷ 58 ∷ []) ∷
+    readCase 57 (2 ∷ 57 ∷ []) ∷
+    readCase 0xFFFFFFFFFFFFFFFF (0 ∷ 0xFFFFFFFFFFFFFFFF ∷ []) ∷
+    []
+
+pub others-hold : map (λ c. c .got) others ≡ map (λ c. c .want) others
+unfolding
+    others readCase shown unsound with bare body entry rec refusedCase tiny note half unity nan name noName scanCase boundsCase scoreCase compileCase
+    bookCase viewCase lineCase wholeView limits room bookA bodyA opened
+others-hold = refl

@@ -1,0 +1,140 @@
+-- Top-down's rounds: what is found from line c on lies in [c, L], so c strictly rises (`contained-in`), and each round is its plain step
+-- (`down-step`). Bounds lie in their view (`bounds-in`).
+-- Assumes nothing.
+use mathlib.Core.Path.{_≡_, refl, sym, ap, _∙_, subst}
+use Prim.Native.Nat.{ℕ, zero, suc, _+_, _-_, _≤_, _<_}
+use native.Mathlib.Omega.{arith}
+use mathlib.Core.Bool.{Bool, true, false, cond}
+use mathlib.Core.List.{List, [], _∷_, _++_, map}
+use mathlib.Core.Option.{Option, none, some}
+use lib.ListN.{length}
+use lib.Dec.{ltb}
+use lib.Ieee.{lt}
+use borrow.Author.Tests.{ltb-true, ltb-false}
+use Rattle.rules.specs.declared.Limits.{Limits}
+use Rattle.rules.specs.Search.{View, view, Stored, Made, scoreView, search, Best, best, Bounds, bounds}
+use Rattle.rules.specs.Scan.{Event, found, Recorded, after, below, steps, viewsOf, Pair, latest, settled, contained, andOn, downOn, downFrom}
+use Rattle.rules.proofs.BoolLaws.{cond-of}
+use Rattle.rules.proofs.Steps.{Falls, recurse-step, search-in, steps-more, steps-end}
+
+-- ---- what holds of each element of a list
+abbrev pub Each : {A : Type 0} → (A → Type 0) → List A → Type 0
+Each P [] = Unit {0}
+Each P (x ∷ xs) = P x × Each P xs
+
+pub each-append : {A : Type 0} (P : A → Type 0) (xs ys : List A) → Each P xs → Each P ys → Each P (xs ++ ys)
+each-append P [] ys h k = k
+each-append P (x ∷ xs) ys h k = (h .0, each-append P xs ys (h .1) k)
+
+each-map : {A B : Type 0} (P : B → Type 0) (f : A → B) (xs : List A) → Each (λ x. P (f x)) xs → Each P (map f xs)
+each-map P f [] h = tt
+each-map P f (x ∷ xs) h = (h .0, each-map P f xs (h .1))
+
+-- ---- the views of a round
+steps-to : (P : ℕ → Type 0) (s n : ℕ) → 0 < s → (k a : ℕ) → n - a ≤ k → ((i : ℕ) → a ≤ i → i < n → P i) → Each P (steps s a n)
+steps-to P s n p zero a h f = subst (Each P) (sym (steps-end s a n p (omega arith))) tt
+steps-to P s n p (suc k) a h f = at (ltb a n) refl (steps-to P s n p k (a + s))
+  where
+    at : (t : Bool) → ltb a n ≡ t → (n - (a + s) ≤ k → ((i : ℕ) → a + s ≤ i → i < n → P i) → Each P (steps s (a + s) n)) → Each P (steps s a n)
+    at true q go =
+        let l = ltb-true a n q in
+        subst (Each P) (sym (steps-more s a n p l)) (f a (omega arith) l, go (omega arith) (λ i u v. f i (omega arith) v))
+    at false q go = subst (Each P) (sym (steps-end s a n p (ltb-false a n q))) tt
+
+pub steps-each : (P : ℕ → Type 0) (s a n : ℕ) → 0 < s → ((i : ℕ) → a ≤ i → i < n → P i) → Each P (steps s a n)
+steps-each P s a n p f = steps-to P s n p (n - a) a (omega arith) f
+
+-- a view of lines from c on
+abbrev pub Inside : ℕ → ℕ → View → Type 0
+Inside c n v = (c ≤ v .start) × (v .start ≤ v .end) × (v .end ≤ n)
+
+views-inside : (s c n : ℕ) → 0 < s → (cs : List ℕ) → Each (λ a. (c ≤ a) × (a < n)) cs → Each (Inside c n) (viewsOf s n cs)
+unfolding viewsOf
+views-inside s c n p [] h = tt
+views-inside s c n p (a ∷ cs) h =
+    each-append (Inside c n) (map (λ e. view a e) (steps s a (suc n))) (viewsOf s n cs)
+    (each-map (Inside c n) (λ e. view a e) (steps s a (suc n))
+    (steps-each (λ e. Inside c n (view a e)) s a (suc n) p (λ e u v. (h .0 .0, u, omega arith))))
+    (views-inside s c n p cs (h .1))
+
+pub round-inside : (s c n : ℕ) → 0 < s → Each (Inside c n) (viewsOf s n (steps s c n))
+round-inside s c n p = views-inside s c n p (steps s c n) (steps-each (λ a. (c ≤ a) × (a < n)) s c n p (λ i u v. (u, v)))
+
+-- ---- bounds
+pub bounds-in : (ls : List (List ℕ)) (v : View) (s : Stored) → v .start ≤ v .end →
+    (v .start ≤ bounds ls v s .value .first) ×
+    (bounds ls v s .value .first ≤ bounds ls v s .value .after) ×
+    (bounds ls v s .value .after ≤ v .end)
+unfolding bounds
+bounds-in ls v s h =
+    let e = search-in (λ e. scoreView ls s (view (v .start) e)) (v .start) (v .end) h in
+    let m = search (λ e. scoreView ls s (view (v .start) e)) (v .start) (v .end) .value .at in
+    let a = search-in (λ a. scoreView ls s (view a m)) (v .start) m (e .0) in
+    (a .0, a .1, e .1)
+
+-- ---- the pair of a round, and what is found
+abbrev pub On : {A : Type 0} → (A → Type 0) → Option A → Type 0
+On P none = Unit {0}
+On P (some a) = P a
+
+module _ (lim : Limits) (ss : List Stored) (ls : List (List ℕ)) (P : View → Type 0) where
+  abbrev Holds : Made (Option Pair) → Type 0
+  Holds m = On (λ p. P (p .view)) (m .value)
+
+  pub latest-of : (o : Option Pair) (vs : List View) → On (λ p. P (p .view)) o → Each P vs → On (λ p. P (p .view)) (latest lim ss ls o vs .value)
+  unfolding latest
+  latest-of none [] h k = h
+  latest-of (some p) [] h k = h
+  latest-of none (v ∷ vs) h k =
+      let b = best ss ls v .value in
+      let q : Pair = record { view = v; text = b .text } in
+      cond-of Holds (lt (b .value .score) (lim .threshold)) (latest lim ss ls none vs) (latest lim ss ls (some q) vs)
+      (latest-of none vs tt (k .1)) (latest-of (some q) vs (k .0) (k .1))
+  latest-of (some p) (v ∷ vs) h k =
+      let b = best ss ls v .value in
+      let q : Pair = record { view = v; text = b .text } in
+      cond-of Holds (lt (b .value .score) (lim .threshold)) (record { list = []; value = some p }) (latest lim ss ls (some q) vs)
+      h (latest-of (some q) vs (k .0) (k .1))
+
+-- a range of lines from c on
+abbrev pub Reach : ℕ → ℕ → Recorded → Type 0
+Reach c n r = (c ≤ r .range .first) × (r .range .first ≤ r .range .after) × (r .range .after ≤ n)
+
+module _ (lim : Limits) (s : ℕ) (ss : List Stored) (ls : List (List ℕ)) (p : 0 < s) where
+  settled-of : (c n : ℕ) (o : Option Pair) → On (λ q. Inside c n (q .view)) o → On (Reach c n) (settled lim ls o .value)
+  unfolding settled
+  settled-of c n none h = tt
+  settled-of c n (some q) h = at (below lim (bounds ls (q .view) (q .text) .value))
+    where
+      at : (t : Bool) → On (Reach c n) (cond t none (some (record { text = q .text; range = bounds ls (q .view) (q .text) .value })))
+      at true = tt
+      at false = let b = bounds-in ls (q .view) (q .text) (h .1) in (omega arith, b .1, omega arith)
+
+  pub contained-of : (c : ℕ) → On (Reach c (length ls)) (contained lim s ss ls c .value)
+  unfolding contained
+  contained-of c =
+      let vs = viewsOf s (length ls) (steps s c (length ls)) in
+      settled-of c (length ls) (latest lim ss ls none vs .value)
+      (latest-of lim ss ls (Inside c (length ls)) none vs tt (round-inside s c (length ls) p))
+
+  pub contained-in : (c : ℕ) (r : Recorded) → contained lim s ss ls c .value ≡ some r → Reach c (length ls) r
+  contained-in c r e = subst (On (Reach c (length ls))) e (contained-of c)
+
+  down-falls : (c : ℕ) → Falls (λ i. length ls - i) (downOn lim s ss ls) c
+  unfolding downOn andOn
+  down-falls c g h e = at (ltb c (length ls)) refl
+    where
+      m : Made (Option Recorded)
+      m = contained lim s ss ls c
+
+      on : (o : Option Recorded) → c < length ls → On (Reach c (length ls)) o → andOn g o ≡ andOn h o
+      on none l k = refl
+      on (some r) l k = ap (λ (es : List Event). found r ∷ es) (e (r .range .after + 1) (omega arith))
+
+      at : (t : Bool) → ltb c (length ls) ≡ t → downOn lim s ss ls g c ≡ downOn lim s ss ls h c
+      at true q = ap (λ (es : List Event). cond (ltb c (length ls)) (after (m .list) es) []) (on (m .value) (ltb-true c (length ls) q) (contained-of c))
+      at false q = simp q
+
+  pub down-step : (c : ℕ) → downFrom lim s ss ls c ≡ downOn lim s ss ls (downFrom lim s ss ls) c
+  unfolding downFrom
+  down-step c = recurse-step (λ i. length ls - i) (λ i. []) (downOn lim s ss ls) down-falls c

@@ -1,0 +1,162 @@
+-- The first refusal that applies: a text too long, a byte too high, lines too many, over any text of that kind; and of scan, that 12 comes
+-- exactly if nothing else is refused and the list of scorings is longer than the budget, and that the count is the smaller of both.
+-- Assumes nothing.
+use mathlib.Core.Path.{_≡_, refl, sym, ap, _∙_}
+use Prim.Native.Nat.{ℕ, zero, suc, _+_, _≤_, _<_, min}
+use native.Mathlib.Omega.{arith}
+use mathlib.Core.Bool.{Bool, true, false, not, _||_, cond}
+use mathlib.Core.List.{List, [], _∷_, _++_}
+use lib.ListN.{length, length-map}
+use lib.Dec.{leb, ltb, eqb}
+use borrow.Author.Tests.{lt-ltb, le-ltb, eqb-true, eqb-false, ltb-true}
+use Rattle.rules.specs.declared.Limits.{Limits}
+use Rattle.rules.specs.declared.Mode.{Mode}
+use Rattle.rules.specs.Sizes.{textMost, linesMost}
+use Rattle.rules.specs.Bytes.{every, split}
+use Rattle.rules.specs.Lines.{line, lines, lineCount}
+use Rattle.rules.specs.Book.{stored, compiled}
+use Rattle.rules.specs.Scan.{Event, events, afford, scorings, records}
+use Rattle.rules.specs.Refusal.{Row, row, refusal, ofText, ofBook, Areas, beforeCompile, ofCompile, beforeScan, overBudget, ofScan}
+use Rattle.rules.specs.Jobs.{happened, scan}
+use Rattle.rules.proofs.DownLaws.{Each}
+use Rattle.rules.proofs.BudgetLaws.{afford-count}
+
+-- ---- texts
+pub text-too-long : (t : List ℕ) (rest : List Row) → textMost < length t → refusal (ofText t ++ rest) ≡ 1
+unfolding refusal ofText
+text-too-long t rest h = simp (lt-ltb textMost (length t) h)
+
+pub byte-too-high : (t : List ℕ) (rest : List Row) → length t ≤ textMost → every (λ x. ltb x 128) t ≡ false → refusal (ofText t ++ rest) ≡ 2
+unfolding refusal ofText
+byte-too-high t rest h k = simp (le-ltb textMost (length t) h, k)
+
+pub too-many-lines : (t : List ℕ) (rest : List Row) → length t ≤ textMost → every (λ x. ltb x 128) t ≡ true → linesMost < lineCount t →
+    refusal (ofText t ++ rest) ≡ 3
+unfolding refusal ofText
+too-many-lines t rest h k l = simp (le-ltb textMost (length t) h, k, lt-ltb linesMost (lineCount t) l)
+
+pub text-passes : (t : List ℕ) (rest : List Row) → length t ≤ textMost → every (λ x. ltb x 128) t ≡ true → lineCount t ≤ linesMost →
+    refusal (ofText t ++ rest) ≡ refusal rest
+unfolding refusal ofText
+text-passes t rest h k l = simp (le-ltb textMost (length t) h, k, le-ltb linesMost (lineCount t) l)
+
+-- L
+pub lines-count : (t : List ℕ) → length (lines t) ≡ lineCount t
+unfolding lines lineCount
+lines-count t = length-map (split 10 t) line
+
+-- ---- rows after rows: those before decide, unless none of them applies
+abbrev Numbered : List Row → Type 0
+Numbered rs = Each (λ r. (1 ≤ r .number) × (r .number ≤ 10)) rs
+
+pub refusal-first : (rs qs : List Row) → (refusal rs ≡ 0 → ⊥) → refusal (rs ++ qs) ≡ refusal rs
+unfolding refusal
+refusal-first [] qs h = absurd (h refl)
+refusal-first (r ∷ rs) qs h = at (r .applies) h (refusal-first rs qs)
+  where
+    at : (t : Bool) → (cond t (r .number) (refusal rs) ≡ 0 → ⊥) → ((refusal rs ≡ 0 → ⊥) → refusal (rs ++ qs) ≡ refusal rs) →
+        cond t (r .number) (refusal (rs ++ qs)) ≡ cond t (r .number) (refusal rs)
+    at true k go = refl
+    at false k go = go k
+
+pub refusal-then : (rs qs : List Row) → Numbered rs → refusal rs ≡ 0 → refusal (rs ++ qs) ≡ refusal qs
+unfolding refusal
+refusal-then [] qs n h = refl
+refusal-then (r ∷ rs) qs n h = at (r .applies) h (refusal-then rs qs (n .1))
+  where
+    at : (t : Bool) → cond t (r .number) (refusal rs) ≡ 0 → (refusal rs ≡ 0 → refusal (rs ++ qs) ≡ refusal qs) →
+        cond t (r .number) (refusal (rs ++ qs)) ≡ refusal qs
+    at true k go = let p = n .0 .0 in absurd (none p k)
+      where
+        none : 1 ≤ r .number → r .number ≡ 0 → ⊥
+        none p k = omega arith
+    at false k go = go k
+
+refusal-most : (rs : List Row) → Numbered rs → refusal rs ≤ 10
+unfolding refusal
+refusal-most [] n = omega arith
+refusal-most (r ∷ rs) n = at (r .applies) (refusal-most rs (n .1))
+  where
+    at : (t : Bool) → refusal rs ≤ 10 → cond t (r .number) (refusal rs) ≤ 10
+    at true k = n .0 .1
+    at false k = k
+
+-- ---- compile: 11 exactly if nothing before applies and the output is shorter than the body
+module _ (t : List ℕ) (a : Areas) where
+  compile-numbered : Numbered (beforeCompile t a)
+  unfolding beforeCompile ofText
+  compile-numbered = omega arith
+
+  pub compile-before : (out : ℕ) → (refusal (beforeCompile t a) ≡ 0 → ⊥) → refusal (ofCompile t a out) ≡ refusal (beforeCompile t a)
+  unfolding ofCompile
+  compile-before out h = refusal-first (beforeCompile t a) _ h
+
+  pub compile-fits : (out : ℕ) → refusal (beforeCompile t a) ≡ 0 → refusal (ofCompile t a out) ≡ cond (ltb out (length (compiled t))) 11 0
+  unfolding ofCompile refusal
+  compile-fits out h = refusal-then (beforeCompile t a) (row 11 (ltb out (length (compiled t))) ∷ []) compile-numbered h
+
+-- ---- scan
+module _ (t book : List ℕ) (lim : Limits) (mode : Mode) (a : Areas) (results : ℕ) where
+  abbrev before : ℕ
+  before = refusal (beforeScan t book lim mode a results)
+
+  -- the list of the full scan
+  abbrev full : List Event
+  full = events lim mode (stored book) (lines t)
+
+  scan-numbered : Numbered (beforeScan t book lim mode a results)
+  unfolding beforeScan ofText ofBook
+  scan-numbered = omega arith
+
+  pub scan-before : (b : ℕ) → (before ≡ 0 → ⊥) → refusal (ofScan t book lim mode b a results) ≡ before
+  unfolding ofScan
+  scan-before b h = refusal-first (beforeScan t book lim mode a results) _ h
+
+  scan-then : (b : ℕ) → before ≡ 0 → refusal (ofScan t book lim mode b a results) ≡ cond (ltb b (length (scorings full))) 12 0
+  unfolding ofScan refusal overBudget
+  scan-then b h =
+      refusal-then (beforeScan t book lim mode a results) (row 12 (ltb b (length (scorings full))) ∷ []) scan-numbered h
+
+  -- 12 exactly if the list is longer than the budget
+  pub scan-over : (b : ℕ) → before ≡ 0 → b < length (scorings full) → refusal (ofScan t book lim mode b a results) ≡ 12
+  scan-over b h k = scan-then b h ∙ simp (lt-ltb b (length (scorings full)) k)
+
+  pub scan-paid : (b : ℕ) → before ≡ 0 → length (scorings full) ≤ b → refusal (ofScan t book lim mode b a results) ≡ 0
+  scan-paid b h k = scan-then b h ∙ simp (le-ltb b (length (scorings full)) k)
+
+  -- what is not refused before any work happens as far as the budget pays
+  pub scan-happened : (b : ℕ) → before ≡ 0 → happened t book lim mode b a results ≡ afford b full
+  unfolding happened
+  scan-happened b h = at (ltb b (length (scorings full))) (scan-then b h)
+    where
+      n : ℕ
+      n = refusal (ofScan t book lim mode b a results)
+
+      at : (u : Bool) → n ≡ cond u 12 0 → cond (eqb n 0 || eqb n 12) (afford b full) [] ≡ afford b full
+      at true q = simp q
+      at false q = simp q
+
+  -- count = min(budget, length of the list)
+  pub scan-count : (b : ℕ) → before ≡ 0 → scan t book lim mode b a results .count ≡ min b (length (scorings full))
+  unfolding scan
+  scan-count b h = ap (λ (es : List Event). length (scorings es)) (scan-happened b h) ∙ afford-count b full
+
+  -- 12 only then: a refusal before any work is 1 to 10
+  pub scan-only : (b : ℕ) → refusal (ofScan t book lim mode b a results) ≡ 12 → (before ≡ 0) × (b < length (scorings full))
+  scan-only b h = at (eqb before 0) refl
+    where
+      over : (u : Bool) → ltb b (length (scorings full)) ≡ u → _≡_ {A = ℕ} 12 (cond u 12 0) → b < length (scorings full)
+      over true q e = ltb-true b (length (scorings full)) q
+      over false q e = absurd (no e)
+        where
+          no : _≡_ {A = ℕ} 12 0 → ⊥
+          no e = omega arith
+
+      at : (u : Bool) → eqb before 0 ≡ u → (before ≡ 0) × (b < length (scorings full))
+      at true q =
+          let z = eqb-true before 0 q in
+          (z, over (ltb b (length (scorings full))) refl (sym h ∙ scan-then b z))
+      at false q = absurd (no (sym h ∙ scan-before b (eqb-false before 0 q)) (refusal-most (beforeScan t book lim mode a results) scan-numbered))
+        where
+          no : 12 ≡ before → before ≤ 10 → ⊥
+          no e l = omega arith

@@ -1,0 +1,221 @@
+-- What is known of a sound book: every record lies within it, it has at most `storedMost` stored texts, and of each stored text the name,
+-- the kind, the number and the table (`StoredSound`).
+-- Assumes nothing.
+use mathlib.Core.Path.{_≡_, refl, sym, ap, _∙_, subst}
+use Prim.Native.Nat.{ℕ, zero, suc, _+_, _-_, _≤_, _<_}
+use native.Mathlib.Nat.{not-suc-le-zero, le-of-suc-le-suc}
+use native.Mathlib.Omega.{arith}
+use mathlib.Core.Bool.{Bool, true, false, not, _&&_, _||_, cond, false≢true}
+use mathlib.Core.List.{List, [], _∷_, _++_}
+use mathlib.Core.Option.{Option, none, some}
+use lib.ListN.{length, getD, take, drop, length-take, length-drop}
+use lib.Dec.{leb, ltb, eqb}
+use borrow.Author.Tests.{leb-true, eqb-true, eqb-false, lt-leb, ne-eqb}
+use Rattle.rules.specs.Sizes.{bookMost, storedMost, totalMost, nameMost}
+use Rattle.rules.specs.Bytes.{within, rises}
+use Rattle.rules.specs.Prefix.{Counted}
+use Rattle.rules.specs.Table.{Table}
+use Rattle.rules.specs.Search.{Stored, noText}
+use Rattle.rules.specs.Book
+use Rattle.rules.specs.Book.{number, Form, Piece, Front, front, recordForm, Record, recordOf, recordsOf, At, placed, recordAt, entriesOf, sum, soundEntries, soundTable, soundName, storedKind, soundBody, follows, soundRecords, tableIn, storedIn, storedOf, stored, filled, sound}
+use Rattle.rules.proofs.BoolLaws.{and-left, and-right, and-not}
+use Rattle.rules.proofs.Steps.{front-cut}
+use Rattle.rules.proofs.DownLaws.{Each, each-append}
+
+-- ---- every record lies within the book
+pub record-within : (book : List ℕ) (place kind start len : ℕ) → recordAt book place ≡ At.whole kind start len →
+    (start ≡ place + 6) × (start + len ≤ length book)
+unfolding recordAt placed
+record-within book place kind start len e = at (front recordForm (drop place book)) refl e
+  where
+    at : (r : Front) → front recordForm (drop place book) ≡ r → placed place r ≡ At.whole kind start len → (start ≡ place + 6) × (start + len ≤ length book)
+    at Front.end q e = let z : _≡_ {A = ℕ} 0 1 = cc in omega arith
+    at (Front.whole p more) q e =
+        let c = front-cut recordForm (drop place book) p more q in
+        let n = number 4 (drop 0 (drop place book)) in
+        let a : start ≡ place + 6 = cc in
+        let b : len ≡ length (p .body) = cc in
+        (a, omega (arith, ap length (c .body), length-take n (drop 6 (drop place book)), length-drop place book))
+    at Front.broken q e = let z : _≡_ {A = ℕ} 0 1 = cc in omega arith
+
+-- ---- stored texts
+pub record StoredSound (s : Stored) : Type 0 where
+  pub name-from : 1 ≤ length (s .name)
+  pub name-to : length (s .name) ≤ nameMost
+  pub kind-from : 2 ≤ s .kind
+  pub kind-to : s .kind ≤ 4
+  pub rising : soundEntries [] (s .table .entries) ≡ true
+  pub total : s .table .total ≡ sum (s .table .entries)
+  pub total-to : s .table .total ≤ totalMost
+
+within-from : (a b x : ℕ) → within a b x ≡ true → a ≤ x
+unfolding within
+within-from a b x h = leb-true a x (and-left (leb a x) (leb x b) h)
+
+within-to : (a b x : ℕ) → within a b x ≡ true → x ≤ b
+unfolding within
+within-to a b x h = leb-true x b (and-right (leb a x) (leb x b) h)
+
+-- a record that is no name stands after another of its licence
+follows-other : (a b : ℕ) → follows a b ≡ true → eqb b 1 ≡ false → 1 ≤ a
+unfolding follows
+follows-other a b h k = at (eqb b 2) (simp k at h)
+  where
+    at : (t : Bool) → cond t (eqb a 1) (within 3 5 b && within 2 b a) ≡ true → 1 ≤ a
+    at true h = omega (arith, eqb-true a 1 h)
+    at false h = omega (arith, within-from 2 b a (and-right (within 3 5 b) (within 2 b a) h))
+
+pub table-sound : (body : List ℕ) (o : Option (List Counted)) → soundTable body o ≡ true →
+    (soundEntries [] (tableIn body o .entries) ≡ true) × (tableIn body o .total ≡ sum (tableIn body o .entries)) × (sum (tableIn body o .entries) ≤ totalMost)
+unfolding soundTable tableIn
+table-sound body none h = absurd (false≢true h)
+table-sound body (some es) h =
+    let a = leb 8 (length body) in
+    let b = eqb (number 4 body) (sum es) in
+    let c = eqb (number 4 (drop 4 body)) (length es) in
+    let d = soundEntries [] es in
+    let e = leb (sum es) totalMost in
+    let front = and-left (a && b && c && d) e h in (
+      and-right (a && b && c) d front,
+      eqb-true (number 4 body) (sum es) (and-right a b (and-left (a && b) c (and-left (a && b && c) d front))),
+      leb-true (sum es) totalMost (and-right (a && b && c && d) e h),
+    )
+
+pub table-size : (body : List ℕ) (o : Option (List Counted)) → soundTable body o ≡ true → 8 ≤ length body
+unfolding soundTable
+table-size body none h = absurd (false≢true h)
+table-size body (some es) h =
+    let a = leb 8 (length body) in
+    let b = eqb (number 4 body) (sum es) in
+    let c = eqb (number 4 (drop 4 body)) (length es) in
+    let d = soundEntries [] es in
+    let front = and-left (a && b && c && d) (leb (sum es) totalMost) h in
+    leb-true 8 (length body) (and-left a b (and-left (a && b) c (and-left (a && b && c) d front)))
+
+body-sound : (r : Record) → soundBody r ≡ true → storedKind (r .kind) ≡ true → soundTable (r .body) (entriesOf (r .body)) ≡ true
+unfolding soundBody
+body-sound r h k = simp k at h
+
+name-sound : (r : Record) → soundBody r ≡ true → eqb (r .kind) 1 ≡ true → soundName (r .body) ≡ true
+unfolding soundBody storedKind within
+name-sound r h k = simp (eqb-true (r .kind) 1 k) at h
+
+module _ (r : Record) (n : ℕ) (name : List ℕ) (named : soundName name ≡ true) (body : soundBody r ≡ true) where
+  stored-sound : storedKind (r .kind) ≡ true → StoredSound (record { number = n; name = name; kind = r .kind; table = tableIn (r .body) (entriesOf (r .body)) })
+  unfolding soundName storedKind
+  stored-sound k =
+      let size = and-left (within 1 nameMost (length name)) _ named in
+      let t = table-sound (r .body) (entriesOf (r .body)) (body-sound r body k) in
+      record {
+        name-from = within-from 1 nameMost (length name) size;
+        name-to = within-to 1 nameMost (length name) size;
+        kind-from = within-from 2 4 (r .kind) k;
+        kind-to = within-to 2 4 (r .kind) k;
+        rising = t .0;
+        total = t .1;
+        total-to = omega (arith, t .1, t .2);
+      }
+
+-- under a licence's name, after a record of kind a
+stored-each : (n a : ℕ) (name : List ℕ) (rs : List Record) → soundRecords a name rs ≡ true → (1 ≤ a → soundName name ≡ true) → Each StoredSound (storedIn n name rs)
+unfolding soundRecords storedIn storedKind
+stored-each n a name [] h k = tt
+stored-each n a name (r ∷ rs) h k =
+    each-append StoredSound (cond (storedKind (r .kind)) (this ∷ []) []) (storedIn (cond (storedKind (r .kind)) (suc n) n) under rs)
+    (here (storedKind (r .kind)) refl)
+    (stored-each (cond (storedKind (r .kind)) (suc n) n) (r .kind) under rs (and-right (f && b && o) m h) (λ l. goes (eqb (r .kind) 1) refl))
+  where
+    this : Stored
+    this = record { number = n; name = name; kind = r .kind; table = tableIn (r .body) (entriesOf (r .body)) }
+
+    under : List ℕ
+    under = cond (eqb (r .kind) 1) (r .body) name
+
+    f : Bool
+    f = follows a (r .kind)
+
+    b : Bool
+    b = soundBody r
+
+    o : Bool
+    o = not (eqb (r .kind) 1) || rises name (r .body)
+
+    m : Bool
+    m = soundRecords (r .kind) under rs
+
+    front : f && b ≡ true
+    front = and-left (f && b) o (and-left (f && b && o) m h)
+
+    other : eqb (r .kind) 1 ≡ false → soundName name ≡ true
+    other q = k (follows-other a (r .kind) (and-left f b front) q)
+
+    no-name : storedKind (r .kind) ≡ true → eqb (r .kind) 1 ≡ false
+    no-name q = ne-eqb (r .kind) 1 (λ e. omega (arith, within-from 2 4 (r .kind) q))
+
+    here : (t : Bool) → storedKind (r .kind) ≡ t → Each StoredSound (cond t (this ∷ []) [])
+    here true q = (stored-sound r n name (other (no-name q)) (and-right f b front) q, tt)
+    here false q = tt
+
+    goes : (t : Bool) → eqb (r .kind) 1 ≡ t → soundName (cond t (r .body) name) ≡ true
+    goes true q = name-sound r (and-right f b front) q
+    goes false q = other q
+
+sound-parts : (book : List ℕ) → sound book ≡ true →
+    (length book ≤ bookMost) × (filled (recordsOf book) ≡ true) × (length (stored book) ≤ storedMost)
+unfolding sound
+sound-parts book h =
+    let a = leb (length book) bookMost in
+    let b = filled (recordsOf book) in
+    let c = leb (length (stored book)) storedMost in
+    let front = and-left (a && b) c h in
+    (leb-true (length book) bookMost (and-left a b front), and-right a b front, leb-true (length (stored book)) storedMost (and-right (a && b) c h))
+
+pub sound-length : (book : List ℕ) → sound book ≡ true → length book ≤ bookMost
+sound-length book h = sound-parts book h .0
+
+pub sound-most : (book : List ℕ) → sound book ≡ true → length (stored book) ≤ storedMost
+sound-most book h = sound-parts book h .2
+
+pub sound-stored : (book : List ℕ) → sound book ≡ true → Each StoredSound (stored book)
+unfolding stored storedOf filled
+sound-stored book h = at (recordsOf book) (sound-parts book h .1)
+  where
+    at : (o : Option (List Record)) → filled o ≡ true → Each StoredSound (storedOf o)
+    at none k = tt
+    at (some rs) k = stored-each 0 0 [] rs k (λ l. absurd (not-suc-le-zero l))
+
+-- texts are numbered from 0 in book order
+storedIn-number : (n i : ℕ) (name : List ℕ) (rs : List Record) → i < length (storedIn n name rs) → getD (storedIn n name rs) i noText .number ≡ n + i
+unfolding storedIn
+storedIn-number n i name [] h = absurd (not-suc-le-zero h)
+storedIn-number n i name (r ∷ rs) h = at (storedKind (r .kind)) i h (λ m j l. storedIn-number m j under rs l)
+  where
+    this : Stored
+    this = record { number = n; name = name; kind = r .kind; table = tableIn (r .body) (entriesOf (r .body)) }
+
+    under : List ℕ
+    under = cond (eqb (r .kind) 1) (r .body) name
+
+    at : (t : Bool) (i : ℕ) → i < length (cond t (this ∷ []) [] ++ storedIn (cond t (suc n) n) under rs) →
+        ((m j : ℕ) → j < length (storedIn m under rs) → getD (storedIn m under rs) j noText .number ≡ m + j) →
+        getD (cond t (this ∷ []) [] ++ storedIn (cond t (suc n) n) under rs) i noText .number ≡ n + i
+    at true zero l go = omega arith
+    at true (suc i) l go = omega (arith, go (suc n) i (le-of-suc-le-suc l))
+    at false i l go = go n i l
+
+pub stored-number : (book : List ℕ) (k : ℕ) → k < length (stored book) → getD (stored book) k noText .number ≡ k
+unfolding stored storedOf
+stored-number book k h = at (recordsOf book) h
+  where
+    at : (o : Option (List Record)) → k < length (storedOf o) → getD (storedOf o) k noText .number ≡ k
+    at none l = absurd (not-suc-le-zero l)
+    at (some rs) l = omega (arith, storedIn-number 0 k [] rs l)
+
+-- ---- what is too large to compute: any book over its size, and any with a text too many, is unsound
+pub book-too-long : (book : List ℕ) → bookMost < length book → sound book ≡ false
+unfolding sound
+book-too-long book h = simp (lt-leb (length book) bookMost h)
+
+pub too-many-texts : (book : List ℕ) → storedMost < length (stored book) → sound book ≡ false
+unfolding sound
+too-many-texts book h = and-not (leb (length book) bookMost && filled (recordsOf book)) _ (lt-leb (length (stored book)) storedMost h)

@@ -1,0 +1,199 @@
+-- The book: its records, when it is sound, its stored texts; and the table body that compile writes.
+-- Assumes nothing.
+use Prim.Native.Nat.{ℕ, zero, suc, _+_, _-_, _*_, _/_, _%_}
+use mathlib.Core.Bool.{Bool, true, false, not, _&&_, _||_, cond}
+use mathlib.Core.List.{List, [], _∷_, _++_}
+use mathlib.Core.Option.{Option, none, some}
+use lib.Dec.{leb, ltb, eqb}
+use lib.ListN.{length, take, drop}
+use Rattle.rules.specs.Sizes.{bookMost, storedMost, totalMost, nameMost}
+use Rattle.rules.specs.Bytes.{within, lower, digit, every, rises, split}
+use Rattle.rules.specs.Prefix.{Counted}
+use Rattle.rules.specs.Table.{Table, viewTable}
+use Rattle.rules.specs.Lines.{lines}
+use Rattle.rules.specs.Search.{Stored, recurse}
+
+-- ---- numbers, little-endian
+-- the number in the first n bytes of s
+unfoldable pub number : ℕ → List ℕ → ℕ
+number zero s = 0
+number (suc n) [] = 0
+number (suc n) (x ∷ xs) = x + 256 * number n xs
+
+-- x in n bytes
+unfoldable pub written : ℕ → ℕ → List ℕ
+written zero x = []
+written (suc n) x = x % 256 ∷ written n (x / 256)
+
+-- ---- pieces: a head of fixed size, which holds at a fixed place the u32 length of the body that follows it
+pub record Form : Type 0 where
+  pub head : ℕ
+  pub place : ℕ
+
+pub record Piece : Type 0 where
+  pub head : List ℕ
+  pub body : List ℕ
+
+-- what stands at the front of s: nothing, a piece and what follows it, or a piece that breaks off
+pub data Front : Type 0 where
+  end : Front
+  whole : Piece → List ℕ → Front
+  broken : Front
+
+unfoldable pub front : Form → List ℕ → Front
+front f [] = end
+front f (x ∷ xs) =
+    let s = x ∷ xs in
+    let n = number 4 (drop (f .place) s) in
+    let piece : Piece = record { head = take (f .head) s; body = take n (drop (f .head) s) } in
+    cond (leb (f .head + n) (length s)) (whole piece (drop (f .head + n) s)) broken
+
+unfoldable pub also : {A : Type 0} → A → Option (List A) → Option (List A)
+also a none = none
+also a (some more) = some (a ∷ more)
+
+-- the pieces that fill s exactly, each as `read` reads it; none where they do not
+unfoldable pub goOn : {A : Type 0} → (Piece → A) → (List ℕ → Option (List A)) → Front → Option (List A)
+goOn read go end = some []
+goOn read go (whole p more) = also (read p) (go more)
+goOn read go broken = none
+
+unfoldable pub pieces : {A : Type 0} → Form → (Piece → A) → List ℕ → Option (List A)
+pieces f read s = recurse length (λ t. none) (λ go t. goOn read go (front f t)) s
+
+-- ---- records: u32 body length, u16 kind, body
+pub record Record : Type 0 where
+  pub kind : ℕ
+  pub body : List ℕ
+
+abbrev pub recordForm : Form
+recordForm = record { head = 6; place = 0 }
+
+unfoldable pub recordOf : Piece → Record
+recordOf p = record { kind = number 2 (drop 4 (p .head)); body = p .body }
+
+unfoldable pub recordsOf : List ℕ → Option (List Record)
+recordsOf book = pieces recordForm recordOf book
+
+-- a reader holds its place, and there it finds the end, a record (its kind, its body's start and length), or a broken one
+pub data At : Type 0 where
+  end : At
+  whole : ℕ → ℕ → ℕ → At
+  broken : At
+
+unfoldable pub placed : ℕ → Front → At
+placed place end = end
+placed place (whole p more) = whole (recordOf p .kind) (place + 6) (length (p .body))
+placed place broken = broken
+
+unfoldable pub recordAt : List ℕ → ℕ → At
+recordAt book place = placed place (front recordForm (drop place book))
+
+-- the place after it
+unfoldable pub nextPlace : ℕ → At → ℕ
+nextPlace place end = place
+nextPlace place (whole kind start len) = start + len
+nextPlace place broken = place
+
+-- ---- table bodies: u32 total, u32 distinct, then entries (u32 count, u32 length, bytes)
+abbrev pub entryForm : Form
+entryForm = record { head = 8; place = 4 }
+
+unfoldable pub entryOf : Piece → Counted
+entryOf p = record { bytes = p .body; count = number 4 (p .head) }
+
+unfoldable pub entriesOf : List ℕ → Option (List Counted)
+entriesOf body = pieces entryForm entryOf (drop 8 body)
+
+unfoldable pub sum : List Counted → ℕ
+sum [] = 0
+sum (e ∷ es) = e .count + sum es
+
+-- a non-empty run of a-z, 0-9, `_`
+unfoldable pub term : List ℕ → Bool
+term w = ltb 0 (length w) && every (λ x. lower x || digit x || eqb x 95) w
+
+-- two of these with one space between
+unfoldable pub twoTerms : List (List ℕ) → Bool
+twoTerms [] = false
+twoTerms (a ∷ []) = false
+twoTerms (a ∷ b ∷ []) = term a && term b
+twoTerms (a ∷ b ∷ c ∷ ws) = false
+
+-- counts from 1, two terms each, strictly rising by bytes over the entry before
+unfoldable pub soundEntries : List ℕ → List Counted → Bool
+soundEntries last [] = true
+soundEntries last (e ∷ es) =
+    let more = soundEntries (e .bytes) es in
+    ltb 0 (e .count) && twoTerms (split 32 (e .bytes)) && rises last (e .bytes) && more
+
+-- counts sum to total, which is limited
+unfoldable pub soundTable : List ℕ → Option (List Counted) → Bool
+soundTable body none = false
+soundTable body (some es) =
+    leb 8 (length body) &&
+    eqb (number 4 body) (sum es) &&
+    eqb (number 4 (drop 4 body)) (length es) &&
+    soundEntries [] es &&
+    leb (sum es) totalMost
+
+-- ---- soundness
+-- 1 to 64 bytes of 33 to 126: of a name, and of an alias
+unfoldable pub soundName : List ℕ → Bool
+soundName n = within 1 nameMost (length n) && every (within 33 126) n
+
+-- original, alternate and header are stored texts
+unfoldable pub storedKind : ℕ → Bool
+storedKind k = within 2 4 k
+
+unfoldable pub soundBody : Record → Bool
+soundBody r = cond (storedKind (r .kind)) (soundTable (r .body) (entriesOf (r .body))) (soundName (r .body))
+
+-- kind b may stand after kind a, which is 0 at the start: per licence one 1, one 2, any 3, any 4, any 5, in this order
+unfoldable pub follows : ℕ → ℕ → Bool
+follows a b = cond (eqb b 1) (not (eqb a 1)) (cond (eqb b 2) (eqb a 1) (within 3 5 b && within 2 b a))
+
+-- after a record of kind a, under the licence `name`; names strictly rise by bytes
+unfoldable pub soundRecords : ℕ → List ℕ → List Record → Bool
+soundRecords a name [] = not (eqb a 1)
+soundRecords a name (r ∷ rs) =
+    let first = eqb (r .kind) 1 in
+    let more = soundRecords (r .kind) (cond first (r .body) name) rs in
+    follows a (r .kind) && soundBody r && (not first || rises name (r .body)) && more
+
+-- ---- stored texts, numbered from n, under the licence `name`
+unfoldable pub tableIn : List ℕ → Option (List Counted) → Table
+tableIn body none = record { total = 0; entries = [] }
+tableIn body (some es) = record { total = number 4 body; entries = es }
+
+unfoldable pub storedIn : ℕ → List ℕ → List Record → List Stored
+storedIn n name [] = []
+storedIn n name (r ∷ rs) =
+    let this : Stored = record { number = n; name = name; kind = r .kind; table = tableIn (r .body) (entriesOf (r .body)) } in
+    let under = cond (eqb (r .kind) 1) (r .body) name in
+    cond (storedKind (r .kind)) (this ∷ []) [] ++ storedIn (cond (storedKind (r .kind)) (suc n) n) under rs
+
+unfoldable pub storedOf : Option (List Record) → List Stored
+storedOf none = []
+storedOf (some rs) = storedIn 0 [] rs
+
+unfoldable pub stored : List ℕ → List Stored
+stored book = storedOf (recordsOf book)
+
+unfoldable pub filled : Option (List Record) → Bool
+filled none = false
+filled (some rs) = soundRecords 0 [] rs
+
+unfoldable pub sound : List ℕ → Bool
+sound book = leb (length book) bookMost && filled (recordsOf book) && leb (length (stored book)) storedMost
+
+-- ---- compile: the table body of a text
+unfoldable pub entriesOut : List Counted → List ℕ
+entriesOut [] = []
+entriesOut (e ∷ es) = written 4 (e .count) ++ written 4 (length (e .bytes)) ++ e .bytes ++ entriesOut es
+
+unfoldable pub tableOut : Table → List ℕ
+tableOut t = written 4 (t .total) ++ written 4 (length (t .entries)) ++ entriesOut (t .entries)
+
+unfoldable pub compiled : List ℕ → List ℕ
+compiled t = tableOut (viewTable (lines t))

@@ -1,0 +1,30 @@
+-- The class of a byte, for all passes: a constant table of 256 entries gives it. The numbers are chosen so that what a pass drops, keeps
+-- or joins into one byte is a range of classes. By the byte itself are tested only 32 (the spaces before A's `copyright`, and between
+-- words), `c` (C's item), and the letters of the words that are looked for.
+-- Assumes nothing.
+use Prim.Native.Nat.{ℕ}
+use mathlib.Core.Bool.{cond}
+use lib.Dec.{leb, eqb}
+use Rattle.rules.specs.Bytes.{text, within, among, newline, space, upper, lower, digit, dropped}
+
+-- punctuation
+unfoldable pub signOf : ℕ → ℕ
+signOf x =
+    cond (eqb x 95) 11  -- `_`
+    (cond (among (text "\"'") x) 12
+    (cond (eqb x 45) 13  -- `-`
+    (cond (among (text "([{") x) 14
+    (cond (among (text ")]}") x) 15 16))))
+
+unfoldable pub classOf : ℕ → ℕ
+classOf x =
+    cond (leb 128 x) 0  -- refused
+    (cond (eqb x 124) 2  -- `|`, dropped
+    (cond (dropped x) 1
+    (cond (among (text "/\\") x) 3
+    (cond (eqb x 52) 4  -- the digit 4
+    (cond (among (text "\t ") x) 5
+    (cond (newline x) 6
+    (cond (space x) 7
+    (cond (digit x) 8
+    (cond (lower x) 9 (cond (upper x) 10 (signOf x)))))))))))

@@ -1,0 +1,14 @@
+-- Document 01 as definitions, in its order: what a reader must believe.
+pub mod Sizes
+pub mod Bytes
+pub mod Class
+pub mod Lines
+pub mod Prefix
+pub mod Passes
+pub mod Table
+pub mod Search
+pub mod Scan
+pub mod Count
+pub mod Book
+pub mod Refusal
+pub mod Jobs

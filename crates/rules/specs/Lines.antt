@@ -1,0 +1,51 @@
+-- Line passes, on each piece between newline bytes.
+-- Assumes nothing.
+use Prim.Native.Nat.{ℕ}
+use mathlib.Core.Bool.{Bool, false, not, _&&_, _||_, cond}
+use mathlib.Core.List.{List, [], _∷_, _++_, map}
+use lib.ListN.{length, drop}
+use Rattle.rules.specs.Bytes.{text, space, dropped, among, solid, starts, keep, runs, trim, split}
+
+-- 3. `http://` or `https://`, in lower case, with its following run of one or more non-spaces
+unfoldable pub url : List ℕ → Bool
+url s = (starts (text "http://") s && solid (drop 7 s)) || (starts (text "https://") s && solid (drop 8 s))
+
+-- `inside`: the bytes up to the next space belong to a URL that is written already
+unfoldable pub urls : Bool → List ℕ → List ℕ
+urls inside [] = []
+urls inside (x ∷ xs) =
+    let gone = inside && not (space x) in
+    cond gone [] (cond (url (x ∷ xs)) (text "http://blackboxed/url") (x ∷ [])) ++ urls (gone || url (x ∷ xs)) xs
+
+-- 4. byte 32, tab, `\`, `/`, `|` or the digit 4
+unfoldable pub gap : ℕ → Bool
+gap x = among (text " \t\\/|4") x
+
+-- 5. five kinds of runs, in order
+unfoldable pub signs : List ℕ → List ℕ
+signs s =
+    let quotes = runs (among (text "\"'")) 39 false s in
+    let dashes = runs (among (text "-")) 45 false quotes in
+    let opens = runs (among (text "([{")) 40 false dashes in
+    let closes = runs (among (text ")]}")) 41 false opens in
+    runs (among (text "_")) 95 false closes
+
+-- the passes over one line, where pass 4 takes the bytes of `set`
+unfoldable pub lineBy : (ℕ → Bool) → List ℕ → List ℕ
+lineBy set s =
+    let one = s in  -- 1. NFC: nothing on ASCII
+    let two = keep (λ x. not (dropped x)) one in
+    let three = urls false two in
+    let four = runs set 32 false three in
+    let five = signs four in
+    trim five
+
+unfoldable pub line : List ℕ → List ℕ
+line s = lineBy gap s
+
+unfoldable pub lines : List ℕ → List (List ℕ)
+lines t = map line (split 10 t)
+
+-- L
+unfoldable pub lineCount : List ℕ → ℕ
+lineCount t = length (split 10 t)

@@ -1,0 +1,98 @@
+-- What is refused, first that applies: one ordered list for each public job.
+-- Assumes nothing.
+use Prim.Native.Nat.{ℕ, _+_, _*_}
+use mathlib.Core.Bool.{Bool, true, false, not, _&&_, _||_, cond}
+use mathlib.Core.List.{List, [], _∷_, _++_}
+use lib.Dec.{leb, ltb, eqb}
+use lib.ListN.{length}
+use lib.Ieee.{Float, le}
+use Rattle.rules.specs.declared.Limits.{Limits}
+use Rattle.rules.specs.declared.Mode.{Mode}
+use Rattle.rules.specs.declared.Mode.the-variants.{Elimination, TopDown}
+use Rattle.rules.specs.Sizes.{textMost, linesMost, byteArea, wordArea, recordWidth}
+use Rattle.rules.specs.Bytes.{every}
+use Rattle.rules.specs.Lines.{lines, lineCount}
+use Rattle.rules.specs.Table.{nought, one}
+use Rattle.rules.specs.Search.{View}
+use Rattle.rules.specs.Book.{sound, stored, compiled}
+use Rattle.rules.specs.Scan.{events, scorings}
+
+pub record Row : Type 0 where
+  pub number : ℕ
+  pub applies : Bool
+
+abbrev pub row : ℕ → Bool → Row
+row n b = record { number = n; applies = b }
+
+-- the number of the first row that applies, and 0 for none
+unfoldable pub refusal : List Row → ℕ
+refusal [] = 0
+refusal (r ∷ rs) = let more = refusal rs in cond (r .applies) (r .number) more
+
+-- ---- the rows that several jobs share
+unfoldable pub ofText : List ℕ → List Row
+ofText t =
+    row 1 (ltb textMost (length t)) ∷
+    row 2 (not (every (λ x. ltb x 128) t)) ∷
+    row 3 (ltb linesMost (lineCount t)) ∷ []
+
+unfoldable pub ofBook : List ℕ → List Row
+ofBook book =
+    row 4 (not (sound book)) ∷
+    row 5 (eqb (length (stored book)) 0) ∷ []
+
+-- the lengths of the two lent work areas, in bytes and in u32
+pub record Areas : Type 0 where
+  pub bytes : ℕ
+  pub words : ℕ
+
+unfoldable pub small : List ℕ → Areas → Bool
+small t a = ltb (a .bytes) (byteArea (length t)) || ltb (a .words) (wordArea (length t))
+
+-- ---- check a book
+unfoldable pub ofCheck : List ℕ → List Row
+ofCheck book = row 4 (not (sound book)) ∷ []
+
+-- ---- compile, to an output of so many bytes: first what is refused before any work
+unfoldable pub beforeCompile : List ℕ → Areas → List Row
+beforeCompile t a = ofText t ++ row 10 (small t a) ∷ []
+
+unfoldable pub ofCompile : List ℕ → Areas → ℕ → List Row
+ofCompile t a out = beforeCompile t a ++ row 11 (ltb out (length (compiled t))) ∷ []
+
+-- ---- score, and bounds, of a view against the stored text k
+unfoldable pub ofView : List ℕ → List ℕ → View → ℕ → Areas → List Row
+ofView t book v k a =
+    ofText t ++ ofBook book ++
+    row 8 (not (leb (v .start) (v .end) && leb (v .end) (lineCount t))) ∷
+    row 9 (leb (length (stored book)) k) ∷
+    row 10 (small t a) ∷ []
+
+-- ---- scan
+-- from 0.0 to 1.0: a NaN is not, and -0.0, which equals 0.0, is
+unfoldable pub unit : Float → Bool
+unit x = le nought x && le x one
+
+unfoldable pub stepZero : Mode → Bool
+stepZero (Elimination optimize p) = false
+stepZero (TopDown s) = eqb s 0
+
+-- the results area that a scan of L lines needs
+unfoldable pub resultsNeed : ℕ → Mode → ℕ
+resultsNeed l (Elimination optimize p) = cond optimize (recordWidth * p) 0
+resultsNeed l (TopDown s) = recordWidth * l
+
+unfoldable pub overBudget : ℕ → Limits → Mode → List ℕ → List ℕ → Bool
+overBudget b lim mode t book = ltb b (length (scorings (events lim mode (stored book) (lines t))))
+
+-- with results of so many u32: what is refused before any work
+unfoldable pub beforeScan : List ℕ → List ℕ → Limits → Mode → Areas → ℕ → List Row
+beforeScan t book lim mode a results =
+    ofText t ++ ofBook book ++
+    row 6 (not (unit (lim .threshold) && unit (lim .shallow))) ∷
+    row 7 (stepZero mode) ∷
+    row 10 (small t a || ltb results (resultsNeed (lineCount t) mode)) ∷ []
+
+-- with a budget of b scorings
+unfoldable pub ofScan : List ℕ → List ℕ → Limits → Mode → ℕ → Areas → ℕ → List Row
+ofScan t book lim mode b a results = beforeScan t book lim mode a results ++ row 12 (overBudget b lim mode t book) ∷ []

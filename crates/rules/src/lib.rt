@@ -1,0 +1,80 @@
+// The types that the definitions in specs/ and the code share: a scan's settings, what a scoring, a search and bounds yield, and the five answers.
+// From detection/scan.rs of spdx 0.13.6 (Copyright 2018 Amazon.com, Inc. or its affiliates. All Rights Reserved.
+// SPDX-License-Identifier: Apache-2.0), changed. Assumes nothing.
+
+// The two limits of a scan. They travel together, by value.
+pub struct Limits {
+    pub threshold: f32,
+    pub shallow: f32,
+}
+
+// How to scan: elimination, with optimize or not and at most so many passes; or top-down, with its step.
+pub enum Mode {
+    Elimination(bool, u16),
+    TopDown(u64),
+}
+
+// What a scoring yields: the score, m and t.
+pub struct Value {
+    pub score: f32,
+    pub m: u32,
+    pub t: u32,
+}
+
+// The lines from `start` up to `end`, which is not among them.
+pub struct View {
+    pub start: usize,
+    pub end: usize,
+}
+
+// An index that a search scored, and what it found there.
+pub struct Index {
+    pub at: usize,
+    pub value: Value,
+}
+
+// A range of lines, from `first` up to `after`, and what it scores.
+pub struct Bounds {
+    pub first: usize,
+    pub after: usize,
+    pub value: Value,
+}
+
+// The answer to `check a book`. A refusal is document 01's number in every answer, and 0 is none.
+pub struct Checked {
+    pub refusal: u32,
+    pub texts: u32,
+}
+
+// The answer to `compile a text`: the length of its table body.
+pub struct Compiled {
+    pub refusal: u32,
+    pub len: usize,
+}
+
+// The answer to `score a view`.
+pub struct Scored {
+    pub refusal: u32,
+    pub score: f32,
+}
+
+// The answer to `find bounds`: first line, line after last, score, and the count of scorings.
+pub struct Bounded {
+    pub refusal: u32,
+    pub first: u32,
+    pub after: u32,
+    pub score: f32,
+    pub count: u64,
+}
+
+// The answer to `scan`: the licence's name, zero-filled, and its length; the kind that won, 0 where none is named;
+// the overall score, the count of scorings and the number of records.
+pub struct Scanned {
+    pub refusal: u32,
+    pub name: [u8; 64],
+    pub len: u32,
+    pub kind: u32,
+    pub score: f32,
+    pub count: u64,
+    pub records: u32,
+}
