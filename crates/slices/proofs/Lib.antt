@@ -1,0 +1,4 @@
+pub mod LeadLaws
+pub mod EndLaws
+pub mod TwoLaws
+pub mod KindLaws

@@ -1,0 +1,3 @@
+-- What the reading leaves answer, over the definitions of `rules`.
+pub mod Classes
+pub mod Ends
