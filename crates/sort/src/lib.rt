@@ -1,0 +1,221 @@
+// Parts of a text, sorted in a lent slice of their starts. A part is named by where it starts: it ends at the c-th byte `mark` from
+// there, or at the text's end. Bigrams are parts with (32, 2) of a processed text, common prefixes parts with (10, 1) of a list of lines.
+// The sort is a stable merge sort, equal to `msorted` of specs/. Assumes nothing of the starts: one past the end is an empty part.
+ghost use mathlib.Core.Path.{_≡_};
+ghost use mathlib.Core.Bool.{true, false};
+ghost use Prim.Native.Nat.{_+_, _≤_, _<_};
+ghost use lib.ListN.{length, take, drop, set};
+ghost use lib.Seq.{slice, paste};
+ghost use Rattle.rules.specs.Table.{tallied};
+ghost use Rattle.sort.specs.Group.{groups, Grouped, entriesAt, partsAt};
+ghost use Rattle.sort.specs.Sort.{endsPart, marksLeft, partOf, partLater, rightNext, merged, msorted};
+
+// Whether x ends a part, with `left` marks left.
+pub fn ends_part(x: u8, mark: u8, left: usize) -> bool
+    ensures { λ r. ⌜ r ≡ endsPart mark left x ⌝ }
+{
+    if x == mark {
+        return left < 2;
+    }
+    false
+}
+
+// Whether the part that starts at a comes after the one that starts at b.
+pub fn part_after(text: &[u8], a: usize, b: usize, mark: u8, c: usize) -> bool
+    ensures { λ r. ⌜ r ≡ partLater mark c (now (text .entry)) a b ⌝ }
+{
+    let mut i = a;
+    let mut j = b;
+    let mut left = c;
+    while i < text.len() {
+        let x = text[i];
+        if ends_part(x, mark, left) {
+            return false;
+        }
+        if text.len() <= j {
+            return true;
+        }
+        let y = text[j];
+        if y != x {
+            if ends_part(y, mark, left) {
+                return true;
+            }
+            return y < x;
+        }
+        left = marks_left(left, x, mark);
+        i = i + 1;
+        j = j + 1;
+    }
+    false
+}
+
+// One mark less where x is one.
+pub fn marks_left(left: usize, x: u8, mark: u8) -> usize
+    ensures { λ r. ⌜ r ≡ marksLeft mark left x ⌝ }
+{
+    if x == mark {
+        if left < 1 {
+            return 0;
+        }
+        return left - 1;
+    }
+    left
+}
+
+// Where the part that starts at a ends.
+pub fn part_end(text: &[u8], a: usize, mark: u8, c: usize) -> usize
+    ensures { λ r. ⌜ r ≡ a + length (partOf mark c (drop a (now (text .entry)))) ⌝ }
+{
+    let mut i = a;
+    let mut left = c;
+    while i < text.len() {
+        let x = text[i];
+        if ends_part(x, mark, left) {
+            return i;
+        }
+        left = marks_left(left, x, mark);
+        i = i + 1;
+    }
+    i
+}
+
+// A start as an index.
+pub fn wide(x: u32) -> usize
+    ensures { λ r. ⌜ r ≡ x ⌝ }
+{
+    x as usize
+}
+
+// Whether the next element is the one at j, of [j, n), and not the one at i, of [i, m).
+pub fn takes_right(
+    text: &[u8],
+    p: &[u32],
+    i: usize,
+    m: usize,
+    j: usize,
+    n: usize,
+    mark: u8,
+    c: usize,
+) -> bool
+    requires { ⌜ (i ≤ m) × (m ≤ n) × (j ≤ n) × (n ≤ length (now p)) × (i + j < m + n) ⌝ }
+    ensures next { λ r. ⌜ r ≡ rightNext (partLater mark c (now (text .entry))) (slice i m (now (p .entry))) (slice j n (now (p .entry))) ⌝ }
+    ensures right { λ r. ⌜ (r ≡ true → j < n) ⌝ }
+    ensures left { λ r. ⌜ (r ≡ false → i < m) ⌝ }
+{
+    if i < m {
+        if j < n {
+            let a = wide(p[i]);
+            let b = wide(p[j]);
+            part_after(text, a, b, mark, c)
+        } else {
+            false
+        }
+    } else {
+        true
+    }
+}
+
+// The runs [k, k+h) and [k+h, 2k) of p are merged to [0, k).
+pub fn merge(text: &[u8], p: &mut [u32], k: usize, h: usize, mark: u8, c: usize)
+    requires { ⌜ (k + k ≤ length (now p)) × (h ≤ k) ⌝ }
+    ensures front { λ _. ⌜ take k (now (p .exit)) ≡ merged (partLater mark c (now (text .entry))) k (slice k (k + h) (now (p .entry))) (slice (k + h) (k + k) (now (p .entry))) ⌝ }
+    ensures back { λ _. ⌜ drop k (now (p .exit)) ≡ drop k (now (p .entry)) ⌝ }
+{
+    let m = k + h;
+    let n = k + k;
+    let mut i = k;
+    let mut j = m;
+    let mut w = 0;
+    while w < k {
+        if takes_right(text, p, i, m, j, n, mark, c) {
+            p[w] = p[j];
+            j = j + 1;
+            w = w + 1;
+        } else {
+            p[w] = p[i];
+            i = i + 1;
+            w = w + 1;
+        }
+    }
+}
+
+// k numbers from `from` to `to`, which lies past them.
+pub fn copy_nums(p: &mut [u32], from: usize, k: usize, to: usize)
+    requires { ⌜ (from + k ≤ to) × (to + k ≤ length (now p)) ⌝ }
+    ensures { λ _. ⌜ now (p .exit) ≡ paste (now (p .entry)) to (drop from (now (p .entry))) k ⌝ }
+{
+    let mut i = 0;
+    while i < k {
+        p[to + i] = p[from + i];
+        i = i + 1;
+    }
+}
+
+// The first k of p are sorted; p has 2k, and the later k are scratch.
+pub fn sort_parts(text: &[u8], p: &mut [u32], k: usize, mark: u8, c: usize)
+    requires { ⌜ k + k ≤ length (now p) ⌝ }
+    ensures sorted { λ _. ⌜ take k (now (p .exit)) ≡ msorted (partLater mark c (now (text .entry))) k (take k (now (p .entry))) ⌝ }
+    ensures rest { λ _. ⌜ drop (k + k) (now (p .exit)) ≡ drop (k + k) (now (p .entry)) ⌝ }
+{
+    if k < 2 {
+        return;
+    }
+    let h = k / 2;
+    let r = k - h;
+    let e = h + r + r;
+    sort_parts(text, &mut p[h..e], r, mark, c);
+    copy_nums(p, h, r, k + h);
+    let f = h + h;
+    sort_parts(text, &mut p[0..f], h, mark, c);
+    copy_nums(p, 0, h, k);
+    merge(text, p, k, h, mark, c);
+}
+
+// Group d: its first part's start at d, its count at k + d.
+fn put_group(p: &mut [u32], k: usize, d: usize, start: u32, count: u32)
+    requires { ⌜ (d < k) × (k + k ≤ length (now p)) ⌝ }
+    ensures { λ _. ⌜ now (p .exit) ≡ set (set (now (p .entry)) d start) (k + d) count ⌝ }
+{
+    p[d] = start;
+    p[k + d] = count;
+}
+
+// Equal neighbours among the first k of p become one: the first of each at [0, d), how many at [k, k + d); d comes back.
+pub fn group_parts(text: &[u8], p: &mut [u32], k: usize, mark: u8, c: usize) -> usize
+    requires { ⌜ (k + k ≤ length (now p)) × (k < 4294967296) ⌝ }
+    ensures groups { λ r. ⌜ Grouped (groups (partLater mark c (now (text .entry))) (take k (now (p .entry)))) k r (now (p .exit)) ⌝ }
+    ensures rest { λ _. ⌜ drop (k + k) (now (p .exit)) ≡ drop (k + k) (now (p .entry)) ⌝ }
+{
+    if k == 0 {
+        return 0;
+    }
+    let mut start = p[0];
+    let mut count = 1;
+    let mut d = 0;
+    let mut i = 1;
+    while i < k {
+        let x = p[i];
+        i = i + 1;
+        if part_after(text, wide(x), wide(start), mark, c) {
+            put_group(p, k, d, start, count);
+            d = d + 1;
+            start = x;
+            count = 1;
+        } else {
+            count = count + 1;
+        }
+    }
+    put_group(p, k, d, start, count);
+    d + 1
+}
+
+// The first k of p, sorted and grouped: the d distinct parts with their counts, as `group_parts` leaves them; d comes back.
+pub fn tally_parts(text: &[u8], p: &mut [u32], k: usize, mark: u8, c: usize) -> usize
+    requires { ⌜ (k + k ≤ length (now p)) × (k < 4294967296) ⌝ }
+    ensures table { λ r. ⌜ entriesAt mark c (now (text .entry)) (now (p .exit)) k r ≡ tallied (partsAt mark c (now (text .entry)) (take k (now (p .entry)))) ⌝ }
+    ensures few { λ r. ⌜ r ≤ k ⌝ }
+    ensures rest { λ _. ⌜ drop (k + k) (now (p .exit)) ≡ drop (k + k) (now (p .entry)) ⌝ }
+{
+    sort_parts(text, p, k, mark, c);
+    group_parts(text, p, k, mark, c)
+}
