@@ -1,0 +1,6 @@
+pub mod CountLaws
+pub mod PassLaws
+pub mod UrlLaws
+pub mod LineLaws
+pub mod EntryLaws
+pub mod WholeLaws

@@ -1,0 +1,6 @@
+-- What the line passes answer, over the definitions of `rules`.
+pub mod Counts
+pub mod Capped
+pub mod Placed
+pub mod Entries
+pub mod Normalised

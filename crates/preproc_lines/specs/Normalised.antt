@@ -1,0 +1,14 @@
+-- A text's lines in the byte area, by the line table.
+-- Assumes nothing.
+use mathlib.Core.Path.{_≡_}
+use mathlib.Core.List.{List}
+use Prim.Native.Nat.{ℕ, _*_}
+use lib.ListN.{length}
+use Rattle.rules.specs.Lines.{lines, lineCount}
+use Rattle.preproc_lines.specs.Entries.{linesAt, Apart}
+
+-- all lines are there, in A = [n, 4n), one byte or more apart
+pub record Normalised (text area table : List ℕ) (r : ℕ) : Type 0 where
+  pub count : r ≡ lineCount text
+  pub lines : linesAt area table r ≡ lines text
+  pub apart : Apart (length text) (4 * length text) table r

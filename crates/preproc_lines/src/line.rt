@@ -1,0 +1,55 @@
+// Line passes 2 to 6 over one line. The line after pass 2 stands in the area's front, which is scratch; the rest is made at its own place.
+// From detection/preproc.rs of spdx 0.13.6 (Copyright 2018-2019 Amazon.com, Inc. or its affiliates. All Rights Reserved.
+// SPDX-License-Identifier: Apache-2.0), changed: its vectors of strings are places in one lent area. Assumes nothing.
+ghost use mathlib.Core.Path.{_≡_};
+ghost use mathlib.Core.Bool.{false};
+ghost use Prim.Native.Nat.{_+_, _*_, _≤_};
+ghost use lib.ListN.{length, take};
+ghost use Rattle.lists.specs.Wrote.{Front};
+ghost use Rattle.rules.specs.Bytes.{runs};
+ghost use Rattle.rules.specs.Lines.{gap, signs};
+ghost use Rattle.slices.specs.Classes.{classTable};
+ghost use Rattle.preproc_lines.specs.Placed.{Filled, Placed};
+use crate::passes::drop_into;
+use crate::passes::join_runs;
+use crate::urls::blackbox_urls;
+use slices::ends::Span;
+use slices::ends::bare;
+
+// Line passes 4 and 5, in place, on the first n: six walks.
+pub fn join_signs(class: &[u8; 256], buf: &mut [u8], n: usize) -> usize
+    requires { ⌜ (now class ≡ classTable) × (n ≤ length (now buf)) ⌝ }
+    ensures { λ r. ⌜ Front (signs (runs gap 32 false (take n (now (buf .entry))))) r (now (buf .exit)) ⌝ }
+{
+    let n4 = join_runs(class, 2, 5, 32, buf, n);
+    let quotes = join_runs(class, 12, 12, 39, buf, n4);
+    let dashes = join_runs(class, 13, 13, 45, buf, quotes);
+    let opens = join_runs(class, 14, 14, 40, buf, dashes);
+    let closes = join_runs(class, 15, 15, 41, buf, opens);
+    join_runs(class, 11, 11, 95, buf, closes)
+}
+
+// Line passes 2 to 5 over src, made from `to` on; answers where that ends. A constant number of walks.
+pub fn fill_line(class: &[u8; 256], src: &[u8], area: &mut [u8], to: usize) -> usize
+    requires { ⌜ (now class ≡ classTable) × (length (now src) ≤ to) × (to + 3 * length (now src) ≤ length (now area)) ⌝ }
+    ensures { λ r. ⌜ Filled (now (src .entry)) (now (area .entry)) to r (now (area .exit)) ⌝ }
+{
+    let n2 = drop_into(class, 1, 2, src, area);
+    let end = blackbox_urls(class, area, n2, to);
+    let n3 = end - to;
+    let n5 = join_signs(class, &mut area[to..], n3);
+    to + n5
+}
+
+// Line passes 2 to 6 over src, made from `to` on; answers where the trimmed line stands.
+pub fn put_line(class: &[u8; 256], src: &[u8], area: &mut [u8], to: usize) -> Span
+    requires { ⌜ (now class ≡ classTable) × (length (now src) ≤ to) × (to + 3 * length (now src) ≤ length (now area)) ⌝ }
+    ensures { λ r. ⌜ Placed (now (src .entry)) (now (area .entry)) to r (now (area .exit)) ⌝ }
+{
+    let end = fill_line(class, src, area, to);
+    let s = bare(class, 5, 7, &area[to..end]);
+    Span {
+        start: to + s.start,
+        end: to + s.end,
+    }
+}
