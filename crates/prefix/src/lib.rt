@@ -1,0 +1,54 @@
+// Aggressive pass 1: which common prefix of a view's lines is stripped.
+// From detection/preproc.rs of spdx 0.13.6 (Copyright 2018-2019 Amazon.com, Inc. or its affiliates. All Rights Reserved.
+// SPDX-License-Identifier: Apache-2.0), changed. Assumes nothing.
+ghost use mathlib.Core.Path.{_≡_};
+ghost use mathlib.Core.Bool.{true};
+ghost use Prim.Native.Nat.{_+_, _*_, _≤_};
+ghost use lib.ListN.{length, take};
+ghost use Rattle.rules.specs.Sizes.{textMost, byteArea, wordArea};
+ghost use Rattle.rules.specs.Search.{viewed};
+ghost use Rattle.slices.specs.Classes.{classTable};
+ghost use Rattle.preproc_lines.specs.Entries.{linesAt, Apart};
+ghost use Rattle.prefix.specs.Listing.{plainLines};
+ghost use Rattle.prefix.specs.Choice.{Strips};
+
+pub mod choice;
+pub mod list;
+
+use crate::choice::Common;
+use crate::choice::choose;
+use crate::choice::home;
+use crate::list::list_prefixes;
+use rules::View;
+
+// What pass 1 strips from the view's lines, as bytes of the lines' region [n, 4n): the list of prefixes at 4n is written over later.
+// n log n in the view's bytes: the sort is, and all else is linear.
+pub fn common_prefix(
+    class: &[u8; 256],
+    area: &mut [u8],
+    table: &mut [u32],
+    n: usize,
+    count: usize,
+    v: View,
+) -> Common
+    requires { ⌜ (now class ≡ classTable) × Apart n (4 * n) (now table) count × (v .start ≤ v .end) × (v .end ≤ count) × (count ≤ n + 1) ⌝ }
+    requires { ⌜ (n ≤ textMost) × (byteArea n ≤ length (now area)) × (wordArea n ≤ length (now table)) ⌝ }
+    requires { ⌜ plainLines (linesAt (now area) (now table) count) ≡ true ⌝ }
+    ensures strips { λ r. ⌜ Strips n (viewed (linesAt (now (area .entry)) (now (table .entry)) count) v) (now (area .exit)) r ⌝ }
+    ensures area { λ r. ⌜ take (4 * n) (now (area .exit)) ≡ take (4 * n) (now (area .entry)) ⌝ }
+    ensures table { λ r. ⌜ take (2 * n + 2) (now (table .exit)) ≡ take (2 * n + 2) (now (table .entry)) ⌝ }
+{
+    let x = list_prefixes(class, area, table, n, count, v);
+    let k = x.k;
+    let end = x.end;
+    if k == 0 {
+        return Common::Nothing;
+    }
+    let lines = v.end - v.start;
+    let found = choose(&area[..end], table, 2 * n + 2, k, lines);
+    let Common::Prefix(start, stop) = found else {
+        return Common::Nothing;
+    };
+    let s = home(class, area, table, n, count, v, start, stop);
+    Common::Prefix(s.start, s.end)
+}
