@@ -1,0 +1,71 @@
+-- The rows of passes before and behind the title, by the table of the classes; and the whole row.
+-- Assumes nothing.
+use mathlib.Core.Path.{_≡_, sym, ap, _∙_}
+use mathlib.Core.Bool.{Bool, true, false, _||_}
+use mathlib.Core.List.{List, map, _++_}
+use Prim.Native.Nat.{ℕ, _+_, _-_, _≤_}
+use native.Mathlib.Omega.{arith}
+use lib.ListN.{length, take, drop, length-append}
+use lib.Seq.{slice, drop-at, length-take-le, take-append-le}
+use Rattle.lists.specs.Wrote.{Front}
+use Rattle.lists.proofs.SliceLaws.{part-slice, part-rest, slice-shift, slice-first}
+use Rattle.rules.specs.Bytes.{within, space, word, keep, runs, trim}
+use Rattle.rules.specs.Passes.{lowered, withoutTitle, withoutCopyright, passes}
+use Rattle.slices.specs.declared.ends.Span.{Span}
+use Rattle.slices.specs.Classes.{inClass, classTable}
+use Rattle.slices.specs.Ends.{Bare}
+use Rattle.slices.proofs.EndLaws.{bare-within, bare-trim}
+use Rattle.slices.proofs.KindLaws.{by-table, space-table, vertical-table, kept-table}
+use Rattle.preproc_lines.specs.Capped.{capped}
+use Rattle.preproc_lines.proofs.PassLaws.{vertical-capped}
+use Rattle.preproc_view.specs.Rows.{Stands, firstPasses, lastPasses}
+
+module _ (t : List ℕ) (e : t ≡ classTable) where
+  pub first-row : (s : List ℕ) → map lowered (keep (inClass t 4 11) (capped (inClass t 6 7) 10 2 0 s)) ≡ firstPasses s
+  unfolding firstPasses
+  first-row s =
+      ap (λ (f : ℕ → Bool). map lowered (keep f (capped (inClass t 6 7) 10 2 0 s))) (by-table 4 11 e kept-table) ∙
+      ap (λ (f : ℕ → Bool). map lowered (keep (λ x. word x || space x) (capped f 10 2 0 s))) (by-table 6 7 e vertical-table) ∙
+      ap (λ (l : List ℕ). map lowered (keep (λ x. word x || space x) l)) (vertical-capped 0 s)
+
+  -- what is bare of the spaces around it, of the first n
+  pub last-row : (s : List ℕ) {d : List ℕ} {n : ℕ} {r : Span} → Front (runs (inClass t 5 7) 32 false (withoutCopyright true true 0 s)) n d →
+      Bare (inClass t 5 7) (take n d) r → Stands (lastPasses s) d r
+  unfolding lastPasses
+  last-row s {d} {n} {r} f b =
+      let k = by-table 5 7 e space-table in
+      let w = bare-within b in
+      let m = length-take-le n d (f .within) in
+      let h : r .end ≤ n = omega arith in
+      let o : take n d ≡ runs space 32 false (withoutCopyright true true 0 s) =
+      f .bytes ∙ ap (λ (p : ℕ → Bool). runs p 32 false (withoutCopyright true true 0 s)) k in
+      record {
+        from = w .0;
+        to = omega arith;
+        bytes = sym (slice-first (r .start) (r .end) n d h) ∙ bare-trim b k ∙ ap trim o;
+      }
+
+-- what stands in a part d that was lent from t on stands there in the whole; e stands behind the part
+pub stands-lent : {out : List ℕ} {r : Span} (t : ℕ) (b d e : List ℕ) → t ≤ length b → Stands out d r →
+    Stands out (take t b ++ (d ++ e)) (record { start = t + r .start; end = t + r .end })
+stands-lent {out} {r} t b d e h p =
+    let k : length (take t b) ≡ t = length-take-le t b h in
+    let q : drop t (take t b ++ (d ++ e)) ≡ d ++ e = drop-at (take t b) (d ++ e) t k in
+    let z : slice (r .start) (r .end) (d ++ e) ≡ slice (r .start) (r .end) d = ap (drop (r .start)) (take-append-le (r .end) d e (p .to)) in
+    record {
+      from = omega (arith, p .from);
+      to = rw (length-append, length-append, k) (omega (arith, p .to));
+      bytes = sym (slice-shift t (r .start) (r .end) (take t b ++ (d ++ e))) ∙ ap (slice (r .start) (r .end)) q ∙ z ∙ p .bytes;
+    }
+
+-- the title's bytes go, and the last passes work behind them, on the part that is lent
+pub whole-row : (s b d e : List ℕ) (m title : ℕ) (r : Span) → Front (firstPasses s) m b → title ≤ length (take m b) →
+    withoutTitle (take m b) ≡ drop title (take m b) →
+    Stands (lastPasses (take (m - title) (take (length b - title) (drop title b)))) d r →
+    Stands (passes s) (take title b ++ (d ++ e)) (record { start = title + r .start; end = title + r .end })
+unfolding passes firstPasses lastPasses
+whole-row s b d e m title r f l t p =
+    let h : title ≤ length b = omega (arith, f .within, length-take-le m b (f .within)) in
+    let i : take (m - title) (take (length b - title) (drop title b)) ≡ withoutTitle (firstPasses s) =
+    rw (part-rest title b) (part-slice title m b ∙ sym t ∙ ap withoutTitle (f .bytes)) in
+    stands-lent title b d e h (rw i at p)

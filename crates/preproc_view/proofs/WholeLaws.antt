@@ -1,0 +1,149 @@
+-- There is room for a view's lines, joined; and the whole of the passes on a view.
+-- Assumes nothing.
+use mathlib.Core.Path.{_≡_, refl, sym, ap, _∙_}
+use mathlib.Core.Bool.{true, false, cond}
+use mathlib.Core.List.{List, [], _∷_, _++_, map}
+use Prim.Native.Nat.{ℕ, zero, suc, _+_, _-_, _*_, _≤_, _<_, zero-le}
+use native.Mathlib.Omega.{arith}
+use lib.ListN.{length, take, drop, getD, length-append, length-take, length-drop}
+use lib.Seq.{slice, take-at, length-take-le, getD-take}
+use Rattle.lists.proofs.SliceLaws.{part-rest, slice-first}
+use Rattle.rules.specs.declared.View.{View}
+use Rattle.rules.specs.Bytes.{starts, join, trim}
+use Rattle.rules.specs.Prefix.{strip, withoutPrefix}
+use Rattle.rules.specs.Passes.{passes, aggressive}
+use Rattle.rules.proofs.BoolLaws.{cond-of}
+use Rattle.rules.proofs.GrowthLaws.{trim-length}
+use Rattle.slices.specs.declared.ends.Span.{Span}
+use Rattle.preproc_lines.specs.Entries.{startAt, endAt, lineAt, linesFrom, Apart}
+use Rattle.preproc_lines.proofs.EntryLaws.{lines-same}
+use Rattle.preproc_view.specs.declared.join.Prefix.{Prefix}
+use Rattle.preproc_view.specs.Joins.{bytesOf, left, viewLines, Below, Joined}
+use Rattle.preproc_view.specs.Rows.{Stands}
+use Rattle.preproc_view.specs.Whole.{viewAt, Ready, Chosen, Processed}
+use Rattle.preproc_view.proofs.RowLaws.{stands-lent}
+
+-- ---- what is left of a line is no longer than the line, and the line no longer than its entry says
+left-short : (area : List ℕ) (p : Prefix) (l : List ℕ) → length (left area p l) ≤ length l
+unfolding left strip
+left-short area p l =
+    let w = bytesOf area p in
+    let c : length (cond (starts w l) (drop (length w) l) l) ≤ length l =
+    cond-of (λ (m : List ℕ). length m ≤ length l) (starts w l) (drop (length w) l) l (omega (arith, length-drop (length w) l)) (omega arith) in
+    cond-of (λ (m : List ℕ). length m ≤ length l) (p .strip) (trim (cond (starts w l) (drop (length w) l) l)) l
+    (omega (arith, trim-length (cond (starts w l) (drop (length w) l) l))) (omega arith)
+
+line-short : (area table : List ℕ) (i : ℕ) → length (lineAt area table i) ≤ endAt table i - startAt table i
+unfolding lineAt
+line-short area table i = omega (arith, length-drop (startAt table i) (take (endAt table i) area), length-take (endAt table i) area)
+
+-- ---- entries lie apart, so that their lines fit between the first and the last, with a newline between any two
+module _ (area table : List ℕ) (p : Prefix) {first last end : ℕ} (a : Apart first last table end) where
+  fits : (n f : ℕ) → f + suc n ≤ end → startAt table f + length (join (map (left area p) (linesFrom area table f (suc n)))) ≤ last
+  unfolding linesFrom join
+  fits zero f h =
+      omega (
+        arith,
+        a .order f (omega arith),
+        a .high f (omega arith),
+        left-short area p (lineAt area table f),
+        line-short area table f,
+      )
+  fits (suc n) f h =
+      omega (
+        arith,
+        fits n (suc f) (omega arith),
+        a .apart f (suc f) (omega arith) (omega arith),
+        a .order f (omega arith),
+        left-short area p (lineAt area table f),
+        line-short area table f,
+        length-append (left area p (lineAt area table f)) (10 ∷ join (map (left area p) (linesFrom area table (suc f) (suc n)))),
+      )
+
+  pub join-fits : (f n : ℕ) → f + n ≤ end → length (join (map (left area p) (linesFrom area table f n))) ≤ last - first
+  unfolding linesFrom join
+  join-fits f zero h = zero-le
+  join-fits f (suc n) h = omega (arith, fits n f h, a .low f (omega arith))
+
+-- ---- a view of the lines of a text
+module _ {class area table : List ℕ} {n : ℕ} {v : View} {p : Prefix} (q : Ready class area table n v) (c : Chosen area n (viewAt area table v) p) where
+  pub ready-below : Below class table (v .end) p (4 * n)
+  ready-below =
+      record { classes = q .classes; entries = q .entries; order = q .apart .order; below = q .apart .high; prefix = c .below }
+
+  pub ready-room : 4 * n + length (join (viewLines area table (v .start) (v .end) p)) ≤ length area
+  unfolding viewLines
+  ready-room = omega (arith, q .room, q .order, join-fits area table p (q .apart) (v .start) (v .end - v .start) (omega (arith, q .order)))
+
+  -- joined from 4n on, and then the passes on the part that is lent from there on
+  pub all-passes : {len : ℕ} (b d e : List ℕ) {r : Span} → Joined (join (viewLines area table (v .start) (v .end) p)) area (4 * n) len b →
+      4 * n ≤ length b → Stands (passes (take len (take (length b - 4 * n) (drop (4 * n) b)))) d r →
+      Processed (viewAt area table v) n area (record { start = 4 * n + r .start; end = 4 * n + r .end }) (take (4 * n) b ++ (d ++ e))
+  unfolding viewLines aggressive
+  all-passes {len} b d e {r} j h s =
+      let o : passes (take len (take (length b - 4 * n) (drop (4 * n) b))) ≡ passes (join (withoutPrefix (viewAt area table v))) =
+      ap (λ (l : List ℕ). passes (take len l)) (part-rest (4 * n) b) ∙ ap passes (j .there .bytes ∙ ap join (sym (c .lines))) in
+      record {
+        stands = stands-lent (4 * n) b d e h (rw o at s);
+        behind = omega arith;
+        below = take-at (take (4 * n) b) (d ++ e) (4 * n) (length-take-le (4 * n) b h) ∙ j .below;
+      }
+
+-- ---- what pass 1 chose: nothing, or the bytes from s up to e
+module _ (area : List ℕ) (n : ℕ) (ls : List (List ℕ)) where
+  pub chosen-none : withoutPrefix ls ≡ ls → Chosen area n ls (record { strip = false; at = 0; len = 0 })
+  unfolding left
+  chosen-none h = record { below = zero-le; lines = h ∙ sym (each ls) }
+    where
+      each : (ms : List (List ℕ)) → map (left area (record { strip = false; at = 0; len = 0 })) ms ≡ ms
+      each [] = refl
+      each (m ∷ ms) = ap (λ (r : List (List ℕ)). m ∷ r) (each ms)
+
+  pub chosen-span : (s e : ℕ) → s ≤ e → e ≤ 4 * n → withoutPrefix ls ≡ map (strip (slice s e area)) ls →
+      Chosen area n ls (record { strip = true; at = s; len = e - s })
+  unfolding left
+  chosen-span s e k h f =
+      let q : s + (e - s) ≡ e = omega arith in
+      record { below = omega arith; lines = f ∙ ap (λ (j : ℕ). map (λ (l : List ℕ). strip (slice s j area) l) ls) (sym q) }
+
+-- ---- areas that keep the lines and their table: what stands below 4n, and the entries of n + 1 lines
+module _ (area area′ table table′ : List ℕ) (n : ℕ) (a : take (4 * n) area′ ≡ take (4 * n) area) (t : take (2 * n + 2) table′ ≡ take (2 * n + 2) table) where
+  entry-same : (k : ℕ) → k < 2 * n + 2 → getD table′ k 0 ≡ getD table k 0
+  entry-same k h =
+      sym (getD-take (2 * n + 2) table′ k 0 h) ∙ ap (λ (l : List ℕ). getD l k 0) t ∙ getD-take (2 * n + 2) table k 0 h
+
+  start-same : (i : ℕ) → i < n + 1 → startAt table′ i ≡ startAt table i
+  start-same i h = entry-same (2 * i) (omega arith)
+
+  end-same : (i : ℕ) → i < n + 1 → endAt table′ i ≡ endAt table i
+  end-same i h = entry-same (2 * i + 1) (omega arith)
+
+  pub apart-same : {k : ℕ} → k ≤ n + 1 → Apart n (4 * n) table k → Apart n (4 * n) table′ k
+  apart-same {k} h p =
+      record {
+        low = λ i l. omega (arith, start-same i (omega arith), p .low i l);
+        order = λ i l. omega (arith, start-same i (omega arith), end-same i (omega arith), p .order i l);
+        high = λ i l. omega (arith, end-same i (omega arith), p .high i l);
+        apart = λ i j l m. omega (arith, end-same i (omega arith), start-same j (omega arith), p .apart i j l m);
+      }
+
+  pub view-kept : {v : View} → v .start ≤ v .end → v .end ≤ n + 1 → Apart n (4 * n) table (v .end) → viewAt area′ table′ v ≡ viewAt area table v
+  unfolding lineAt
+  view-kept {v} o h p =
+      lines-same area′ area table′ table (v .start) (v .end - v .start)
+      (λ j l m.
+      let k : j < v .end = omega arith in
+      rw (start-same j (omega arith), end-same j (omega arith))
+      (sym (slice-first (startAt table j) (endAt table j) (4 * n) area′ (p .high j k)) ∙ ap (slice (startAt table j) (endAt table j)) a ∙
+      slice-first (startAt table j) (endAt table j) (4 * n) area (p .high j k)))
+
+  pub ready-kept : {class : List ℕ} {v : View} → v .end ≤ n + 1 → length area′ ≡ length area → length table′ ≡ length table →
+      Ready class area table n v → Ready class area′ table′ n v
+  ready-kept h k l q =
+      record {
+        classes = q .classes;
+        room = omega (arith, q .room);
+        entries = omega (arith, q .entries);
+        apart = apart-same h (q .apart);
+        order = q .order;
+      }

@@ -1,0 +1,39 @@
+-- The whole of the aggressive passes on a view of the line table.
+-- Assumes nothing.
+use mathlib.Core.Path.{_≡_}
+use mathlib.Core.List.{List, map}
+use Prim.Native.Nat.{ℕ, _+_, _-_, _*_, _≤_}
+use lib.ListN.{length, take}
+use Rattle.rules.specs.declared.View.{View}
+use Rattle.rules.specs.Sizes.{byteArea}
+use Rattle.rules.specs.Prefix.{withoutPrefix}
+use Rattle.rules.specs.Passes.{aggressive}
+use Rattle.slices.specs.declared.ends.Span.{Span}
+use Rattle.slices.specs.Classes.{classTable}
+use Rattle.preproc_lines.specs.Entries.{linesFrom, Apart}
+use Rattle.preproc_view.specs.declared.join.Prefix.{Prefix}
+use Rattle.preproc_view.specs.Joins.{left}
+use Rattle.preproc_view.specs.Rows.{Stands}
+
+-- the lines of the view
+abbrev pub viewAt : List ℕ → List ℕ → View → List (List ℕ)
+viewAt area table v = linesFrom area table (v .start) (v .end - v .start)
+
+-- the lines of a text of n bytes lie in [n, 4n) of an area of its size, and the view is one of them
+pub record Ready (class area table : List ℕ) (n : ℕ) (v : View) : Type 0 where
+  pub classes : class ≡ classTable
+  pub room : byteArea n ≤ length area
+  pub entries : 2 * v .end ≤ length table
+  pub apart : Apart n (4 * n) table (v .end)
+  pub order : v .start ≤ v .end
+
+-- pass 1 leaves of each line what p leaves of it
+pub record Chosen (area : List ℕ) (n : ℕ) (ls : List (List ℕ)) (p : Prefix) : Type 0 where
+  pub below : p .at + p .len ≤ 4 * n
+  pub lines : withoutPrefix ls ≡ map (left area p) ls
+
+-- the processed text stands in r, behind the lines, and what stands below 4n is as it was
+pub record Processed (ls : List (List ℕ)) (n : ℕ) (d₀ : List ℕ) (r : Span) (d : List ℕ) : Type 0 where
+  pub stands : Stands (aggressive ls) d r
+  pub behind : 4 * n ≤ r .start
+  pub below : take (4 * n) d ≡ take (4 * n) d₀

@@ -1,0 +1,130 @@
+// Aggressive passes 2 to 8 on the first n bytes of a lent part, in place. Each is one walk that writes no faster than it reads.
+// From detection/preproc.rs of spdx 0.13.6 (Copyright 2018-2019 Amazon.com, Inc. or its affiliates. All Rights Reserved.
+// SPDX-License-Identifier: Apache-2.0), changed: its replacements, as walks over lent memory. Assumes that the lent table is that of the
+// classes.
+ghost use mathlib.Core.Path.{_≡_};
+ghost use mathlib.Core.Bool.{true, false};
+ghost use mathlib.Core.List.{map};
+ghost use Prim.Native.Nat.{_≤_, _<_};
+ghost use lib.Dec.{eqb};
+ghost use lib.ListN.{length, take, drop};
+ghost use Rattle.lists.specs.Wrote.{Front};
+ghost use Rattle.rules.specs.Passes.{lowered, hit, withoutCopyright};
+ghost use Rattle.rules.specs.Passes;
+ghost use Rattle.slices.specs.Classes.{classTable};
+ghost use Rattle.preproc_view.specs.Rows.{Stands, firstPasses, lastPasses};
+use crate::copyright::hit_a;
+use crate::copyright::hit_len;
+use crate::title::title_len;
+use preproc_lines::passes::cap_runs;
+use preproc_lines::passes::join_runs;
+use preproc_lines::passes::keep_in;
+use slices::class::in_class;
+use slices::ends::Span;
+use slices::ends::bare;
+
+// What the hit at the place takes, or 0. Inside a line only a newline can begin one, so that one test sees that none does.
+fn hit_at(class: &[u8; 256], s: &[u8], at: usize, fresh: bool) -> usize
+    requires { ⌜ (now class ≡ classTable) × (at < length (now s)) ⌝ }
+    ensures { λ r. ⌜ r ≡ hit (eqb at 0) fresh (drop at (now (s .entry))) ⌝ }
+{
+    if at == 0 {
+        return hit_len(class, s, at, true, fresh);
+    }
+    if fresh {
+        return hit_len(class, s, at, false, true);
+    }
+    if s[at] == b'\n' {
+        return hit_a(s, at, false);
+    }
+    0
+}
+
+// Pass 6: each hit becomes two newlines. Linear: what a hit takes is read again by none, and tries that fail read different lines (A),
+// one line (B) or the spaces behind different words (C).
+pub fn without_copyright(class: &[u8; 256], buf: &mut [u8], n: usize) -> usize
+    requires { ⌜ (now class ≡ classTable) × (n ≤ length (now buf)) ⌝ }
+    ensures { λ r. ⌜ Front (withoutCopyright true true 0 (take n (now (buf .entry)))) r (now (buf .exit)) ⌝ }
+{
+    let mut i = 0;
+    let mut w = 0;
+    let mut fresh = true;
+    while i < n {
+        let k = hit_at(class, &buf[..n], i, fresh);
+        if k == 0 {
+            let b = buf[i];
+            i += 1;
+            fresh = b == b'\n';
+            buf[w] = b;
+            w += 1;
+        } else {
+            i += k;
+            fresh = buf[i - 1] == b'\n';
+            buf[w] = b'\n';
+            w += 1;
+            buf[w] = b'\n';
+            w += 1;
+        }
+    }
+    w
+}
+
+// A byte in lower case.
+fn lower(class: &[u8; 256], b: u8) -> u8
+    requires { ⌜ now class ≡ classTable ⌝ }
+    ensures { λ r. ⌜ r ≡ lowered b ⌝ }
+{
+    if in_class(class, 10, 10, b) {
+        return b + 32;
+    }
+    b
+}
+
+// Pass 4: the first n in lower case.
+pub fn lower_in(class: &[u8; 256], buf: &mut [u8], n: usize) -> usize
+    requires { ⌜ (now class ≡ classTable) × (n ≤ length (now buf)) ⌝ }
+    ensures { λ r. ⌜ Front (map lowered (take n (now (buf .entry)))) r (now (buf .exit)) ⌝ }
+{
+    let mut i = 0;
+    while i < n {
+        let b = buf[i];
+        buf[i] = lower(class, b);
+        i += 1;
+    }
+    i
+}
+
+// Passes 6 to 8: where the result stands among the first n.
+fn last_passes(class: &[u8; 256], buf: &mut [u8], n: usize) -> Span
+    requires { ⌜ (now class ≡ classTable) × (n ≤ length (now buf)) ⌝ }
+    ensures { λ r. ⌜ Stands (lastPasses (take n (now (buf .entry)))) (now (buf .exit)) r ⌝ }
+{
+    let n6 = without_copyright(class, buf, n);
+    let n7 = join_runs(class, 5, 7, b' ', buf, n6);
+    bare(class, 5, 7, &buf[..n7])
+}
+
+// Passes 2 to 4.
+fn first_passes(class: &[u8; 256], buf: &mut [u8], n: usize) -> usize
+    requires { ⌜ (now class ≡ classTable) × (n ≤ length (now buf)) ⌝ }
+    ensures { λ r. ⌜ Front (firstPasses (take n (now (buf .entry)))) r (now (buf .exit)) ⌝ }
+{
+    let n2 = cap_runs(class, 6, 7, b'\n', 2, buf, n);
+    let n3 = keep_in(class, 4, 11, buf, n2);
+    lower_in(class, buf, n3)
+}
+
+// Passes 2 to 8: where the processed text stands. The title only moves its start.
+pub fn passes(class: &[u8; 256], buf: &mut [u8], n: usize) -> Span
+    requires { ⌜ (now class ≡ classTable) × (n ≤ length (now buf)) ⌝ }
+    ensures { λ r. ⌜ Stands (Passes.passes (take n (now (buf .entry)))) (now (buf .exit)) r ⌝ }
+{
+    let n4 = first_passes(class, buf, n);
+    let title = title_len(class, &buf[..n4]);
+    let m = n4 - title;
+    let s = last_passes(class, &mut buf[title..], m);
+    Span {
+        start: title + s.start,
+        end: title + s.end,
+    }
+}
