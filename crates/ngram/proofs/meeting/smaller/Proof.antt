@@ -1,0 +1,14 @@
+-- `ngram::meeting::smaller` meets its contract.
+-- Assumes nothing.
+use borrow.Author.Needs.{needs}
+use Rattle.ngram.proofs.meeting.smaller.Statement.{statement}
+use Rattle.ngram.proofs.meeting.smaller.Tie as tie
+
+returns : tie.Need-returns
+returns c = search needs
+
+returns-2 : tie.Need-returns-2
+returns-2 c = search needs
+
+pub smaller-spec : {M : Type 1} → statement M
+smaller-spec = tie.close (tie.spec returns returns-2)

@@ -1,0 +1,129 @@
+// m of a view's table and a stored one, by one walk along both.
+// From detection/ngram.rs of spdx 0.13.6 (Copyright 2018 Amazon.com, Inc. or its affiliates. All Rights Reserved.
+// SPDX-License-Identifier: Apache-2.0), changed: both tables are sorted, so no entry is looked up. Assumes nothing.
+ghost use mathlib.Core.Path.{_≡_};
+ghost use mathlib.Core.Bool.{true};
+ghost use Prim.Native.Nat.{_+_, _≤_, min, compare};
+ghost use lib.ListN.{length, drop};
+ghost use lib.Seq.{slice};
+ghost use Rattle.rules.specs.Sizes.{totalMost};
+ghost use Rattle.rules.specs.Bytes.{order};
+ghost use Rattle.rules.specs.Table as words;
+ghost use Rattle.rules.specs.Book.{soundTable, entriesOf, tableIn};
+ghost use Rattle.sort.specs.Sort.{partOf};
+ghost use Rattle.ngram.specs.Tables.{tableAt};
+ghost use Rattle.ngram.specs.Meeting.{placeOf};
+use crate::scores::value;
+use crate::tables::TableSize;
+use records::numbers::read_u32;
+use rules::Value;
+use sort::ends_part;
+use sort::marks_left;
+use sort::wide;
+
+// Where one byte string stands to another.
+pub enum Place {
+    Before,
+    Same,
+    After,
+}
+
+// Of two bytes that differ.
+fn unlike(x: u8, y: u8) -> Place
+    requires { ⌜ (x ≡ y → ⊥) ⌝ }
+    ensures { λ r. ⌜ r ≡ placeOf (compare x y) ⌝ }
+{
+    if x < y {
+        return Place::Before;
+    }
+    Place::After
+}
+
+// Where the bigram of the text that starts at a stands to the bytes [from, to) of the body.
+pub fn compare_bigram(text: &[u8], a: usize, body: &[u8], from: usize, to: usize) -> Place
+    requires { ⌜ (from ≤ to) × (to ≤ length (now body)) ⌝ }
+    ensures { λ r. ⌜ r ≡ placeOf (order (partOf 32 2 (drop a (now (text .entry)))) (slice from to (now (body .entry)))) ⌝ }
+{
+    let mut i = a;
+    let mut j = from;
+    let mut left = 2;
+    while j < to {
+        if text.len() <= i {
+            return Place::Before;
+        }
+        let x = text[i];
+        if ends_part(x, 32, left) {
+            return Place::Before;
+        }
+        let y = body[j];
+        if x != y {
+            return unlike(x, y);
+        }
+        left = marks_left(left, x, 32);
+        i = i + 1;
+        j = j + 1;
+    }
+    if text.len() <= i {
+        return Place::Same;
+    }
+    if ends_part(text[i], 32, left) {
+        return Place::Same;
+    }
+    Place::After
+}
+
+fn smaller(a: u32, b: u32) -> u32
+    ensures { λ r. ⌜ r ≡ min a b ⌝ }
+{
+    if a < b {
+        return a;
+    }
+    b
+}
+
+// The sum of the smaller counts of the bigrams that the table in p, over the text, shares with the stored one.
+pub fn meet(text: &[u8], p: &[u32], size: TableSize, body: &[u8]) -> u32
+    requires { ⌜ (size .distinct ≤ size .total) × (size .total + size .total ≤ length (now p)) ⌝ }
+    requires { ⌜ tableAt (now text) (now p) (size .total) (size .distinct) ≡ words.tableOf (words.bigrams (now text)) ⌝ }
+    requires { ⌜ soundTable (now body) (entriesOf (now body)) ≡ true ⌝ }
+    ensures { λ r. ⌜ r ≡ words.meet (words.tallied (words.bigrams (now (text .entry)))) (tableIn (now (body .entry)) (entriesOf (now (body .entry))) .entries) ⌝ }
+{
+    let total = size.total;
+    let distinct = size.distinct;
+    let mut m = 0;
+    let mut i = 0;
+    let mut j = 8;
+    while i < distinct {
+        if body.len() <= j {
+            return m;
+        }
+        let start = j + 8;
+        let end = start + wide(read_u32(body, j + 4));
+        match compare_bigram(text, wide(p[i]), body, start, end) {
+            Place::Before => {
+                i = i + 1;
+            }
+            Place::Same => {
+                m = m + smaller(p[total + i], read_u32(body, j));
+                i = i + 1;
+                j = end;
+            }
+            Place::After => {
+                j = end;
+            }
+        }
+    }
+    m
+}
+
+// The value of the table in p, over the text, against the stored one.
+pub fn scoring(text: &[u8], p: &[u32], size: TableSize, body: &[u8]) -> Value
+    requires { ⌜ (size .distinct ≤ size .total) × (size .total + size .total ≤ length (now p)) × (size .total ≤ totalMost) ⌝ }
+    requires { ⌜ tableAt (now text) (now p) (size .total) (size .distinct) ≡ words.tableOf (words.bigrams (now text)) ⌝ }
+    requires { ⌜ soundTable (now body) (entriesOf (now body)) ≡ true ⌝ }
+    ensures { λ r. ⌜ r ≡ words.valueOf (words.tableOf (words.bigrams (now (text .entry)))) (tableIn (now (body .entry)) (entriesOf (now (body .entry)))) ⌝ }
+{
+    let m = meet(text, p, size, body);
+    let stored = read_u32(body, 0);
+    value(m, size.total as u32, stored)
+}
