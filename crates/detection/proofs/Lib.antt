@@ -1,0 +1,4 @@
+pub mod ByteLaws
+pub mod EntryLaws
+pub mod CheckLaws
+pub mod TextLaws
