@@ -1,0 +1,16 @@
+use Rattle.rules.specs.Search.{higher}
+use Rattle.license.proofs.higher_of.Statement.{statement}
+use Rattle.license.proofs.higher_of.Tie as tie
+use Rattle.license.proofs.higher_of.Reads as reads
+use Rattle.license.proofs.higher_of.Lts as lts
+
+returns : tie.Need-returns
+unfolding higher
+returns c = simp (c .if1 .taken)
+
+returns-2 : tie.Need-returns-2
+unfolding higher
+returns-2 c = simp (c .if1 .left)
+
+pub higher-of-spec : {M : Type 1} → statement M
+higher-of-spec = tie.close (tie.spec returns returns-2)

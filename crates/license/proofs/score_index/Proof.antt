@@ -1,0 +1,46 @@
+use borrow.Author.Needs.{needs}
+use Rattle.license.proofs.ViewLaws.{index-inside, index-scored, index-kept}
+use Rattle.license.proofs.score_index.Statement.{statement}
+use Rattle.license.proofs.score_index.Tie as tie
+use Rattle.license.proofs.score_index.Reads as reads
+use Rattle.license.proofs.score_index.Lts as lts
+use Rattle.license.proofs.views.charge.Reads as charge-reads
+use Rattle.license.proofs.views.view_of.Reads as view-of-reads
+use Rattle.license.proofs.views.view_table.Reads as view-table-reads
+
+view-of-requires : tie.Need-view-of-requires
+view-of-requires c κs = search needs
+
+view-table-requires : tie.Need-view-table-requires
+view-table-requires c κs =
+    let s = c .before .before .before .before .before .before in
+    ((s .pre .0 .classes, s .pre .0 .laid), index-inside _ _ _ _ _ (c .before .before .view-of .ensures) (s .pre .1 .0))
+
+charge-requires : tie.Need-charge-requires
+charge-requires c κs = search needs
+
+same-length : tie.Need-same-length
+same-length c = search needs
+
+same-length-2 : tie.Need-same-length-2
+same-length-2 c = search needs
+
+returns : tie.Need-returns
+returns c =
+    let s = c .before .before .before .before .before .before .before .before .before .before .before .before .before .before in
+    let t = c .before .before .before .before .before .before .before .view-table .ensures in
+    let o = c .before .before .before .before .before .before .before .before .before .before .view-of .ensures in (
+      λ u e. index-scored _ _ _ _ _ _ _ _ o (t .1 .0) (c .charge .ensures .0) u e,
+      (c .charge .ensures .1, index-kept _ _ _ _ _ _ _ _ (s .pre .0) (t .1 .1)),
+    )
+
+pub score-index-spec : {M : Type 1} → statement M
+score-index-spec =
+    tie.close
+    (tie.spec
+    view-of-requires
+    view-table-requires
+    charge-requires
+    same-length
+    same-length-2
+    returns)

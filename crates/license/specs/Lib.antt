@@ -1,0 +1,3 @@
+pub mod Pay
+pub mod Ready
+pub mod Found
