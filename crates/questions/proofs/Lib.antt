@@ -1,0 +1,4 @@
+pub mod HexLaws
+pub mod WordLaws
+pub mod NumberLaws
+pub mod PutLaws

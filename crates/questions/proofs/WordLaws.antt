@@ -1,0 +1,44 @@
+-- Word after word.
+-- Assumes nothing.
+use mathlib.Core.Path.{_≡_, refl, sym, ap, _∙_}
+use mathlib.Core.List.{List, []}
+use Prim.Native.Nat.{ℕ, zero, suc, _+_, _-_, _≤_, _<_}
+use native.Mathlib.Omega.{arith}
+use lib.ListN.{length, take, drop, length-drop}
+use lib.Seq.{slice, drop-drop, length-take-le}
+use Rattle.lists.proofs.SliceLaws.{part-at, part-slice, drop-done}
+use Rattle.rules.specs.Bytes.{lead}
+use Rattle.slices.specs.declared.ends.Span.{Span}
+use Rattle.questions.specs.Words.{upTo, wordOf, Marked, WordAt}
+
+pub word-none : (k : ℕ) → wordOf k [] ≡ []
+unfolding wordOf upTo lead
+word-none zero = refl
+word-none (suc k) = word-none k
+
+-- the word up to the mark, and the words behind it
+module _ {s : List ℕ} {at r : ℕ} (m : Marked 32 s at r) where
+  pub word-here : (k : ℕ) → k ≡ 0 → slice at r s ≡ wordOf k (drop at s)
+  unfolding wordOf
+  word-here k e = rw e (sym (part-at at (upTo 32 (drop at s)) s ∙ ap (λ (j : ℕ). slice at j s) (sym (m .place))))
+
+  pub word-behind : (k : ℕ) → 0 < k → wordOf k (drop at s) ≡ wordOf (k - 1) (drop (r + 1) s)
+  unfolding wordOf
+  word-behind k h =
+      let p : suc (k - 1) ≡ k = omega arith in
+      let e : at + (upTo 32 (drop at s) + 1) ≡ r + 1 = omega (arith, m .place) in
+      ap (λ (j : ℕ). wordOf j (drop at s)) (sym p)
+      ∙ ap (wordOf (k - 1)) (drop-drop (upTo 32 (drop at s) + 1) at s ∙ ap (λ (j : ℕ). drop j s) e)
+
+  pub word-last : (k : ℕ) → 0 < k → length s ≤ r → wordOf k (drop at s) ≡ []
+  word-last k h l = word-behind k h ∙ rw (drop-done s (r + 1) (omega arith)) (word-none (k - 1))
+
+-- a word as a part of its line, and its length
+module _ {k : ℕ} {s : List ℕ} {r : Span} (w : WordAt k s r) where
+  pub word-part : take (r .end - r .start) (drop (r .start) s) ≡ wordOf k s
+  word-part = part-slice (r .start) (r .end) s ∙ w .bytes
+
+  pub word-length : length (wordOf k s) ≡ r .end - r .start
+  word-length =
+      ap length (sym word-part)
+      ∙ length-take-le (r .end - r .start) (drop (r .start) s) (rw length-drop (omega (arith, w .order, w .within)))

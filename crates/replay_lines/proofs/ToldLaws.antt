@@ -1,0 +1,132 @@
+-- The answer line by line, and its length.
+-- Assumes nothing.
+use mathlib.Core.Path.{_≡_, refl, sym, _∙_}
+use mathlib.Core.Bool.{Bool, true, false, cond}
+use mathlib.Core.List.{List, [], _∷_, _++_}
+use Prim.Native.Nat.{ℕ, zero, suc, _+_, _-_, _*_, _≤_, _<_}
+use native.Mathlib.Nat.{sub-zero}
+use native.Mathlib.Numerals.{add-one}
+use native.Mathlib.Omega.{arith}
+use lib.Dec.{ltb}
+use lib.ListN.{length, take, drop, length-append, length-take}
+use borrow.Author.Tests.{ltb-true, ltb-false, eq-eqb, ne-eqb, le-leb, lt-leb}
+use Rattle.lists.specs.Wrote.{Front}
+use Rattle.lists.proofs.SliceLaws.{part-slice}
+use Rattle.rules.specs.Bytes.{text, starts}
+use Rattle.rules.specs.Lines.{lines}
+use Rattle.rules.specs.Refusal.{refusal, ofText}
+use Rattle.questions.specs.Words.{wordOf}
+use Rattle.questions.specs.Hex.{unhexed, hexed}
+use Rattle.questions.proofs.HexLaws.{hexed-length}
+use Rattle.preproc_lines.specs.Entries.{startAt, endAt, lineAt, linesFrom, linesAt, Apart}
+use Rattle.replay_lines.specs.Told.{markOf, told, answerTo, answerOf}
+
+-- a line of the table, as a part of the area
+pub line-part : (area table : List ℕ) (i a e : ℕ) → a ≡ startAt table i → e ≡ endAt table i → take (e - a) (drop a area) ≡ lineAt area table i
+unfolding lineAt
+line-part area table i a e p q = part-slice a e area ∙ rw (p, q)
+
+line-length : (area table : List ℕ) (i : ℕ) → length (lineAt area table i) ≤ endAt table i - startAt table i
+unfolding lineAt
+line-length area table i =
+    rw (← part-slice (startAt table i) (endAt table i) area, length-take) (omega arith)
+
+-- what stands behind a line, by how many are left
+module _ (area table : List ℕ) where
+  mark-last : (j n : ℕ) → n ≡ 0 → markOf (linesFrom area table j n) ≡ 10
+  unfolding markOf linesFrom
+  mark-last j n e = rw e
+
+  mark-more : (j n : ℕ) → 0 < n → markOf (linesFrom area table j n) ≡ 32
+  unfolding markOf linesFrom
+  mark-more j zero h = absurd (none h)
+    where
+      none : 0 < 0 → ⊥
+      none h = omega arith
+  mark-more j (suc n) h = refl
+
+  mark-is : (i count : ℕ) → markOf (linesFrom area table (i + 1) (count - (i + 1))) ≡ cond (ltb (i + 1) count) 32 10
+  mark-is i count = at (ltb (i + 1) count) refl
+    where
+      at : (b : Bool) → ltb (i + 1) count ≡ b → markOf (linesFrom area table (i + 1) (count - (i + 1))) ≡ cond b 32 10
+      at true e = mark-more (i + 1) (count - (i + 1)) (omega (arith, ltb-true (i + 1) count e))
+      at false e = mark-last (i + 1) (count - (i + 1)) (omega (arith, ltb-false (i + 1) count e))
+
+  told-line : (i n : ℕ) → told (linesFrom area table i (suc n)) ≡ hexed (lineAt area table i) ++ markOf (linesFrom area table (i + 1) n) ∷ told (linesFrom area table (i + 1) n)
+  unfolding told linesFrom
+  told-line i n = rw (add-one i)
+
+  -- one line more
+  pub told-step : (i count mark : ℕ) → i < count → mark ≡ cond (ltb (i + 1) count) 32 10 →
+      told (linesFrom area table i (count - i)) ≡ hexed (lineAt area table i) ++ mark ∷ told (linesFrom area table (i + 1) (count - (i + 1)))
+  told-step i count mark h m =
+      let e : count - i ≡ suc (count - (i + 1)) = omega arith in
+      rw (e, told-line i (count - (i + 1)), mark-is i count, m)
+
+  pub told-start : (count : ℕ) → told (linesAt area table count) ≡ told (linesFrom area table 0 (count - 0))
+  unfolding linesAt
+  told-start count = rw (sub-zero count)
+
+  pub told-end : (i count : ℕ) → count ≤ i → told (linesFrom area table i (count - i)) ≡ []
+  unfolding told linesFrom
+  told-end i count h =
+      let e : count - i ≡ 0 = omega arith in
+      rw e
+
+  -- lines that lie from b up to `last` one byte or more apart take two bytes for each of them
+  told-from : (last i n b : ℕ) → b ≤ last + 1 → ((j : ℕ) → i ≤ j → j < i + n → b ≤ startAt table j) → {first k : ℕ} → i + n ≤ k → Apart first last table k →
+      length (told (linesFrom area table i n)) + 2 * b ≤ 2 * (last + 1)
+  unfolding told linesFrom
+  told-from last i zero b h f g p = omega arith
+  told-from last i (suc n) b h f g p =
+      let s : b ≤ startAt table i = f i (omega arith) (omega arith) in
+      let o : startAt table i ≤ endAt table i = p .order i (omega arith) in
+      let t : endAt table i ≤ last = p .high i (omega arith) in
+      let r = told-from last (suc i) n (endAt table i + 1) (omega arith) (λ j u v. p .apart i j (omega arith) (omega arith)) (omega arith) p in
+      let l = length-append (hexed (lineAt area table i)) (markOf (linesFrom area table (suc i) n) ∷ told (linesFrom area table (suc i) n)) in
+      omega (arith, r, l, hexed-length (lineAt area table i), line-length area table i)
+
+  pub told-length : {first last count : ℕ} → Apart first last table count → length (told (linesAt area table count)) ≤ 2 * (last + 1)
+  unfolding linesAt
+  told-length {first} {last} {count} p = omega (arith, told-from last 0 count 0 (omega arith) (λ j u v. omega arith) (omega arith) p)
+
+-- lines one byte or more apart are few
+apart-start : {first last count : ℕ} {table : List ℕ} → Apart first last table count → (i : ℕ) → i < count → i ≤ startAt table i
+apart-start p zero h = omega arith
+apart-start p (suc i) h =
+    let k : i < suc i = omega arith in
+    omega (arith, apart-start p i (omega arith), p .order i (omega arith), p .apart i (suc i) k h)
+
+pub few-lines : {first last : ℕ} {table : List ℕ} (count : ℕ) → Apart first last table count → count ≤ last + 1
+few-lines zero p = omega arith
+few-lines (suc i) p = omega (arith, apart-start p i (omega arith), p .order i (omega arith), p .high i (omega arith))
+
+-- what lies within some bounds lies within wider ones
+pub apart-wider : {first last count : ℕ} {table : List ℕ} (high : ℕ) → last ≤ high → Apart first last table count → Apart 0 high table count
+apart-wider high h p =
+    record { low = λ i k. omega arith; order = p .order; high = λ i k. omega (arith, p .high i k); apart = p .apart }
+
+-- ---- which answer it is
+pub front-none : {out : List ℕ} {d : List ℕ} → out ≡ [] → Front out 0 d
+front-none e = record { within = omega arith; count = rw e; bytes = sym e }
+
+pub answer-none : (t : List ℕ) → (refusal (ofText t) ≡ 0 → ⊥) → answerTo t ≡ []
+unfolding answerTo
+answer-none t h = rw (ne-eqb (refusal (ofText t)) 0 h)
+
+pub answer-some : (t : List ℕ) → refusal (ofText t) ≡ 0 → answerTo t ≡ told (lines t)
+unfolding answerTo
+answer-some t h = rw (eq-eqb (refusal (ofText t)) 0 h)
+
+module _ (q : List ℕ) where
+  pub other-question : starts (text "lines ") q ≡ false → answerOf q ≡ []
+  unfolding answerOf
+  other-question e = rw e
+
+  pub long-text : starts (text "lines ") q ≡ true → 4097 < length (wordOf 1 q) → answerOf q ≡ []
+  unfolding answerOf
+  long-text e h = rw (e, lt-leb (length (wordOf 1 q)) 4097 h)
+
+  pub right-question : starts (text "lines ") q ≡ true → length (wordOf 1 q) ≤ 4097 → answerOf q ≡ answerTo (unhexed (wordOf 1 q))
+  unfolding answerOf
+  right-question e h = rw (e, le-leb (length (wordOf 1 q)) 4097 h)

@@ -1,0 +1,32 @@
+-- `answer_text`: no answer to a text that is refused, and the lines of any other.
+-- Assumes nothing.
+use mathlib.Core.Path.{sym, _∙_}
+use native.Mathlib.Omega.{arith}
+use denote.Ref.{now}
+use Rattle.lists.proofs.ChainLaws.{front-of}
+use Rattle.replay_lines.proofs.ToldLaws.{told-length, few-lines, apart-wider, front-none, answer-none, answer-some}
+use borrow.Author.Needs.{needs}
+use Rattle.replay_lines.proofs.answer_text.Statement.{statement}
+use Rattle.replay_lines.proofs.answer_text.Tie as tie
+
+returns : tie.Need-returns
+returns c =
+    let t = c .before in
+    front-none (answer-none _ (λ e. c .if1 .taken (t .test-text .ensures .number ∙ e)))
+
+put-lines-requires : tie.Need-put-lines-requires
+put-lines-requires c κs =
+    let n = c .before .before .before .before .before .normalise in
+    let p = n .ensures .apart in
+    (omega (arith, few-lines (n .result) p), apart-wider _ (omega arith) p, omega (arith, told-length (n .last .1 .1 .0) (n .last .1 .1 .1 .0) p))
+
+returns-2 : tie.Need-returns-2
+returns-2 c =
+    let n = c .before .before .before .before .before .before in
+    let t = n .before .before .before in
+    let s = now (t .before .before .before .args .text) in
+    rw (answer-some s (sym (t .before .test-text .ensures .number) ∙ t .if1 .left), ← n .normalise .ensures .lines) (front-of (c .put-lines .ensures))
+
+pub answer-text-spec : {M : Type 1} → statement M
+answer-text-spec =
+    tie.close (tie.spec (λ c κs. search needs) returns (λ c κs. search needs) put-lines-requires returns-2)

@@ -1,0 +1,770 @@
+#!/usr/bin/env python3
+"""Compares the definitions of the crate `rules` with the original Rust, on generated inputs.
+
+    oracle/compare.py [--seed N] [--scale X] [--only KIND,KIND] [--keep]
+
+The oracle beside this file (README.md) answers each question with the original's own code. Each answer becomes a row, what the definitions
+compute and what the oracle says, of a trial crate in a temporary folder; antt computes the rows there, a batch of them in one statement by
+`refl`. A batch that fails is taken apart, row by row, and each row that differs is printed with its input. Exit status: 0 no row differs,
+1 some do, 2 the comparison could not be made.
+"""
+
+import argparse
+import collections
+import hashlib
+import itertools
+import os
+import random
+import re
+import shutil
+import struct
+import subprocess
+import sys
+import tempfile
+import time
+
+HERE = os.path.dirname(os.path.abspath(__file__))
+REPOSITORY = os.path.dirname(HERE)
+
+# ---- every name of the definitions that is used ------------------------------------------------------------------------------------------
+
+CRATE = "rules"
+ELIMINATION = "(Elimination {optimize} {passes})"
+TOP_DOWN = "(TopDown {step})"
+
+USES = """\
+use Prim.Native.Nat.{ℕ}
+use Prim.Native.String.{String}
+use mathlib.Core.Path.{_≡_, refl}
+use mathlib.Core.Bool.{true, false}
+use mathlib.Core.List.{List, [], _∷_, _++_, map}
+use lib.ListN.{length, take, drop, replicate}
+use lib.Ieee.{Float, toBits, ofBits, binary32}
+use Rattle.rules.specs.Bytes.{text, join}
+use Rattle.rules.specs.Lines.{lines}
+use Rattle.rules.specs.Passes.{aggressive}
+use Rattle.rules.specs.Search.{view, viewed}
+use Rattle.rules.specs.Scan.{events, scorings, records, verdict, numbers}
+use Rattle.rules.specs.Book.{stored, compiled}
+use Rattle.rules.specs.Refusal.{Areas}
+use Rattle.rules.specs.Jobs.{scoreJob, boundsJob, named, scan, resultsAfter}
+use Rattle.rules.specs.declared.Limits.{Limits}
+use Rattle.rules.specs.declared.Mode.{Mode}
+use Rattle.rules.specs.declared.Mode.the-variants.{Elimination, TopDown}
+use Rattle.rules.proofs.Opened.{opened}
+"""
+
+ROWS = """
+pub record Row : Type 0 where
+  pub got : List ℕ
+  pub want : List ℕ
+
+-- the normalised lines, joined by newlines
+pub linesRow : String → String → Row
+linesRow t w = record { got = join (lines (text t)); want = text w }
+
+-- the lines from a up to e, after the aggressive passes
+pub viewRow : String → ℕ → ℕ → String → Row
+viewRow t a e w = record { got = aggressive (viewed (lines (text t)) (view a e)); want = text w }
+
+-- the table body
+pub tableRow : String → String → Row
+tableRow t w = record { got = compiled (text t); want = text w }
+
+pub room : Areas
+room = record { bytes = 100_000; words = 100_000 }
+
+pub bits : Float → ℕ
+bits x = toBits binary32 x
+
+-- of the lines from a up to e against the stored text k: refusal, score bits
+pub scoreRow : String → ℕ → ℕ → String → ℕ → List ℕ → Row
+scoreRow t a e book k w =
+    let r = scoreJob (text t) (text book) (view a e) k room in
+    record { got = r .refusal ∷ bits (r .score) ∷ []; want = w }
+
+-- refusal, count, first line, line after last, score bits
+pub boundsRow : String → ℕ → ℕ → String → ℕ → List ℕ → Row
+boundsRow t a e book k w =
+    let r = boundsJob (text t) (text book) (view a e) k room in
+    record { got = r .refusal ∷ r .count ∷ r .first ∷ r .after ∷ bits (r .score) ∷ []; want = w }
+
+pub limits : ℕ → ℕ → Limits
+limits threshold shallow = record { threshold = ofBits binary32 threshold; shallow = ofBits binary32 shallow }
+
+-- a whole scan: count, overall score bits, kind, records, the name's length, the name, then each record's four numbers
+pub scanRow : String → String → Limits → Mode → List ℕ → Row
+scanRow t book lim mode w =
+    let es = events lim mode (stored (text book)) (lines (text t)) in
+    let who = named lim (verdict es) in
+    record {
+      got =
+          length (scorings es) ∷ bits (verdict es .value .score) ∷ who .kind ∷ length (records es) ∷
+          length (who .name) ∷ who .name ++ numbers (records es);
+      want = w;
+    }
+
+-- the public scan, with a budget and a results area of n sevens: refusal, count, overall score bits, kind, records, the name's length, the
+-- name's 64 bytes, then the area after it
+pub jobRow : String → String → Limits → Mode → ℕ → ℕ → List ℕ → Row
+jobRow t book lim mode budget n w =
+    let r = scan (text t) (text book) lim mode budget room n in
+    record {
+      got =
+          r .refusal ∷ r .count ∷ bits (r .score) ∷ r .kind ∷ r .records ∷ r .len ∷
+          r .name ++ resultsAfter (text t) (text book) lim mode budget room (replicate n 7);
+      want = w;
+    }
+"""
+
+UNFOLDING = "linesRow viewRow tableRow room bits scoreRow boundsRow limits scanRow jobRow opened"
+
+
+# ---- the oracle --------------------------------------------------------------------------------------------------------------------------
+
+
+class Trouble(Exception):
+    """The comparison could not be made."""
+
+
+def unchanged():
+    """The original's files are as published."""
+    with open(os.path.join(HERE, "original.sha256")) as sums:
+        for line in sums:
+            digest, name = line.split()
+            with open(os.path.join(HERE, name), "rb") as source:
+                if hashlib.sha256(source.read()).hexdigest() != digest:
+                    raise Trouble(f"{name} is not the original's")
+
+
+class Oracle:
+    def __init__(self):
+        unchanged()
+        build = subprocess.run(["cargo", "build", "--release", "--quiet"], cwd=HERE)
+        if build.returncode != 0:
+            raise Trouble("the oracle does not build")
+        program = os.path.join(HERE, "target", "release", "oracle")
+        self.process = subprocess.Popen([program], stdin=subprocess.PIPE, stdout=subprocess.PIPE, text=True)
+
+    def ask(self, *words):
+        question = " ".join(map(str, words))
+        self.process.stdin.write(question + "\n")
+        self.process.stdin.flush()
+        answer = self.process.stdout.readline()
+        if not answer:
+            raise Trouble(f"the oracle has no answer to: {question}")
+        return answer.rstrip("\n")
+
+    def lines(self, text):
+        return [unhexed(line) for line in self.ask("lines", hexed(text)).split(" ")]
+
+    def view(self, text, start, end):
+        return unhexed(self.ask("view", start, end, hexed(text)))
+
+    def body(self, text):
+        """The compiled body of a text, from its table."""
+        total, *entries = self.ask("table", hexed(text)).split(" ")
+        out = little(int(total), 4) + little(len(entries), 4)
+        for entry in entries:
+            count, bigram = entry.split(":")
+            bigram = bytes.fromhex(bigram)
+            out += little(int(count), 4) + little(len(bigram), 4) + bigram
+        return out
+
+
+def hexed(text):
+    return text.encode("ascii").hex() or "-"
+
+
+def unhexed(word):
+    return "" if word == "-" else bytes.fromhex(word).decode("ascii")
+
+
+def little(number, width):
+    return number.to_bytes(width, "little")
+
+
+def bits(x):
+    return struct.unpack("<I", struct.pack("<f", x))[0]
+
+
+# ---- rows --------------------------------------------------------------------------------------------------------------------------------
+
+
+class Row:
+    """A call of one of the rows above, what it wants, what it stands for, and where it wants numbers a name for each."""
+
+    def __init__(self, call, want, told, named=()):
+        self.call, self.want, self.told, self.named = call, want, told, named
+
+    def term(self):
+        return f"{self.call} {self.want if isinstance(self.want, str) else numbers(self.want)}"
+
+
+def quoted(text):
+    """A text as antt quotes it; a byte string is the text of its bytes."""
+    if isinstance(text, bytes):
+        text = text.decode("latin-1")
+    escaped = {"\n": "\\n", '"': '\\"', "\\": "\\\\"}
+    return '"' + "".join(escaped.get(c) or (c if " " <= c <= "~" else f"\\u{{{ord(c):x}}}") for c in text) + '"'
+
+
+def numbers(values):
+    return "(" + "".join(f"{v} ∷ " for v in values) + "[])"
+
+
+# ---- the trial crate ---------------------------------------------------------------------------------------------------------------------
+
+
+class Trial:
+    def __init__(self, keep):
+        self.folder = tempfile.mkdtemp(prefix="compare-")
+        self.keep = keep
+        wanted = self.needed()
+        for crate in wanted:
+            shutil.copytree(os.path.join(REPOSITORY, "crates", crate), os.path.join(self.folder, "crates", crate))
+        with open(os.path.join(self.folder, "crates.txt"), "w") as out:
+            out.writelines(f"{crate}: {' '.join(deps)}\n" for crate, deps in wanted.items())
+            out.write(f"trial: {CRATE}\n")
+        self.write("src/lib.rt", "// Only specs/: rows to compute.\n")
+        self.write("specs/Lib.antt", "pub mod Rows\n")
+        self.write("proofs/Lib.antt", "")
+
+    def needed(self):
+        """The crate of the definitions and what it depends on, as the repository lists them."""
+        listed = {}
+        with open(os.path.join(REPOSITORY, "crates.txt")) as lines:
+            for line in lines:
+                line = line.split("#")[0].strip()
+                if line:
+                    crate, deps = line.split(":")
+                    listed[crate.strip()] = deps.split()
+        wanted, open_ends = {}, [CRATE]
+        while open_ends:
+            crate = open_ends.pop()
+            if crate in listed and crate not in wanted:
+                wanted[crate] = listed[crate]
+                open_ends += listed[crate]
+        if CRATE not in wanted:
+            raise Trouble(f"crates.txt does not list {CRATE}")
+        return wanted
+
+    def write(self, name, text):
+        path = os.path.join(self.folder, "crates", "trial", name)
+        os.makedirs(os.path.dirname(path), exist_ok=True)
+        with open(path, "w") as out:
+            out.write(text)
+
+    def failures(self, statements):
+        """The statements, by name, that antt refuses, each with its message. A statement is a name, a type and what it unfolds."""
+        out = [USES, ROWS]
+        for name, (before, claim, opened) in statements.items():
+            out.append(f"\n{before}pub {name} : {claim}\nunfolding {opened} {UNFOLDING}\n{name} = refl\n")
+        self.write("specs/Rows.antt", "".join(out))
+        run = subprocess.run(
+            ["rt", "check", "trial"],
+            cwd=self.folder,
+            env={**os.environ, "RT_CUT": "0", "RT_JOBS": "1"},
+            capture_output=True,
+            text=True,
+        )
+        if run.returncode == 0:
+            return {}
+        said = run.stdout + run.stderr + f"rt check: exit status {run.returncode}"
+        messages = re.split(r"^(?=\S*specs/Rows\.antt:)", said, flags=re.M)[1:]
+        found = {}
+        for message in messages:
+            if re.match(r"\S+ note:", message):
+                continue
+            name = re.match(r"\S+ error: `([^`]+)`", message)
+            if not name or name[1] not in statements:
+                raise Trouble(said)
+            found[name[1]] = message.strip()
+        if not found:
+            raise Trouble(said)
+        return found
+
+    def close(self):
+        if self.keep:
+            print(f"kept: {self.folder}")
+        else:
+            shutil.rmtree(self.folder)
+
+
+def batch_statement(name, rows):
+    terms = "".join(f"    {row.term()} ∷\n" for row in rows)
+    before = f"pub {name}-rows : List Row\n{name}-rows =\n{terms}    []\n\n"
+    return before, f"map (λ c. c .got) {name}-rows ≡ map (λ c. c .want) {name}-rows", f"{name}-rows"
+
+
+def differing(trial, rows, size):
+    """The rows that differ, with antt's message."""
+    batches = {f"batch{i}": rows[i : i + size] for i in range(0, len(rows), size)}
+    failed = trial.failures({name: batch_statement(name, batch) for name, batch in batches.items()})
+    alone = {f"row{i}": row for i, row in enumerate(row for name in failed for row in batches[name])}
+    if not alone:
+        return []
+    refused = trial.failures({name: batch_statement(name, [row]) for name, row in alone.items()})
+    if not refused:
+        raise Trouble("a batch is refused, and none of its rows is: make the batches smaller")
+    return [(alone[name], message) for name, message in refused.items()]
+
+
+def differing_parts(trial, row):
+    """Of a row that differs and wants numbers, the parts that differ, by their names."""
+    statements = {"all": ("", f"length ({row.term()} .got) ≡ {len(row.want)}", "")}
+    names = {"all": "how many numbers there are"}
+    at = 0
+    for name, part in itertools.groupby(row.named):
+        size = len(list(part))
+        statements[f"part{at}"] = ("", f"take {size} (drop {at} ({row.term()} .got)) ≡ {numbers(row.want[at : at + size])}", "")
+        names[f"part{at}"] = name
+        at += size
+    return [names[part] for part in trial.failures(statements)]
+
+
+# ---- generated texts ---------------------------------------------------------------------------------------------------------------------
+
+SPACES = ["\n", "\n", "\n\n", "\n\n\n", " ", " ", "  ", "\t", "\v", "\f", "\r", "\r\n", " \n"]
+TRAPS = (
+    "copyright|Copyright|COPYRIGHT| copyright|copyright (c) 2|license|License| license|licenses| version 2| version |version|c| c|(c)|C|1999"
+    "| 2 3|4|44|a4b|/4|x|http://x|https://|https://a.b/c|http://4 |http:/|Http://x|'|\"|''\"|`|(|[{|)|]}|)(|-|--|- -|_|__|.|,;|!?|:|@#%&*|$|+|<=>|^|~"
+    "|\\|\\/|A|Z|az|b|9|xyz|you|the software|dnl | * |// |# |rem: "
+).split("|") + ["|", "||", "\0", "\b", "\x0e", "\x1f", "\x7f"]
+WORDS = "my first license the grant use of free copy a b c 2 x".split()
+PREFIXES = ["dnl -- ", "rem: ", "#### ", "abcd ", "abcd e", "abcd xabcd", "dnl ", " * ", "// ", "-- * x"]
+
+FIXED_TEXTS = [
+    "",
+    "\n",
+    " ",
+    "\n\n\n",
+    "copyright",
+    "license\n\n",
+    "copyright 20xx me irl\n\n //  my   first license",
+    "copyright 20xx me irl\n// My First License\nfn hello() {\n ...",
+    "see https://a.b/c now",
+    "GPL 4x",
+    "$5 + tax",
+    "Foo License\n\nbody text",
+    "Foo License\nbody text",
+    "dnl one\ndnl two\ndnl tri",
+    "a b\ncopyright c\n1999 d\nkeep me",
+    "x\ncopyright holder",
+    "abcd xabcd\nabcd e\nx\nabcd e\nabcd e",
+    "\ncopyright x\n\nb c",
+    "a license version 2 copyright me\n\nb c",
+    "x\n\ncopyright a\ncopyright b\n\ny",
+    "x\n\ncopyright a\n\ncopyright b\n\ny",
+    "xcopyright23\n\n\ncopyright x\n\n",
+    "copyright company",
+    "a\n.\n.\n.\nb",
+    "".join(map(chr, range(128))),
+    "".join(chr(c) + "a" for c in range(128)),
+]
+
+
+def some(rng, choices, least, most):
+    return [rng.choice(choices) for _ in range(rng.randint(least, most))]
+
+
+def soup(rng, least=2, most=16):
+    """Traps and spaces, in any order."""
+    return "".join(rng.choice(SPACES) if rng.random() < 0.4 else rng.choice(TRAPS) for _ in range(rng.randint(least, most)))
+
+
+def prefixed(rng):
+    """Lines of which most start alike."""
+    starts = some(rng, PREFIXES, 1, 3)
+    return "\n".join(
+        (rng.choice(starts) if rng.random() < 0.85 else "") + "".join(some(rng, WORDS + ["e", "t", " ", "-"], 0, 3))
+        for _ in range(rng.randint(2, 8))
+    )
+
+
+def tied(rng):
+    """Lines whose common prefixes are as often seen as each other, or nearly."""
+    start = rng.choice(["abcd", "dnl --", "rem: x"])
+    return "\n".join(start + rng.choice(["", " e", " e", " ex", "x", " f", " f g"]) if rng.random() < 0.9 else "x" for _ in range(rng.randint(3, 6)))
+
+
+def titled(rng):
+    """A title, or what is nearly one."""
+    first = "".join(some(rng, ["a ", "The ", "my", "-", " license ", ""], 0, 2)) + rng.choice(["license", "License", "licence", "license."])
+    first += rng.choice(["", "", " version 2", " version 2.0", " version ", " version 2 3", " version x y", "version 2"])
+    first += rng.choice(["", "", " copyright", " copyright me", "copyright", " copyright license", "\tcopyright x"])
+    return first + rng.choice(["\n", "\n\n", "\n\n", "\n\n", "\n \n", "\n\n\n", "\r\n\r\n", "\n.\n"]) + (soup(rng, 0, 6) if rng.random() < 0.6 else credited(rng))
+
+
+def credited(rng):
+    """Lines about copyright, in paragraphs or not."""
+    out = rng.choice(["", "", "\n", "\n\n", "\n\n\n", "x", "x\n\n"])
+    for _ in range(rng.randint(1, 4)):
+        out += rng.choice(["", "", " ", "  ", "\t", "x ", ".", ". "]) + rng.choice(["copyright", "copyright", "Copyright", "copyrigh", "xcopyright"])
+        out += "".join(some(rng, [" c", " 1999", " (c)", "\n1999", "\n\nc", " company", " 20xx", " me", "c", "\v2", ",", ".. 3"], 0, 3))
+        out += rng.choice(["\n", "\n\n", "\n\n", "\n\n\n", "\n.\n\n", " ", "\r\r", ""])
+    return out + "".join(some(rng, WORDS, 0, 2))
+
+
+def linked(rng):
+    """Addresses, and runs of the marks that the line passes join."""
+    return "".join(
+        some(rng, ["http://", "https://", "http:/", "https", " ", "\t", "\v", "x", "4", "/", "'", '"', "((", "]", "-", "_", "$", "|", "://", "a.b", "\n"], 2, 14)
+    )
+
+
+def text(rng):
+    return rng.choice([soup, soup, soup, soup, prefixed, tied, titled, titled, credited, credited, linked])(rng)
+
+
+# ---- generated stored texts and notes ----------------------------------------------------------------------------------------------------
+
+NAMES = "A A-1 A. B B! BSD-3-Clause C GPL-2.0+ ISC MIT MIT-0 X X11 Z _ a a-b zlib ~".split() + ["~" * 64]
+
+Stored = collections.namedtuple("Stored", "name kind text")
+
+
+def words(rng, least, most):
+    return " ".join(some(rng, WORDS, least, most))
+
+
+def stored_text(rng):
+    if rng.random() < 0.06:
+        return rng.choice(["", "one", "copyright 2 me"])
+    return "\n".join(words(rng, 2, 5) for _ in range(rng.randint(1, 3)))
+
+
+def shelf(rng):
+    """2 to 5 stored texts in book order, some of them equal."""
+    n = rng.randint(2, 5)
+    licences = sorted(rng.sample(NAMES, rng.randint(1, min(3, n))))
+    kinds = {name: [2] for name in licences}
+    for _ in range(n - len(licences)):
+        kinds[rng.choice(licences)].append(rng.choice([3, 4]))
+    out = []
+    for name in licences:
+        for kind in sorted(kinds[name]):
+            again = out and rng.random() < 0.15
+            out.append(Stored(name, kind, rng.choice(out).text if again else stored_text(rng)))
+    return out
+
+
+def note(rng, texts, most):
+    """Up to so many lines: pieces of stored texts, other words, blank lines and lines about copyright."""
+    lines = []
+    wanted = rng.randint(1, most)
+    while len(lines) < wanted:
+        lot = rng.random()
+        if lot < 0.5:
+            piece = rng.choice(texts).text.split("\n")
+            lines += piece if rng.random() < 0.7 else rng.sample(piece, 1)
+        elif lot < 0.75:
+            lines.append(words(rng, 1, 4))
+        elif lot < 0.9:
+            lines.append("")
+        else:
+            lines.append(rng.choice(["copyright c 2 me", "copyright me", "a license", "Copyright (C) 1999", "see http://x.y/z", "copyright 44"]))
+    lines = lines[:wanted]
+    if rng.random() < 0.35:
+        starts = some(rng, PREFIXES, 1, 2)
+        lines = [rng.choice(starts) + line if rng.random() < 0.9 else line for line in lines]
+    if rng.random() < 0.2:
+        lines = [line.upper() if rng.random() < 0.5 else line + rng.choice([".", ",", " $", " -- ", "\r"]) for line in lines]
+    return "\n".join(lines)
+
+
+def any_view(rng, lines):
+    start = rng.randint(0, lines)
+    return start, rng.randint(start, lines)
+
+
+# ---- rows of each kind -------------------------------------------------------------------------------------------------------------------
+
+ZERO, HALF, NINETY, ONE = bits(0.0), bits(0.5), bits(0.9), bits(1.0)
+WHOLE = 2**64 - 1
+MOST_DRAWS = 3000
+
+
+class Maker:
+    """Makes rows. What it counts on the way is told at the end."""
+
+    def __init__(self, oracle, seed):
+        self.oracle = oracle
+        self.seed = seed
+        self.told = collections.Counter()
+        self.lost = []
+
+    def rows(self, kind, how_many):
+        stream = "texts" if kind in ("lines", "whole") else kind
+        rng = random.Random(f"{self.seed} {stream}")
+        return [getattr(self, kind)(rng, i) for i in range(how_many)]
+
+    # passes and tables
+    def text(self, rng, i):
+        return FIXED_TEXTS[i] if i < len(FIXED_TEXTS) else text(rng)
+
+    def lines(self, rng, i):
+        t = self.text(rng, i)
+        return Row(f"linesRow {quoted(t)}", quoted("\n".join(self.oracle.lines(t))), f"lines of {t!r}")
+
+    def whole(self, rng, i):
+        t = self.text(rng, i)
+        return self.view_row(t, 0, len(self.oracle.lines(t)))
+
+    def part(self, rng, i):
+        t = text(rng)
+        return self.view_row(t, *any_view(rng, len(self.oracle.lines(t))))
+
+    def view_row(self, t, start, end):
+        want = self.oracle.view(t, start, end)
+        joined = "\n".join(self.oracle.lines(t)[start:end])
+        drawn = {self.oracle.ask("passes", hexed(joined)) for _ in range(6)}
+        self.told["views whose common prefix is an unordered tie"] += len(drawn) > 1
+        return Row(f"viewRow {quoted(t)} {start} {end}", quoted(want), f"view {start} to {end} of {t!r}")
+
+    def table(self, rng, i):
+        t = stored_text(rng) if rng.random() < 0.3 else self.text(rng, i)
+        return Row(f"tableRow {quoted(t)}", quoted(self.oracle.body(t)), f"table of {t!r}")
+
+    # stored texts
+    def book(self, rng):
+        """Fills the oracle's store; gives the stored texts and their book."""
+        texts = shelf(rng)
+        self.oracle.ask("clear")
+        out = b""
+        for i, s in enumerate(texts):
+            self.oracle.ask("add", hexed(s.name), s.kind, hexed(s.text))
+            if s.kind == 2:
+                out += piece(1, s.name.encode("ascii"))
+            out += piece(s.kind, self.oracle.body(s.text))
+            last = i + 1 == len(texts) or texts[i + 1].kind == 2
+            if last and rng.random() < 0.2:
+                out += piece(5, b"alias")
+        return texts, out
+
+    def setting(self, rng, most):
+        texts, book = self.book(rng)
+        t = note(rng, texts, most)
+        return texts, book, t, len(self.oracle.lines(t))
+
+    # scores and bounds
+    def score(self, rng, i):
+        texts, book, t, n = self.setting(rng, 6)
+        k = rng.randrange(len(texts))
+        start, end = any_view(rng, n) if rng.random() < 0.5 else (0, n)
+        want = self.oracle.ask("scores", start, end, hexed(t)).split(" ")[k]
+        told = f"score of view {start} to {end} of {t!r} against {texts[k].text!r}"
+        return Row(f"scoreRow {quoted(t)} {start} {end} {quoted(book)} {k}", [0, int(want, 16)], told, ["refusal", "score bits"])
+
+    def bounds(self, rng, i):
+        texts, book, t, n = self.setting(rng, 14)
+        k = rng.randrange(len(texts))
+        start, end = any_view(rng, n) if rng.random() < 0.4 else (0, n)
+        asked = (start, end, hexed(t), hexed(texts[k].text))
+        count, *found = self.oracle.ask("countbounds", *asked).split(" ")
+        told = f"bounds of view {start} to {end} of {t!r} against {texts[k].text!r}"
+        self.agree(told, " ".join(found), lambda: self.oracle.ask("bounds", *asked))
+        want = [0, int(count), int(found[0]), int(found[1]), int(found[2], 16)]
+        named = ["refusal", "count", "first line", "line after last", "score bits"]
+        return Row(f"boundsRow {quoted(t)} {start} {end} {quoted(book)} {k}", want, told, named)
+
+    def agree(self, told, counted, draw):
+        """The original's own answer must be the counted copy's, once its ties fall so."""
+        for draws in range(MOST_DRAWS):
+            own = draw()
+            if own == counted:
+                self.told["own answers of the Rust that the counted copy gives too"] += 1
+                self.told["of these drawn again, for an unordered tie"] += draws > 0
+                return
+            self.oracle.ask("shuffle")
+        self.lost.append(f"{told}: the counted copy says {counted}, the Rust {own}, in {MOST_DRAWS} draws")
+
+    # scans
+    def limits(self, rng, met):
+        threshold = rng.choice([ZERO, HALF, HALF, NINETY, NINETY, ONE, rng.choice(met), rng.choice(met), rng.choice(met)])
+        shallow = rng.choice([ONE, ONE, bits(0.99), HALF, ZERO, rng.choice(met)])
+        return threshold, shallow
+
+    def eliminate_setting(self, rng):
+        texts, book, t, n = self.setting(rng, 12)
+        everything = self.counted(f"counteliminate {ZERO:08x} {ONE:08x} 1 4 {WHOLE} {hexed(t)}")
+        threshold, shallow = self.limits(rng, [everything.score] + [r[3] for r in everything.records])
+        optimize, passes = int(rng.random() < 0.85), rng.choice([0, 1, 2, 2, 3, 3, 4])
+        mode = ELIMINATION.format(optimize="true" if optimize else "false", passes=passes)
+        before = f"{threshold:08x} {shallow:08x} {optimize} {passes}"
+        need = 4 * passes if optimize else 0
+        return Setting(texts, book, t, threshold, shallow, mode, "eliminate", before, need)
+
+    def down_setting(self, rng):
+        step = rng.choice([1, 1, 2, 3, 4, 5, 6, 7, WHOLE])
+        texts, book, t, n = self.setting(rng, 5 if step == 1 else 8 if step == 2 else 12)
+        scores = [int(x, 16) for _ in range(3) for x in self.oracle.ask("scores", *any_view(rng, n), hexed(t)).split(" ")]
+        threshold, shallow = self.limits(rng, [max(scores), rng.choice(scores)])
+        before = f"{threshold:08x} {shallow:08x} {step}"
+        return Setting(texts, book, t, threshold, shallow, TOP_DOWN.format(step=step), "down", before, 4 * n)
+
+    def counted(self, question):
+        head, *records = self.oracle.ask(question).split(" ; ")
+        refusal, count, score, named = head.split(" ")
+        records = [(int(k), int(a), int(e), int(x, 16)) for k, a, e, x in (r.split(" ") for r in records)]
+        return Counted(int(refusal), int(count), int(score, 16), None if named == "none" else int(named), records)
+
+    def eliminate(self, rng, i):
+        return self.scan_row(self.eliminate_setting(rng))
+
+    def down(self, rng, i):
+        return self.scan_row(self.down_setting(rng))
+
+    def scan_row(self, s):
+        a = self.counted(s.question(WHOLE))
+        own = f"{a.score:08x} {'none' if a.named is None else a.named}"
+        own += "".join(f" ; {k} {first} {after} {x:08x}" for k, first, after, x in a.records)
+        self.agree(s.told(), own, lambda: self.oracle.ask(s.word, s.before, hexed(s.text)))
+        self.tell(s, a)
+        name, licence = a.licence(s.texts)
+        want = [a.count, a.score, licence, len(a.records), len(name), *name.encode("ascii"), *a.flat()]
+        named = ["count", "score bits", "kind", "records", "length of the name"] + ["name"] * len(name) + record_names(a)
+        return Row(f"scanRow {s.call()}", want, s.told(), named)
+
+    def job(self, rng, i):
+        """The public scan: budgets that do not pay all, and those that just do."""
+        s = self.eliminate_setting(rng) if i % 2 else self.down_setting(rng)
+        count, n = self.counted(s.question(WHOLE)).count, len(s.texts)
+        budget = max(0, rng.choice([0, n - 1, n, n + 1, count - 1, count - 1, count, count + 1, rng.randint(0, count), rng.randint(0, count), WHOLE]))
+        a = self.counted(s.question(budget))
+        self.told["scans that their budget stopped"] += a.refusal == 12
+        name, licence = a.licence(s.texts)
+        room = s.need + rng.randint(0, 3)
+        area = (a.flat() + [7] * room)[:room]
+        want = [a.refusal, a.count, a.score, licence, len(a.records), len(name), *name.ljust(64, "\0").encode("ascii"), *area]
+        named = ["refusal", "count", "score bits", "kind", "records", "length of the name"] + ["name"] * 64 + record_names(a)
+        named += ["results past the records"] * (len(want) - len(named))
+        return Row(f"jobRow {s.call()} {budget} {room}", want, f"{s.told()}, budget {budget}", named)
+
+    def tell(self, s, a):
+        self.told["scans: records"] += len(a.records)
+        self.told["scans: empty ranges among the records"] += sum(first == after for _, first, after, _ in a.records)
+        for k, _, _, _ in a.records:
+            self.told[f"scans: records of kind {s.texts[k].kind}"] += 1
+        if a.named is not None:
+            self.told[f"scans: licence named by kind {s.texts[a.named].kind}"] += 1
+        self.told["scans: scorings"] += a.count
+
+
+class Setting(collections.namedtuple("Setting", "texts book text threshold shallow mode word before need")):
+    def question(self, budget):
+        return f"count{self.word} {self.before} {budget} {hexed(self.text)}"
+
+    def call(self):
+        return f"{quoted(self.text)} {quoted(self.book)} (limits {self.threshold:#x} {self.shallow:#x}) {self.mode}"
+
+    def told(self):
+        texts = ", ".join(f"{s.name} {s.kind} {s.text!r}" for s in self.texts)
+        return f"{self.mode} at {self.threshold:08x} {self.shallow:08x} of {self.text!r}, stored: {texts}"
+
+
+class Counted(collections.namedtuple("Counted", "refusal count score named records")):
+    def licence(self, texts):
+        """Name and kind of the licence named, or nothing."""
+        return ("", 0) if self.named is None else (texts[self.named].name, texts[self.named].kind)
+
+    def flat(self):
+        return [x for r in self.records for x in r]
+
+
+def piece(kind, body):
+    """A record of a book."""
+    return little(len(body), 4) + little(kind, 2) + body
+
+
+def record_names(a):
+    return [f"record {i}: {part}" for i in range(len(a.records)) for part in ["stored number", "first line", "line after last", "score bits"]]
+
+
+# ---- the comparison ----------------------------------------------------------------------------------------------------------------------
+
+# each kind of row: how many, how many in one statement, what they are
+KINDS = {
+    "lines": (1800, 30, "texts through the line passes"),
+    "whole": (1800, 20, "texts through all passes, all lines in view"),
+    "part": (300, 20, "views of some of the lines through all passes"),
+    "table": (300, 12, "compiled bodies"),
+    "score": (300, 8, "scores of a view"),
+    "bounds": (250, 3, "bounds with their counts"),
+    "eliminate": (250, 1, "elimination scans with their counts"),
+    "down": (250, 1, "top-down scans with their counts"),
+    "job": (60, 1, "public scans with a budget and a results area"),
+}
+# a row that must be refused
+CONTROL = Row('linesRow "a"', quoted("b"), "control")
+ROWS_A_RUN = 600
+SHOWN = 10
+TAKEN_APART = 3
+
+
+def told(message):
+    """Of antt's message the part that says what it computed."""
+    said = " ".join(message.split())
+    part = re.search(r"computed as far as .*? \(found\)|stopped at the step limit|what the two types compute to is not shown", said)
+    return part[0] if part else said
+
+
+def compared(trial, rows, size):
+    """Prints the rows that differ, and gives their number."""
+    found = [pair for i in range(0, len(rows), ROWS_A_RUN) for pair in differing(trial, rows[i : i + ROWS_A_RUN], size)]
+    for i, (row, message) in enumerate(found[:SHOWN]):
+        print(f"\nDIFFERS: {row.told}\n  the oracle's answer: {row.want}")
+        if isinstance(row.want, list) and i < TAKEN_APART:
+            print(f"  what differs: {', '.join(differing_parts(trial, row))}")
+        print(f"  antt: {told(message)}")
+    if len(found) > SHOWN:
+        print(f"\n{len(found) - SHOWN} more differ")
+    return len(found)
+
+
+def main():
+    options = argparse.ArgumentParser(description="Compares the definitions with the original Rust.")
+    options.add_argument("--seed", default="1", help="another seed gives other inputs (default 1)")
+    options.add_argument("--scale", type=float, default=1.0, help="so many times the rows (default 1)")
+    options.add_argument("--only", default=",".join(KINDS), help="kinds of rows, with commas between: " + " ".join(KINDS))
+    options.add_argument("--keep", action="store_true", help="keep the temporary folder")
+    options = options.parse_args()
+
+    began = time.monotonic()
+    oracle = Oracle()
+    trial = Trial(options.keep)
+    total = 0
+    table = []
+    try:
+        if not trial.failures({"control": batch_statement("control", [CONTROL])}):
+            raise Trouble("a row that is wrong was not refused")
+        maker = Maker(oracle, options.seed)
+        for kind in options.only.split(","):
+            how_many, size, what = KINDS[kind]
+            then = time.monotonic()
+            rows = maker.rows(kind, max(1, round(how_many * options.scale)))
+            asked = time.monotonic()
+            differ = compared(trial, rows, size)
+            total += differ
+            table.append(f"{kind:10} {len(rows):6} rows {differ:6} differ {asked - then:6.1f} s + {time.monotonic() - asked:6.1f} s   {what}")
+            print(table[-1], flush=True)
+    finally:
+        trial.close()
+
+    print(f"\nseed {options.seed}, {time.monotonic() - began:.0f} s (oracle + antt for each kind)")
+    print("\n".join(table))
+    for what, count in sorted(maker.told.items()):
+        print(f"{count:6} {what}")
+    print(f"{len(maker.lost):6} answers of the counted copy that the Rust never gave")
+    for what in maker.lost[:SHOWN]:
+        print(f"  {what}")
+    print(f"{total + len(maker.lost):6} differences")
+    return 1 if total or maker.lost else 0
+
+
+if __name__ == "__main__":
+    try:
+        sys.exit(main())
+    except Trouble as trouble:
+        print(f"compare: {trouble}", file=sys.stderr)
+        sys.exit(2)
