@@ -5,5 +5,4 @@ pub mod OrderLaws
 pub mod PartLaws
 pub mod GroupLaws
 pub mod TallyLaws
-pub mod FirstLaws
 pub mod StableLaws

@@ -5,7 +5,7 @@ use mathlib.Core.List.{List, [], _∷_}
 use Prim.Native.Nat.{ℕ, zero, suc, _+_, _-_, _/_}
 use lib.Dec.{ltb, eqb}
 use lib.ListN.{length, take, drop, getD}
-use mathlib.Core.Bool.{Bool, true, false, cond, not, _&&_, _||_}
+use mathlib.Core.Bool.{Bool, true, false, cond}
 
 -- x is the mark that ends a part, with c marks left; and how many are left past x
 unfoldable pub endsPart : ℕ → ℕ → ℕ → Bool
@@ -61,7 +61,3 @@ Leads later z (x ∷ xs) = later z x ≡ false
 unfoldable pub InOrder : (ℕ → ℕ → Bool) → List ℕ → Type 0
 InOrder later [] = Unit {0}
 InOrder later (x ∷ xs) = Leads later x xs × InOrder later xs
-
--- x comes after y, or neither after the other, and x is the higher number
-unfoldable pub thenBy : (ℕ → ℕ → Bool) → ℕ → ℕ → Bool
-thenBy later x y = later x y || ltb y x && not (later y x)
