@@ -196,6 +196,16 @@ def replay_views(out, rng):
             out.ask("view", start, end, hexed(t))
 
 
+def of_made_texts(out, rng, question, times, longest):
+    """Asks about a view of a made note, mostly the whole, and one of the texts it was made from."""
+    for _ in range(times):
+        stored = compare.shelf(rng)
+        t = compare.note(rng, stored, longest)
+        n = out.lines(t)
+        view = compare.any_view(rng, n) if rng.random() < 0.4 else (0, n)
+        out.ask(question, *view, hexed(t), hexed(rng.choice(stored).text))
+
+
 def replay_tables(out, rng):
     texts = dict(all_texts(rng, 100))
     out.heading("tables")
@@ -208,12 +218,7 @@ def replay_tables(out, rng):
         ("one", "one"), ("a b", "b a"), ("a b a", "a b a"), ("b a b a", "a b a b"), ("a a a a", "a a"), ("a b c d", "x y z"),
     ]:
         out.ask("score", 0, out.lines(t), hexed(t), hexed(licence))
-    for _ in range(120):
-        stored = compare.shelf(rng)
-        t = compare.note(rng, stored, 12)
-        n = out.lines(t)
-        view = compare.any_view(rng, n) if rng.random() < 0.4 else (0, n)
-        out.ask("score", *view, hexed(t), hexed(rng.choice(stored).text))
+    of_made_texts(out, rng, "score", 120, 12)
     for whole in licences():
         lines = whole.split("\n")
         t = piece(rng, lines, 900)
@@ -267,12 +272,7 @@ def replay_scans(out, rng):
             out.ask("countdown", f"{NINETY:08x} {ONE:08x} {step}", WHOLE, hexed(t))
 
     out.heading("bounds")
-    for _ in range(60):
-        stored = compare.shelf(rng)
-        t = compare.note(rng, stored, 14)
-        n = out.lines(t)
-        view = compare.any_view(rng, n) if rng.random() < 0.4 else (0, n)
-        out.ask("countbounds", *view, hexed(t), hexed(rng.choice(stored).text))
+    of_made_texts(out, rng, "countbounds", 60, 14)
 
     out.heading("scans of made texts")
     for _ in range(25):
