@@ -1,6 +1,7 @@
 -- The best of the book's texts: the better of two, and the walk over all.
 --     better-none, better-more, better-less     the three arms
---     Walking                                   the texts still to come, paid from what is left, are the whole paid from the budget
+--     Walking                                   the texts still to come, paid from what is left, are the whole paid from the budget;
+--                                               past the first, the best is one of the book's texts
 --     walk-first, walk-step                     before the first text, and past one that is scored
 --     walk-out, walk-end                        the two answers
 --     best-done                                 over the table of a view it is the view's best
@@ -9,7 +10,7 @@ use mathlib.Core.Path.{_≡_, refl, sym, ap, ap₂, _∙_}
 use mathlib.Core.Bool.{Bool, true, false, _||_, cond}
 use mathlib.Core.List.{List}
 use mathlib.Core.Option.{Option}
-use Prim.Native.Nat.{ℕ, suc, _+_, _-_, _≤_, _<_}
+use Prim.Native.Nat.{ℕ, zero, suc, _+_, _-_, _≤_, _<_}
 use native.Mathlib.Numerals.{add-one}
 use native.Mathlib.Omega.{arith}
 use lib.Dec.{eqb}
@@ -26,7 +27,7 @@ use Rattle.rules.specs.Book.{stored, sound, number, tableIn, entriesOf, pieces,
 use Rattle.detection.specs.declared.texts.Text.{Text}
 use Rattle.detection.specs.declared.texts.Place.{Place}
 use Rattle.detection.specs.Texts.{part, Before, TextIs, Found, firstPlace, afterText}
-use Rattle.detection.proofs.TextLaws.{before-first}
+use Rattle.detection.proofs.TextLaws.{before-first, found-at}
 use Rattle.preproc_lines.specs.Entries.{linesAt}
 use Rattle.license.specs.Ready.{Held, tableOfBody}
 use Rattle.license.specs.Pay.{pay}
@@ -34,7 +35,7 @@ use Rattle.license.proofs.PayLaws.{pay-done, pay-one, pay-none}
 use Rattle.detect.specs.declared.Best.{Best}
 use Rattle.detect.specs.declared.Chosen.{Chosen}
 use Rattle.detect.specs.declared.Chosen.the-variants as chosen
-use Rattle.detect.specs.Bests.{textIn, bestIn, chosenIn, Betters, BestOf, BestDone}
+use Rattle.detect.specs.Bests.{textIn, bestIn, chosenIn, Stands, ChosenStands, Betters, BestOf, BestDone}
 
 -- the text found is the definition's
 pub text-is : (book : List ℕ) (t : Stored) (r : Text) → TextIs book t r → textIn book r ≡ t
@@ -78,6 +79,8 @@ none-is book = refl
 pub record Walking (book : List ℕ) (table : Table) (budget : ℕ) (best : Best) (left : ℕ) (place : Place) : Type 0 where
   pub before : Before book place
   pub paid : (v : View) → pay (bestFrom table v (drop (place .number) (stored book)) (bestIn book best)) left ≡ pay (bestFrom table v (stored book) noBest) budget
+  pub none-yet : place .number ≡ 0 → best .text .kind ≡ 0
+  pub stands : 0 < place .number → Stands book (best .text)
 
 pub walk-first : (book : List ℕ) (table : Table) (budget : ℕ) (best : Best) (place : Place) → sound book ≡ true → best ≡ noneYet → place ≡ firstPlace →
     Walking book table budget best budget place
@@ -85,6 +88,8 @@ walk-first book table budget best place s b p =
     rw (b, p) (record {
       before = before-first book s;
       paid = λ v. ap (λ (x : rules.Best). pay (bestFrom table v (stored book) x) budget) (none-is book);
+      none-yet = λ z. refl;
+      stands = λ (l : 0 < 0). absurd (omega (arith, l));
     })
 
 module _ {book : List ℕ} {table : Table} {budget : ℕ} {best : Best} {left : ℕ} {place : Place}
@@ -128,28 +133,42 @@ module _ {book : List ℕ} {table : Table} {budget : ℕ} {best : Best} {left : 
             sym (pay-one (scored table v next) (λ x. on v x) (once v) left k) ∙
             ap (λ (m : Made rules.Best). pay m left) (sym (split v l)) ∙
             w .paid v;
+        none-yet = λ z. omega (arith, z);
+        stands = λ u. b .stands book (one-of f) (λ some. w .stands (first some));
       })
     where
       up : text .number ≡ place .number → text .number + 1 ≡ suc (place .number)
       up e = add-one (text .number) ∙ ap suc e
 
+      one-of : Found book (place .number) text → Stands book text
+      one-of f = record { found = found-at (sym (f .numbered)) f; inside = omega (arith, f .numbered) }
+
+      first : (best .text .kind ≡ 0 → ⊥) → 0 < place .number
+      first some = at (place .number) refl
+        where
+          at : (k : ℕ) → place .number ≡ k → 0 < place .number
+          at zero e = absurd (some (w .none-yet e))
+          at (suc k) e = omega (arith, e)
+
   -- a text to come, and nothing left
   pub walk-out : place .number < texts → left ≡ 0 → BestOf book table budget chosen.Out
-  unfolding chosenIn
+  unfolding chosenIn ChosenStands
   walk-out l z =
       record {
         is = λ v. sym (sym (w .paid v) ∙ ap (λ (m : Made rules.Best). pay m left) (split v l) ∙
             ap (λ (n : ℕ). pay (scored table v next >>= λ x. on v x) n) z ∙ pay-none (scored table v next) (λ x. on v x) (once v));
+        stands = λ u. tt;
       }
 
   -- all are scored
   pub walk-end : texts ≤ place .number → BestOf book table budget (chosen.Found best left)
-  unfolding chosenIn bestFrom
+  unfolding chosenIn ChosenStands bestFrom
   walk-end l =
       record {
         is = λ v. sym (sym (w .paid v) ∙
             ap (λ (ss : List Stored). pay (bestFrom table v ss (bestIn book best)) left) (drop-of-length-le (stored book) {i = place .number} (omega arith)) ∙
             pay-done (bestIn book best) left);
+        stands = λ u. w .stands (omega (arith, u));
       }
 
 -- ---- the best text of a view
@@ -160,5 +179,6 @@ unfolding rules.best
 best-done n lines area₀ words₀ area words v book budget r table b e h =
     record {
       is = b .is v ∙ ap (λ (t : Table). pay (bestFrom t v (stored book) noBest) budget) e;
+      stands = b .stands;
       held = h;
     }

@@ -217,8 +217,8 @@ module _ (p : Place) (kind start end : ℕ) where
 pub found-at : {book : List ℕ} {k n : ℕ} {r : Text} → k ≡ n → Found book k r → Found book n r
 found-at {book} {k} {n} {r} e f = subst (λ (m : ℕ). Found book m r) e f
 
--- ---- its name's length, in a sound book
-each-at : {A : Type 0} (P : A → Type 0) (l : List A) (k : ℕ) (d : A) → k < length l → Each P l → P (getD l k d)
+-- ---- what holds of each text; its name's length, in a sound book
+pub each-at : {A : Type 0} (P : A → Type 0) (l : List A) (k : ℕ) (d : A) → k < length l → Each P l → P (getD l k d)
 each-at P [] k d h e = absurd (not-suc-le-zero h)
 each-at P (x ∷ xs) zero d h e = e .0
 each-at P (x ∷ xs) (suc k) d h e = each-at P xs k d (le-of-suc-le-suc h) (e .1)
