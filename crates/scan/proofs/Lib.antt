@@ -1,2 +1,5 @@
 pub mod RunLaws
+pub mod GoingLaws
+pub mod ValueLaws
+pub mod PassLaws
 pub mod WalkLaws

@@ -8,7 +8,8 @@ use Prim.Native.Nat.{ℕ, zero, suc, _+_, _-_, _≤_, _<_}
 use native.Mathlib.Nat.{sub-zero}
 use native.Mathlib.Omega.{arith}
 use lib.Dec.{leb, leb·zero}
-use lib.ListN.{length, length-append}
+use lib.ListN.{length, take, drop, set, length-append}
+use lib.Seq.{sets-eq}
 use lib.Ieee.{toBits, binary32}
 use borrow.Author.Tests.{leb-true, leb-false, le-leb, lt-leb}
 use Rattle.rules.specs.Search.{Made, Best}
@@ -99,3 +100,12 @@ end-written b = refl
 pub end-left : (b : ℕ) → leftOver b [] ≡ some b
 unfolding leftOver scorings
 end-left b = simp (leb·zero, sub-zero)
+
+-- ---- four numbers written one behind the other
+pub four-set : (l : List ℕ) (at a b c d : ℕ) → at + 4 ≤ length l →
+    set (set (set (set l at a) (at + 1) b) (at + 2) c) (at + 3) d ≡ take at l ++ (a ∷ b ∷ c ∷ d ∷ []) ++ drop (at + 4) l
+four-set l at a b c d h =
+    let e : at + 1 ≡ suc at = omega arith in
+    let f : at + 2 ≡ suc (suc at) = omega arith in
+    let g : at + 3 ≡ suc (suc (suc at)) = omega arith in
+    rw (e, f, g) (sets-eq (a ∷ b ∷ c ∷ d ∷ []) l at h)

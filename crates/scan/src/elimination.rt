@@ -1,0 +1,98 @@
+// Elimination: the best stored text of the whole note; then, pass by pass, its bounds, a record, the lines in range made blank, the best again.
+// From detection/scan.rs of spdx 0.13.6 (Copyright 2018 Amazon.com, Inc. or its affiliates. All Rights Reserved.
+// SPDX-License-Identifier: Apache-2.0), changed: the mode `Elimination`, with every scoring charged. Assumes nothing.
+ghost use mathlib.Core.Path.{_≡_};
+ghost use Prim.Native.Nat.{_≤_};
+ghost use lib.ListN.{length};
+ghost use Rattle.rules.specs.Scan as rules;
+ghost use Rattle.rules.specs.Book.{stored};
+ghost use Rattle.preproc_lines.specs.Entries.{linesAt};
+ghost use Rattle.detect.specs.Bests.{bestIn, Stands};
+ghost use Rattle.scan.specs.Run.{Scanning, BestWithout, written, Ran};
+use crate::ranges::Run;
+use crate::ranges::Scope;
+use crate::ranges::below;
+use crate::ranges::ended;
+use crate::ranges::out_at;
+use crate::ranges::put_record;
+use crate::ranges::text_bounds;
+use crate::ranges::whole_view;
+use detect::Best;
+use detect::Chosen;
+use detect::best_text;
+use license::Ranged;
+use preproc_lines::whole::blank_lines;
+use rules::Bounds;
+
+// The lines in range are made blank; the best text of the whole note, as it then stands.
+fn best_without(
+    class: &[u8; 256],
+    area: &mut [u8],
+    words: &mut [u32],
+    scope: Scope,
+    book: &[u8],
+    range: Bounds,
+    budget: u64,
+) -> Chosen
+    requires { ⌜ Scanning scope (now class) (now area) (now words) (now book) ⌝ }
+    requires { ⌜ (range .first ≤ range .after) × (range .after ≤ scope .lines) ⌝ }
+    ensures { λ r. ⌜ BestWithout scope (now (class .entry)) (now (area .entry)) (now (words .entry)) (now (area .exit)) (now (words .exit)) (now (book .entry)) range budget r ⌝ }
+{
+    let n = scope.n;
+    let lines = scope.lines;
+    let texts = scope.texts;
+    blank_lines(words, range.first, range.after);
+    best_text(
+        class,
+        area,
+        words,
+        n,
+        lines,
+        whole_view(lines),
+        book,
+        texts,
+        budget,
+    )
+}
+
+// Up to p passes, from the best text of the note as it stands.
+pub fn each_pass(
+    class: &[u8; 256],
+    area: &mut [u8],
+    words: &mut [u32],
+    scope: Scope,
+    book: &[u8],
+    p: u16,
+    first: Best,
+    results: &mut [u32],
+    budget: u64,
+) -> Run
+    requires { ⌜ Scanning scope (now class) (now area) (now words) (now book) ⌝ }
+    requires { ⌜ Stands (now book) (first .text) ⌝ }
+    requires { ⌜ length (written budget (rules.eachPass (scope .limits) (stored (now book)) p (linesAt (now area) (now words) (scope .lines)) (bestIn (now book) first))) ≤ length (now results) ⌝ }
+    ensures { λ r. ⌜ Ran (rules.eachPass (scope .limits) (stored (now (book .entry))) p (linesAt (now (area .entry)) (now (words .entry)) (scope .lines)) (bestIn (now (book .entry)) first)) budget (now (results .entry)) (now (results .exit)) r ⌝ }
+{
+    let v = whole_view(scope.lines);
+    let mut best = first;
+    let mut left = budget;
+    let mut k: usize = 0;
+    while k < p as usize {
+        let text = best.text;
+        let Ranged::Found(range, paid) = text_bounds(class, area, words, scope, v, book, text, left)
+        else {
+            return out_at(k);
+        };
+        if below(scope.limits, range) {
+            return ended(k, paid);
+        }
+        put_record(results, k, text.number, range);
+        k += 1;
+        let Chosen::Found(next, rest) = best_without(class, area, words, scope, book, range, paid)
+        else {
+            return out_at(k);
+        };
+        best = next;
+        left = rest;
+    }
+    ended(k, left)
+}
