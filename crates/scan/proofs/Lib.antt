@@ -1,5 +1,8 @@
 pub mod RunLaws
 pub mod GoingLaws
 pub mod ValueLaws
+pub mod HeldLaws
 pub mod PassLaws
 pub mod WalkLaws
+pub mod RoundLaws
+pub mod DownRunLaws

@@ -37,43 +37,13 @@ use Rattle.detect.specs.declared.Chosen.the-variants as chosen
 use Rattle.detect.specs.Bests.{textIn, bestIn, chosenIn, Stands, ChosenStands, BestDone}
 use Rattle.scan.specs.declared.ranges.Run.{Run}
 use Rattle.scan.specs.declared.ranges.Scope.{Scope}
-use Rattle.scan.specs.Run.{written, leftOver, runOf, Scanning, RangeDone, BestWithout, Ran}
+use Rattle.scan.specs.Run.{written, leftOver, runOf, Scanning, RangeDone, BestWithout, RangeFits, Ran}
 use Rattle.scan.proofs.RunLaws.{paid-is}
 use Rattle.scan.proofs.ValueLaws.{bounds-unit, stands-sound}
+use Rattle.scan.proofs.HeldLaws.{range-out, range-found, fits-of}
 use Rattle.scan.proofs.GoingLaws.{Going, going-first, going-as, going-paid, going-out, going-room, going-found, going-end, four}
 
--- ---- what the answers of bounds say of what was paid
-pub range-out : (o : Option (Paid Bounds)) → ranged.Out ≡ rangedOf o → o ≡ none
-unfolding rangedOf
-range-out none e = refl
-range-out (some p) e = absurd (let z : _≡_ {A = ℕ} 0 1 = cc in omega arith)
-
-pub range-found : (o : Option (Paid Bounds)) (x : Bounds) (left : ℕ) → ranged.Found x left ≡ rangedOf o → o ≡ some (record { value = x; left = left })
-unfolding rangedOf
-range-found none x left e = absurd (let z : _≡_ {A = ℕ} 0 1 = cc in omega arith)
-range-found (some p) x left e =
-    let v : p .value ≡ x = cc in
-    let l : p .left ≡ left = cc in
-    simp (sym v, sym l)
-
--- ---- bounds that are paid lie in their view, and score from 0.0 to 1.0
-pub record Fits (lines : ℕ) (range : Bounds) : Type 0 where
-  pub order : range .first ≤ range .after
-  pub high : range .after ≤ lines
-  pub unit : T (unit (range .value .score))
-
--- ---- areas that still hold the same lines
-pub scanning-held : {scope : Scope} {class area₀ words₀ area words book : List ℕ} →
-    Scanning scope class area₀ words₀ book → Held (scope .n) (scope .lines) area₀ words₀ area words → Scanning scope class area words book
-scanning-held s h = record {
-  classes = s .classes;
-  laid = h .laid;
-  few = s .few;
-  sound = s .sound;
-  texts = s .texts;
-  some-text = s .some-text;
-}
-
+-- ---- the best of what white-out leaves, of areas that still hold the same lines
 pub without-held : {scope : Scope} {class area₀ words₀ area₁ words₁ area words book : List ℕ} {range : Bounds} {budget : ℕ} {r : Chosen} →
     Held (scope .n) (scope .lines) area₀ words₀ area₁ words₁ → BestWithout scope class area₁ words₁ area words book range budget r →
     BestWithout scope class area₀ words₀ area words book range budget r
@@ -199,16 +169,9 @@ module _ {scope : Scope} {class area₀ words₀ book r₀ : List ℕ} {p budget
         going-paid made (told range) (record { value = range; left = rest }) paid
         (going-as (split l ∙ ap (λ (x : Bounds). after (made .list) (told x)) is) (i .going))
 
-    pub pass-fits : Fits (scope .lines) range
+    pub pass-fits : RangeFits (scope .lines) range
     unfolding whole linesAt
-    pass-fits =
-        let inside = bounds-in ls (whole ls) text (omega arith) in
-        let laid = i .ready .laid in
-        subst (Fits (scope .lines)) is (record {
-          order = inside .1;
-          high = omega (arith, inside .2, lines-length area words 0 (scope .lines));
-          unit = bounds-unit ls (scope .n) (whole ls) text (laid .small) (laid .bytes) (stands-sound book (best .text) (i .ready .sound) (i .stands));
-        })
+    pass-fits = fits-of (i .ready) (whole ls) (best .text) (omega arith) (omega (arith, lines-length area words 0 (scope .lines))) (i .stands) range is
 
     pub pass-below : (x : Run) → below lim range ≡ true → x ≡ runOf k (some rest) → Ran all budget r₀ r x
     pass-below x b q = going-end x q (going-as (low b) past)

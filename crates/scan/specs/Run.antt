@@ -6,7 +6,7 @@ use Prim.Native.Nat.{ℕ, _-_, _*_, _≤_, _<_}
 use mathlib.Core.Bool.{Bool, true, false, cond}
 use mathlib.Core.List.{List}
 use mathlib.Core.Option.{Option, none, some}
-use lib.Dec.{leb}
+use lib.Dec.{T, leb}
 use lib.ListN.{length}
 use Rattle.lists.specs.Wrote.{Wrote}
 use Rattle.rules.specs.declared.View.{View}
@@ -15,6 +15,7 @@ use Rattle.rules.specs.declared.Bounds.{Bounds}
 use Rattle.rules.specs.Search.{bounds, blank, whole, best}
 use Rattle.rules.specs.Scan.{Event, afford, scorings, records, numbers}
 use Rattle.rules.specs.Book.{sound, stored}
+use Rattle.rules.specs.Refusal.{unit}
 use Rattle.slices.specs.Classes.{classTable}
 use Rattle.preproc_lines.specs.Entries.{linesAt}
 use Rattle.license.specs.declared.Ranged.{Ranged}
@@ -47,6 +48,12 @@ pub record Scanning (scope : Scope) (class area words book : List ℕ) : Type 0 
 pub record RangeDone (scope : Scope) (class area₀ words₀ area words : List ℕ) (v : View) (book : List ℕ) (text : Text) (budget : ℕ) (r : Ranged) : Type 0 where
   pub is : r ≡ rangedOf (pay (bounds (linesAt area₀ words₀ (scope .lines)) v (textIn book text)) budget)
   pub held : Held (scope .n) (scope .lines) area₀ words₀ area words
+
+-- a range of the lines, with a score from 0.0 to 1.0
+pub record RangeFits (lines : ℕ) (range : Bounds) : Type 0 where
+  pub order : range .first ≤ range .after
+  pub high : range .after ≤ lines
+  pub unit : T (unit (range .value .score))
 
 -- the best of all lines, those in range made blank, paid from the budget; the areas hold these lines
 pub record BestWithout (scope : Scope) (class area₀ words₀ area words book : List ℕ) (range : Bounds) (budget : ℕ) (r : Chosen) : Type 0 where

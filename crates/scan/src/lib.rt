@@ -3,3 +3,5 @@
 // SPDX-License-Identifier: Apache-2.0), changed. Assumes nothing.
 pub mod elimination;
 pub mod ranges;
+pub mod top_down;
+pub mod views;

@@ -26,8 +26,10 @@ best-text-requires c κs =
     let s = start .pre .0 in
     let blanked = c .before .before .before .before .before .blank-lines in (
       (s .classes, laid-blank (s .laid) (blanked .ensures) (blanked .kept .0)),
-      (subst (λ (w : View). (w .start ≤ w .end) × (w .end ≤ start .args .scope .lines)) (sym (c .whole-view .ensures)) (omega arith, omega arith),
-        (s .sound, s .texts)),
+      (
+        subst (λ (w : View). (w .start ≤ w .end) × (w .end ≤ start .args .scope .lines)) (sym (c .whole-view .ensures)) (omega arith, omega arith),
+        (s .sound, s .texts),
+      ),
     )
 
 same-length : tie.Need-same-length

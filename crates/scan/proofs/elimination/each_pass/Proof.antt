@@ -7,7 +7,8 @@ use native.Mathlib.Omega.{arith}
 use borrow.Author.Needs.{needs}
 use Rattle.rules.specs.declared.View.{View}
 use Rattle.detect.specs.Bests.{textIn}
-use Rattle.scan.proofs.PassLaws.{Passing, pass-first, pass-out, pass-fits, pass-below, pass-room, pass-found, pass-out-again, pass-again, pass-end, scanning-held, without-held, without-out}
+use Rattle.scan.proofs.HeldLaws.{scanning-held}
+use Rattle.scan.proofs.PassLaws.{Passing, pass-first, pass-out, pass-fits, pass-below, pass-room, pass-found, pass-out-again, pass-again, pass-end, without-held, without-out}
 use Rattle.scan.proofs.elimination.each_pass.Statement.{statement}
 use Rattle.scan.proofs.elimination.each_pass.Tie as tie
 
@@ -30,8 +31,10 @@ text-bounds-requires : tie.Need-text-bounds-requires Inv-loop μ-loop
 text-bounds-requires c κs =
     let i = c .before .before .before .before .loop .inv in (
       i .ready,
-      (subst (λ (w : View). (w .start ≤ w .end) × (w .end ≤ c .before .before .before .before .before .before .before .before .before .before .args .scope .lines)) (sym (c .before .before .before .before .before .whole-view .ensures)) (omega arith, omega arith),
-        i .stands),
+      (
+        subst (λ (w : View). (w .start ≤ w .end) × (w .end ≤ c .before .before .before .before .before .before .before .before .before .before .args .scope .lines)) (sym (c .before .before .before .before .before .whole-view .ensures)) (omega arith, omega arith),
+        i .stands,
+      ),
     )
 
 enum-known-range : tie.Need-enum-known-range Inv-loop μ-loop

@@ -1,0 +1,115 @@
+// Top-down: from line c on, the latest view that reaches the threshold is bounded and recorded, and c goes on behind its last line.
+// From detection/scan.rs of spdx 0.13.6 (Copyright 2018 Amazon.com, Inc. or its affiliates. All Rights Reserved.
+// SPDX-License-Identifier: Apache-2.0), changed: the mode `TopDown`, with every scoring charged. Assumes nothing.
+ghost use mathlib.Core.Path.{_≡_};
+ghost use Prim.Native.Nat.{_≤_, _<_};
+ghost use lib.ListN.{length};
+ghost use Rattle.rules.specs.Book.{stored};
+ghost use Rattle.rules.specs.Scan as rules;
+ghost use Rattle.preproc_lines.specs.Entries.{linesAt};
+ghost use Rattle.scan.specs.Run.{Scanning, written, Ran};
+ghost use Rattle.scan.specs.Down.{latestIn, LatestStands, Contains};
+use crate::ranges::Run;
+use crate::ranges::Scope;
+use crate::ranges::below;
+use crate::ranges::ended;
+use crate::ranges::out_at;
+use crate::ranges::put_record;
+use crate::ranges::text_bounds;
+use crate::views::Latest;
+use crate::views::Walked;
+use crate::views::walk_starts;
+use detection::texts::Text;
+use license::Ranged;
+use rules::Bounds;
+
+// What a round finds: the budget is out; nothing; or a text and its range. With the scorings left.
+pub enum Contained {
+    Out,
+    Nothing(u64),
+    Found(Text, Bounds, u64),
+}
+
+// The bounds of the pair against its text; below the threshold it is nothing.
+fn settle(
+    class: &[u8; 256],
+    area: &mut [u8],
+    words: &mut [u32],
+    scope: Scope,
+    book: &[u8],
+    latest: Latest,
+    budget: u64,
+) -> Contained
+    requires { ⌜ Scanning scope (now class) (now area) (now words) (now book) ⌝ }
+    requires { ⌜ LatestStands (now book) (scope .lines) latest ⌝ }
+    ensures { λ r. ⌜ Contains scope (now (area .entry)) (now (words .entry)) (now (area .exit)) (now (words .exit)) (now (book .entry)) (λ ss ls. rules.settled (scope .limits) ls (latestIn (now (book .entry)) latest)) budget r ⌝ }
+{
+    let Latest::Pair(v, text) = latest else {
+        return Contained::Nothing(budget);
+    };
+    let Ranged::Found(range, left) = text_bounds(class, area, words, scope, v, book, text, budget)
+    else {
+        return Contained::Out;
+    };
+    if below(scope.limits, range) {
+        return Contained::Nothing(left);
+    }
+    Contained::Found(text, range, left)
+}
+
+// The range that is found from line c on.
+fn find_contained(
+    class: &[u8; 256],
+    area: &mut [u8],
+    words: &mut [u32],
+    scope: Scope,
+    c: usize,
+    step: u64,
+    book: &[u8],
+    budget: u64,
+) -> Contained
+    requires { ⌜ Scanning scope (now class) (now area) (now words) (now book) ⌝ }
+    requires { ⌜ (c ≤ scope .lines) × (0 < step) ⌝ }
+    ensures { λ r. ⌜ Contains scope (now (area .entry)) (now (words .entry)) (now (area .exit)) (now (words .exit)) (now (book .entry)) (λ ss ls. rules.contained (scope .limits) step ss ls c) budget r ⌝ }
+{
+    match walk_starts(class, area, words, scope, c, step, book, budget) {
+        Walked::Out => Contained::Out,
+        Walked::On(latest, left) => settle(class, area, words, scope, book, latest, left),
+        Walked::Over(latest, left) => settle(class, area, words, scope, book, latest, left),
+    }
+}
+
+// Round by round: c strictly rises, since a range ends at c or behind it.
+pub fn top_down(
+    class: &[u8; 256],
+    area: &mut [u8],
+    words: &mut [u32],
+    scope: Scope,
+    step: u64,
+    book: &[u8],
+    results: &mut [u32],
+    budget: u64,
+) -> Run
+    requires { ⌜ Scanning scope (now class) (now area) (now words) (now book) ⌝ }
+    requires { ⌜ 0 < step ⌝ }
+    requires { ⌜ length (written budget (rules.topDown (scope .limits) step (stored (now book)) (linesAt (now area) (now words) (scope .lines)))) ≤ length (now results) ⌝ }
+    ensures { λ r. ⌜ Ran (rules.topDown (scope .limits) step (stored (now (book .entry))) (linesAt (now (area .entry)) (now (words .entry)) (scope .lines))) budget (now (results .entry)) (now (results .exit)) r ⌝ }
+{
+    let lines = scope.lines;
+    let mut left = budget;
+    let mut c: usize = 0;
+    let mut k: usize = 0;
+    while c < lines {
+        match find_contained(class, area, words, scope, c, step, book, left) {
+            Contained::Out => return out_at(k),
+            Contained::Nothing(rest) => return ended(k, rest),
+            Contained::Found(text, range, rest) => {
+                put_record(results, k, text.number, range);
+                k += 1;
+                c = range.after + 1;
+                left = rest;
+            }
+        }
+    }
+    ended(k, left)
+}
