@@ -71,7 +71,7 @@ module _ (book : List ℕ) (best next : Best) where
 abbrev pub noneYet : Best
 noneYet = record { text = record { number = 0; kind = 0; name = 0; past = 0; body = 0; end = 0 }; value = record { score = nought; m = 0; t = 0 } }
 
-none-is : (book : List ℕ) → bestIn book noneYet ≡ noBest
+pub none-is : (book : List ℕ) → bestIn book noneYet ≡ noBest
 unfolding bestIn textIn noBest noText tableIn entriesOf pieces recurse turns goOn front number
 none-is book = refl
 

@@ -6,3 +6,4 @@ pub mod PassLaws
 pub mod WalkLaws
 pub mod RoundLaws
 pub mod DownRunLaws
+pub mod EndLaws

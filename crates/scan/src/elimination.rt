@@ -3,12 +3,15 @@
 // SPDX-License-Identifier: Apache-2.0), changed: the mode `Elimination`, with every scoring charged. Assumes nothing.
 ghost use mathlib.Core.Path.{_≡_};
 ghost use Prim.Native.Nat.{_≤_};
+ghost use mathlib.Core.Bool.{_&&_};
+ghost use lib.Ieee.{lt};
 ghost use lib.ListN.{length};
 ghost use Rattle.rules.specs.Scan as rules;
 ghost use Rattle.rules.specs.Book.{stored};
 ghost use Rattle.preproc_lines.specs.Entries.{linesAt};
 ghost use Rattle.detect.specs.Bests.{bestIn, Stands};
 ghost use Rattle.scan.specs.Run.{Scanning, BestWithout, written, Ran};
+ghost use Rattle.scan.specs.Ended.{Eliminated};
 use crate::ranges::Run;
 use crate::ranges::Scope;
 use crate::ranges::below;
@@ -20,9 +23,11 @@ use crate::ranges::whole_view;
 use detect::Best;
 use detect::Chosen;
 use detect::best_text;
+use detect::no_best;
 use license::Ranged;
 use preproc_lines::whole::blank_lines;
 use rules::Bounds;
+use rules::Limits;
 
 // The lines in range are made blank; the best text of the whole note, as it then stands.
 fn best_without(
@@ -95,4 +100,64 @@ pub fn each_pass(
         left = rest;
     }
     ended(k, left)
+}
+
+// The best text of a note, and how the passes over it ended.
+pub struct Outcome {
+    pub best: Best,
+    pub run: Run,
+}
+
+// Named, and strictly above the shallow limit: no pass is needed.
+fn stops(limits: Limits, best: Best) -> bool
+    ensures { λ r. ⌜ r ≡ (lt (limits .threshold) (best .value .score) && lt (limits .shallow) (best .value .score)) ⌝ }
+{
+    let value = best.value;
+    if limits.threshold < value.score {
+        return limits.shallow < value.score;
+    }
+    false
+}
+
+// With `optimize`, up to p passes follow the best text of the note.
+pub fn elimination(
+    class: &[u8; 256],
+    area: &mut [u8],
+    words: &mut [u32],
+    scope: Scope,
+    optimize: bool,
+    p: u16,
+    book: &[u8],
+    results: &mut [u32],
+    budget: u64,
+) -> Outcome
+    requires { ⌜ Scanning scope (now class) (now area) (now words) (now book) ⌝ }
+    requires { ⌜ length (written budget (rules.elimination (scope .limits) optimize p (stored (now book)) (linesAt (now area) (now words) (scope .lines)))) ≤ length (now results) ⌝ }
+    ensures { λ r. ⌜ Eliminated (rules.elimination (scope .limits) optimize p (stored (now (book .entry))) (linesAt (now (area .entry)) (now (words .entry)) (scope .lines))) budget (now (book .entry)) (now (results .entry)) (now (results .exit)) r ⌝ }
+{
+    let n = scope.n;
+    let lines = scope.lines;
+    let texts = scope.texts;
+    let v = whole_view(lines);
+    let Chosen::Found(best, left) = best_text(class, area, words, n, lines, v, book, texts, budget)
+    else {
+        return Outcome {
+            best: no_best(),
+            run: out_at(0),
+        };
+    };
+    if stops(scope.limits, best) {
+        return Outcome {
+            best,
+            run: ended(0, left),
+        };
+    }
+    if !optimize {
+        return Outcome {
+            best,
+            run: ended(0, left),
+        };
+    }
+    let run = each_pass(class, area, words, scope, book, p, best, results, left);
+    Outcome { best, run }
 }

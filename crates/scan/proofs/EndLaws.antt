@@ -1,0 +1,172 @@
+-- Elimination as a whole: the best text, and the passes that follow it.
+--     verdict-out, verdict-paid         the overall best, where the budget does not pay it and where it does
+--     whole-out                         the best is not paid
+--     whole-stop, whole-room, whole-on  it is paid, and no pass follows, or passes do
+-- Assumes nothing.
+use mathlib.Core.Path.{_≡_, refl, sym, ap, _∙_, subst}
+use mathlib.Core.Bool.{Bool, true, false, not, _&&_, _||_, cond}
+use mathlib.Core.List.{List, [], _∷_, _++_}
+use mathlib.Core.Option.{Option, none, some}
+use Prim.Native.Nat.{ℕ, _-_, _*_, _≤_}
+use native.Mathlib.Omega.{arith}
+use lib.Ieee.{lt}
+use lib.ListN.{length, take}
+use Rattle.lists.specs.Wrote.{Wrote}
+use Rattle.rules.specs.declared.Limits.{Limits}
+use Rattle.rules.specs.declared.View.{View}
+use Rattle.rules.specs.Sizes.{recordWidth}
+use Rattle.rules.specs.Search as rules
+use Rattle.rules.specs.Search.{Made, Scoring, view, whole, noBest}
+use Rattle.rules.specs.Scan.{Event, overall, after, afford, verdict, names, stops, eachPass, elimination}
+use Rattle.rules.specs.Book.{stored, sound}
+use Rattle.rules.proofs.BudgetLaws.{afford-whole, afford-part}
+use Rattle.preproc_lines.specs.Entries.{linesAt}
+use Rattle.preproc_lines.proofs.EntryLaws.{lines-length}
+use Rattle.license.specs.Pay.{Paid, pay}
+use Rattle.detection.specs.declared.texts.Text.{Text}
+use Rattle.detection.proofs.TextLaws.{found-name}
+use Rattle.detect.specs.declared.Best.{Best}
+use Rattle.detect.specs.declared.Chosen.the-variants as chosen
+use Rattle.detect.specs.Bests.{bestIn, chosenIn, Stands, ChosenStands, BestDone}
+use Rattle.detect.proofs.BestLaws.{noneYet, none-is}
+use Rattle.scan.specs.declared.ranges.Run.{Run}
+use Rattle.scan.specs.declared.ranges.Scope.{Scope}
+use Rattle.scan.specs.declared.elimination.Outcome.{Outcome}
+use Rattle.scan.specs.Run.{Scanning, written, leftOver, runOf, Ran}
+use Rattle.scan.specs.Ended.{NameFits, Eliminated}
+use Rattle.scan.proofs.RunLaws.{paid-is, unpaid-is, paid-written, paid-left, overall-written, overall-left}
+use Rattle.scan.proofs.GoingLaws.{going-first, going-as, going-out, going-end}
+
+-- ---- the overall best
+verdict-after : (ss : List Scoring) (es : List Event) → verdict (after ss es) ≡ verdict es
+unfolding after verdict
+verdict-after [] es = refl
+verdict-after (s ∷ ss) es = verdict-after ss es
+
+module _ {A : Type 0} (m : Made A) (b : ℕ) where
+  pub verdict-out : (es : List Event) → pay m b ≡ none → verdict (afford b (after (m .list) es)) ≡ noBest
+  unfolding verdict
+  verdict-out es h = ap verdict (afford-part b (m .list) es (unpaid-is m b h)) ∙ verdict-after (take b (m .list)) []
+
+  pub verdict-paid : (p : Paid A) (x : rules.Best) (es : List Event) → pay m b ≡ some p → verdict (afford b (after (m .list) (overall x ∷ es))) ≡ x
+  unfolding afford verdict
+  verdict-paid p x es h =
+      ap verdict (afford-whole b (m .list) (overall x ∷ es) (paid-is m b p h .2)) ∙ verdict-after (m .list) (afford (b - length (m .list)) (overall x ∷ es))
+
+-- ---- names
+pub stands-name : {book : List ℕ} {t : Text} → sound book ≡ true → Stands book t → NameFits book t
+stands-name {book} {t} s h = record {
+  order = h .found .is .name-from;
+  high = h .found .is .name-to;
+  most = found-name book (t .number) t s (h .inside) (h .found) .1;
+}
+
+none-name : (book : List ℕ) → NameFits book (noneYet .text)
+none-name book = record { order = omega arith; high = omega arith; most = omega arith }
+
+-- ---- the whole
+module _ {scope : Scope} {class area₀ words₀ book : List ℕ} (s : Scanning scope class area₀ words₀ book) (optimize : Bool) (p budget : ℕ) (r₀ : List ℕ)
+    (room : length (written budget (elimination (scope .limits) optimize p (stored book) (linesAt area₀ words₀ (scope .lines)))) ≤ length r₀) where
+  abbrev lim : Limits
+  lim = scope .limits
+
+  abbrev ls : List (List ℕ)
+  ls = linesAt area₀ words₀ (scope .lines)
+
+  abbrev made : Made rules.Best
+  made = rules.best (stored book) ls (whole ls)
+
+  abbrev pub all : List Event
+  all = elimination lim optimize p (stored book) ls
+
+  abbrev more : rules.Best → List Event
+  more b = cond (stops lim b || not optimize) [] (eachPass lim (stored book) p ls b)
+
+  split : all ≡ after (made .list) (overall (made .value) ∷ more (made .value))
+  unfolding elimination
+  split = refl
+
+  -- the best of the whole, as the code asks it
+  asked : (v : View) → v ≡ view 0 (scope .lines) → rules.best (stored book) ls v ≡ made
+  unfolding whole linesAt
+  asked v e = ap (rules.best (stored book) ls) (e ∙ ap (view 0) (sym (lines-length area₀ words₀ 0 (scope .lines))))
+
+  module _ {area words : List ℕ} (v : View) (e : v ≡ view 0 (scope .lines)) where
+    pub whole-out : (x : Outcome) → BestDone (scope .n) (scope .lines) area₀ words₀ area words v book budget chosen.Out → x .best ≡ noneYet → x .run ≡ runOf 0 none →
+        Eliminated all budget book r₀ r₀ x
+    unfolding chosenIn
+    whole-out x d b q =
+        let out : pay made budget ≡ none = ap (λ (m : Made rules.Best). pay m budget) (sym (asked v e)) ∙ sym (d .is) in
+        record {
+          best = ap (bestIn book) b ∙ none-is book ∙ sym (ap (λ (es : List Event). verdict (afford budget es)) split ∙ verdict-out made budget _ out);
+          name = subst (λ (y : Best). NameFits book (y .text)) (sym b) (none-name book);
+          ran = going-out made (overall (made .value) ∷ more (made .value)) (x .run) out q (going-as split (going-first all budget r₀ room));
+        }
+
+    module _ (best : Best) (left : ℕ) (d : BestDone (scope .n) (scope .lines) area₀ words₀ area words v book budget (chosen.Found best left)) where
+      paid : pay made budget ≡ some (record { value = bestIn book best; left = left })
+      unfolding chosenIn
+      paid = ap (λ (m : Made rules.Best). pay m budget) (sym (asked v e)) ∙ sym (d .is)
+
+      is : made .value ≡ bestIn book best
+      is = sym (paid-is made budget (record { value = bestIn book best; left = left }) paid .0)
+
+      pub best-stands : Stands book (best .text)
+      unfolding ChosenStands
+      best-stands = d .stands (s .some-text)
+
+      -- what follows the best
+      then : all ≡ after (made .list) (overall (bestIn book best) ∷ more (bestIn book best))
+      then = split ∙ ap (λ (b : rules.Best). after (made .list) (overall b ∷ more b)) is
+
+      writes : written budget all ≡ written left (more (bestIn book best))
+      writes =
+          ap (written budget) then ∙ paid-written made budget (overall (bestIn book best) ∷ more (bestIn book best)) (record { value = bestIn book best; left = left }) paid ∙
+          overall-written left (bestIn book best) (more (bestIn book best))
+
+      leaves : leftOver budget all ≡ leftOver left (more (bestIn book best))
+      leaves =
+          ap (leftOver budget) then ∙ paid-left made budget (overall (bestIn book best) ∷ more (bestIn book best)) (record { value = bestIn book best; left = left }) paid ∙
+          overall-left left (bestIn book best) (more (bestIn book best))
+
+      -- a run of what follows is a run of the whole
+      ended-as : {r : List ℕ} (x : Outcome) → x .best ≡ best → Ran (more (bestIn book best)) left r₀ r (x .run) → Eliminated all budget book r₀ r x
+      ended-as {r} x b a = record {
+        best = ap (bestIn book) b ∙ sym (ap (λ (es : List Event). verdict (afford budget es)) then ∙
+            verdict-paid made budget (record { value = bestIn book best; left = left }) (bestIn book best) (more (bestIn book best)) paid);
+        name = subst (λ (y : Best). NameFits book (y .text)) (sym b) (stands-name (s .sound) best-stands);
+        ran = record {
+          wrote = subst (λ (l : List ℕ). Wrote l r₀ (recordWidth * x .run .records) r) (sym writes) (a .wrote);
+          run = a .run ∙ ap (runOf (x .run .records)) (sym leaves);
+        };
+      }
+
+      pub whole-stop : (x : Outcome) → stops lim (bestIn book best) || not optimize ≡ true → x .best ≡ best → x .run ≡ runOf 0 (some left) → Eliminated all budget book r₀ r₀ x
+      whole-stop x t b q =
+          ended-as x b (going-end (x .run) q (going-as (none-more t) (going-first (more (bestIn book best)) left r₀ (subst (λ (l : List ℕ). length l ≤ length r₀) writes room))))
+        where
+          none-more : stops lim (bestIn book best) || not optimize ≡ true → more (bestIn book best) ≡ []
+          none-more t = rw t
+
+      module _ (t : stops lim (bestIn book best) || not optimize ≡ false) where
+        -- the passes, over the areas as they stand
+        passes : more (bestIn book best) ≡ eachPass lim (stored book) p (linesAt area words (scope .lines)) (bestIn book best)
+        passes = rw t (ap (λ (ms : List (List ℕ)). eachPass lim (stored book) p ms (bestIn book best)) (sym (d .held .same)))
+
+        pub whole-room : length (written left (eachPass lim (stored book) p (linesAt area words (scope .lines)) (bestIn book best))) ≤ length r₀
+        whole-room = subst (λ (l : List ℕ). length l ≤ length r₀) (writes ∙ ap (written left) passes) room
+
+        pub whole-on : {r : List ℕ} (x : Outcome) → x .best ≡ best → Ran (eachPass lim (stored book) p (linesAt area words (scope .lines)) (bestIn book best)) left r₀ r (x .run) →
+            Eliminated all budget book r₀ r x
+        whole-on {r} x b a = ended-as x b (subst (λ (es : List Event). Ran es left r₀ r (x .run)) (sym passes) a)
+
+-- ---- whether passes follow
+pub stop-by-best : (a b : Bool) → a ≡ true → a || b ≡ true
+stop-by-best a b h = rw h
+
+pub stop-by-setting : (a b : Bool) → b ≡ true → a || b ≡ true
+stop-by-setting true b h = refl
+stop-by-setting false b h = h
+
+pub no-stop : (a b : Bool) → a ≡ false → b ≡ false → a || b ≡ false
+no-stop a b h k = rw (h, k)
