@@ -5,3 +5,4 @@ pub mod RoundLaws
 pub mod BoundLaws
 pub mod ViewLaws
 pub mod ProcessLaws
+pub mod LaidLaws

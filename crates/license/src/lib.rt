@@ -8,6 +8,7 @@ ghost use Rattle.preproc_lines.specs.Entries.{linesAt};
 ghost use Rattle.license.specs.Ready.{Working, Spans, Kept, OfBody, scoreAt};
 ghost use Rattle.license.specs.Found.{Sought, Yields, Bounded};
 
+pub mod notes;
 pub mod views;
 
 use crate::views::Charged;
