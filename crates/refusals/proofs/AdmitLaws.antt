@@ -1,6 +1,7 @@
 -- Rows that are tried one after the other, and what is known of a text, a book, a view, settings and areas that are let through.
 --     check-not, check-none, check-some          the answer of `check`, as the two rows of a book
 --     both-first, both-then                      refusals 1 to 5, then the others
+--     view-most, scan-most                       no refusal before any work is above 10
 --     Through, ViewThrough, ScanThrough          what holds where nothing is refused: `through`, `view-through`, `scan-through`
 -- Assumes nothing.
 use mathlib.Core.Path.{_≡_, refl, sym, ap, _∙_}
@@ -22,7 +23,7 @@ use Rattle.rules.specs.Book as Book
 use Rattle.rules.specs.Book.{stored}
 use Rattle.rules.specs.Refusal.{Row, row, refusal, Areas, small, ofText, ofBook, ofCheck, ofView, beforeScan, unit, stepZero, resultsNeed}
 use Rattle.rules.specs.Jobs.{check, CheckDone}
-use Rattle.rules.proofs.BoolLaws.{and-left, and-right}
+use Rattle.rules.proofs.BoolLaws.{and-left, and-right, cond-of}
 use Rattle.rules.proofs.DownLaws.{Each}
 use Rattle.rules.proofs.RefusalLaws.{refusal-first, refusal-then}
 use Rattle.preproc_lines.specs.declared.test.Tested.{Tested}
@@ -143,6 +144,20 @@ module _ (t book : List ℕ) where
           lines = λ _. h .lines z;
           texts = λ _. h .texts z;
         }
+
+-- ---- no number above those of the rows
+refusal-most : (n : ℕ) (rs : List Row) → Each (λ r. r .number ≤ n) rs → refusal rs ≤ n
+unfolding refusal
+refusal-most n [] h = omega arith
+refusal-most n (r ∷ rs) h = cond-of (λ x. x ≤ n) (r .applies) (r .number) (refusal rs) (h .0) (refusal-most n rs (h .1))
+
+pub view-most : (t book : List ℕ) (v : View) (k : ℕ) (a : Areas) → refusal (ofView t book v k a) ≤ 10
+unfolding ofView ofText ofBook
+view-most t book v k a = refusal-most 10 (ofView t book v k a) (omega arith)
+
+pub scan-most : (t book : List ℕ) (lim : Limits) (mode : Mode) (a : Areas) (results : ℕ) → refusal (beforeScan t book lim mode a results) ≤ 10
+unfolding beforeScan ofText ofBook
+scan-most t book lim mode a results = refusal-most 10 (beforeScan t book lim mode a results) (omega arith)
 
 -- ---- what holds where nothing is refused
 none-first : (rs qs : List Row) → refusal (rs ++ qs) ≡ 0 → refusal rs ≡ 0
