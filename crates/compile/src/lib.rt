@@ -10,6 +10,7 @@ ghost use Rattle.rules.specs.Refusal.{refusal, ofText, beforeCompile};
 ghost use Rattle.rules.specs.Jobs.{CompileDone};
 ghost use Rattle.license.specs.Ready.{Tabled, tableOver};
 ghost use Rattle.compile.specs.Bodied.{Bodied};
+use license::notes::clear;
 use license::notes::lay;
 use license::views::Viewed;
 use license::views::view_table;
@@ -20,8 +21,6 @@ use preproc_lines::test::test_text;
 use rules::Compiled;
 use rules::View;
 use slices::class::class_table;
-use slices::zero::zero_bytes;
-use slices::zero::zero_words;
 
 // What is refused before any work, 0 for nothing: the text, then lent areas of so many bytes and words.
 fn refused(text: &[u8], bytes: usize, words: usize) -> u32
@@ -63,15 +62,6 @@ fn write_body(area: &[u8], words: &[u32], n: usize, t: Viewed, out: &mut [u8]) -
     }
     put_body(&area[start..end], &words[from..], size, out);
     Compiled { refusal: 0, len }
-}
-
-// Every element of both areas is zero.
-fn clear(area: &mut [u8], words: &mut [u32])
-    ensures bytes { λ r. ⌜ now (area .exit) ≡ replicate (length (now (area .entry))) 0 ⌝ }
-    ensures words { λ r. ⌜ now (words .exit) ≡ replicate (length (now (words .entry))) 0 ⌝ }
-{
-    zero_bytes(area);
-    zero_words(words);
 }
 
 // The work, on a text that is let through in areas that fit. Both areas are zero after it.

@@ -8,13 +8,12 @@ ghost use Rattle.jobs.specs.Answers.{refusedBy, answerFor, FitsAnswer};
 use detection::texts::stored_at;
 use license::Ranged;
 use license::find_bounds;
+use license::notes::clear;
 use license::notes::lay;
 use refusals::admit_view;
 use rules::Bounded;
 use rules::View;
 use slices::class::class_table;
-use slices::zero::zero_bytes;
-use slices::zero::zero_words;
 
 fn refused(refusal: u32) -> Bounded
     ensures { λ r. ⌜ r ≡ refusedBy refusal ⌝ }
@@ -85,7 +84,6 @@ pub fn bounds_of(
         return refused(refusal);
     }
     let bounded = bounds_laid(text, book, v, k, area, words);
-    zero_bytes(area);
-    zero_words(words);
+    clear(area, words);
     bounded
 }

@@ -9,6 +9,7 @@ ghost use Rattle.rules.specs.Book.{stored};
 ghost use Rattle.rules.specs.Refusal.{refusal, ofView};
 ghost use Rattle.rules.specs.Jobs.{lent, ScoreDone};
 use detection::texts::stored_at;
+use license::notes::clear;
 use license::notes::lay;
 use license::views::charge;
 use license::views::view_table;
@@ -16,8 +17,6 @@ use refusals::admit_view;
 use rules::Scored;
 use rules::View;
 use slices::class::class_table;
-use slices::zero::zero_bytes;
-use slices::zero::zero_words;
 
 // The work, of what is let through: the areas hold what it leaves.
 fn score_laid(text: &[u8], book: &[u8], v: View, k: u32, area: &mut [u8], words: &mut [u32]) -> f32
@@ -55,7 +54,6 @@ pub fn score_view(
         };
     }
     let score = score_laid(text, book, v, k, area, words);
-    zero_bytes(area);
-    zero_words(words);
+    clear(area, words);
     Scored { refusal: 0, score }
 }

@@ -11,7 +11,6 @@ use Rattle.compile.proofs.write_body.Reads as write-body-reads
 use Rattle.license.proofs.notes.lay.Reads as lay-reads
 use Rattle.license.proofs.views.view_table.Reads as view-table-reads
 use Rattle.slices.proofs.class.class_table.Reads as class-table-reads
-use Rattle.compile.proofs.clear.Reads as clear-reads
 
 class-table-requires : tie.Need-class-table-requires
 class-table-requires c κs = search needs

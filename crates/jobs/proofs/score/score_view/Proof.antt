@@ -16,13 +16,13 @@ returns c =
 
 returns-2 : tie.Need-returns-2
 returns-2 c =
-    let zeroed = c .before .before .before .before .before .before in
-    let worked = zeroed .before .before .before .before .before .before in
+    let cleared = c .before .before .before .before in
+    let worked = cleared .before .before .before .before .before .before .before in
     let passed = worked .before .before .before in
     let a = passed .before .before .before .before .before .before .args in
     score-done (now (a .text)) (now (a .book)) (a .v) (a .k) (a .area .now) (a .words .now) (worked .score-laid .last .1 .1 .1 .1 .0) _ (worked .score-laid .last .1 .1 .1 .1 .1 .0) _ _
     (sym (passed .before .admit-view .ensures .number) ∙ passed .if1 .left) (worked .score-laid .ensures)
-    (zeroed .before .before .before .before .before .area .given) (zeroed .zero-bytes .ensures) (zeroed .before .before .before .words .given) (c .before .before .zero-words .ensures)
+    (cleared .before .before .before .before .before .before .area .given) (cleared .clear .ensures .0) (cleared .before .before .before .before .words .given) (cleared .clear .ensures .1)
 
 pub score-view-spec : {M : Type 1} → statement M
 score-view-spec =
@@ -30,7 +30,6 @@ score-view-spec =
     (tie.spec
     (λ c κs. search needs)
     returns
-    (λ c κs. search needs)
     (λ c κs. search needs)
     (λ c κs. search needs)
     (λ c. search needs)
