@@ -125,6 +125,7 @@ module _ {n lines : ℕ} {v : View} {area₀ words₀ : List ℕ} {r : Span} {ar
         record {
           order = p .order;
           high = p .high;
+          short = omega (arith, p .held .laid .small);
           few = few;
           room = omega (arith, total-is, p .held .laid .words-room, p .held .laid .small);
           most = omega (arith, total-is, p .held .laid .small);

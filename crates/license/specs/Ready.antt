@@ -53,6 +53,7 @@ behind n = 2 * n + 2
 pub record Tabled (n : ℕ) (area words : List ℕ) (t : Viewed) : Type 0 where
   pub order : t .start ≤ t .end
   pub high : t .end ≤ length area
+  pub short : length (slice (t .start) (t .end) area) ≤ 3 * textMost + 3
   pub few : t .distinct ≤ t .total
   pub room : behind n + (t .total + t .total) ≤ length words
   pub most : t .total ≤ totalMost

@@ -1,0 +1,4 @@
+pub mod RefusedLaws
+pub mod BodyLaws
+pub mod DoneLaws
+pub mod SoundCompiled

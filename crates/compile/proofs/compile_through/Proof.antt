@@ -1,0 +1,71 @@
+-- `compile::compile_through` meets its contract: the table of the whole view is the text's.
+-- Assumes nothing.
+use native.Mathlib.Omega.{arith}
+use borrow.Author.Needs.{needs}
+use Rattle.compile.proofs.BodyLaws.{compiled-is, bodied-as, zeroed}
+use Rattle.compile.proofs.compile_through.Statement.{statement}
+use Rattle.compile.proofs.compile_through.Tie as tie
+use Rattle.compile.proofs.compile_through.Reads as reads
+use Rattle.compile.proofs.compile_through.Lts as lts
+use Rattle.compile.proofs.write_body.Reads as write-body-reads
+use Rattle.license.proofs.notes.lay.Reads as lay-reads
+use Rattle.license.proofs.views.view_table.Reads as view-table-reads
+use Rattle.slices.proofs.class.class_table.Reads as class-table-reads
+
+class-table-requires : tie.Need-class-table-requires
+class-table-requires c κs = search needs
+
+lay-requires : tie.Need-lay-requires
+lay-requires c κs = search needs
+
+view-table-requires : tie.Need-view-table-requires
+view-table-requires c κs = search needs
+
+write-body-requires : tie.Need-write-body-requires
+write-body-requires c κs = search needs
+
+clear-requires : tie.Need-clear-requires
+clear-requires c κs = search needs
+
+same-length : tie.Need-same-length
+same-length c = search needs
+
+same-length-2 : tie.Need-same-length-2
+same-length-2 c = search needs
+
+same-length-3 : tie.Need-same-length-3
+same-length-3 c = search needs
+
+returns : tie.Need-returns
+returns c =
+    let cleared = c .before .before .before .before in
+    let written = cleared .before .before .before .before .before in
+    let tabled = written .before .before .before .before .before .before .before .before in
+    let words-back = tabled .before .before .before .before .before in
+    let area-back = words-back .before .before in
+    let laid = area-back .before .lay .ensures in
+    let s = area-back .before .before .before .before .before .before .before .before .before .before in
+    let table = tabled .view-table in
+    let held = table .ensures .1 .1 in
+    let zeroes = cleared .clear .ensures in
+    let e = compiled-is _ _ _ _ (laid .1 .0) (laid .1 .1) (table .ensures .1 .0) in (
+      bodied-as _ _ _ _ _ e (written .write-body .ensures),
+      (
+        zeroed _ (table .last .1 .0) (s .args .area .now) (zeroes .0) (omega (arith, held .area-long, area-back .area .given)),
+        zeroed _ (table .last .1 .1 .0) (s .args .words .now) (zeroes .1) (omega (arith, held .words-long, words-back .words .given)),
+      ),
+    )
+
+pub compile-through-spec : {M : Type 1} → statement M
+compile-through-spec =
+    tie.close
+    (tie.spec
+    class-table-requires
+    lay-requires
+    view-table-requires
+    write-body-requires
+    clear-requires
+    same-length
+    same-length-2
+    same-length-3
+    returns)

@@ -1,0 +1,106 @@
+-- `compile::write_body` meets its contract: the lent parts hold the table, and its body fits or not.
+-- Assumes nothing.
+use borrow.Author.Needs.{needs}
+use native.Mathlib.Omega.{arith}
+use Rattle.compile.proofs.BodyLaws.{body-sizes, body-is, body-over, body-put}
+use Rattle.compile.proofs.write_body.Statement.{statement}
+use Rattle.compile.proofs.write_body.Tie as tie
+use Rattle.compile.proofs.write_body.Reads as reads
+use Rattle.compile.proofs.write_body.Lts as lts
+use Rattle.ngram.proofs.bodies.body_len.Reads as body-len-reads
+use Rattle.ngram.proofs.bodies.put_body.Reads as put-body-reads
+
+mul-from : tie.Need-mul-from
+mul-from c = search needs
+
+add-from : tie.Need-add-from
+add-from c = search needs
+
+sub-body-len : tie.Need-sub-body-len
+sub-body-len c = search needs
+
+part-body-len-start : tie.Need-part-body-len-start
+part-body-len-start c = search needs
+
+part-body-len-end : tie.Need-part-body-len-end
+part-body-len-end c = search needs
+
+mul-body-len : tie.Need-mul-body-len
+mul-body-len c = search needs
+
+sub-body-len-2 : tie.Need-sub-body-len-2
+sub-body-len-2 c = search needs
+
+part-body-len-start-2 : tie.Need-part-body-len-start-2
+part-body-len-start-2 c = search needs
+
+part-body-len-end-2 : tie.Need-part-body-len-end-2
+part-body-len-end-2 c = search needs
+
+body-len-requires : tie.Need-body-len-requires
+body-len-requires c κs = body-sizes _ _ _ _ (c .before .before .before .before .before .pre)
+
+returns : tie.Need-returns
+returns c =
+    let s = c .before .before .before .before .before .before .before in
+    body-over _ _ _ _ (body-is _ _ _ (s .args .t) (s .pre)) (c .before .body-len .ensures) (c .if1 .taken)
+
+sub-put-body : tie.Need-sub-put-body
+sub-put-body c = search needs
+
+part-put-body-start : tie.Need-part-put-body-start
+part-put-body-start c = search needs
+
+part-put-body-end : tie.Need-part-put-body-end
+part-put-body-end c = search needs
+
+mul-put-body : tie.Need-mul-put-body
+mul-put-body c = search needs
+
+sub-put-body-2 : tie.Need-sub-put-body-2
+sub-put-body-2 c = search needs
+
+part-put-body-start-2 : tie.Need-part-put-body-start-2
+part-put-body-start-2 c = search needs
+
+part-put-body-end-2 : tie.Need-part-put-body-end-2
+part-put-body-end-2 c = search needs
+
+put-body-requires : tie.Need-put-body-requires
+put-body-requires c κs =
+    let z = body-sizes _ _ _ _ (c .before .before .before .before .before .before .before .before .before .before .pre) in
+    (z .0, (z .1, omega (arith, c .before .before .before .before .body-len .ensures, c .before .before .before .if1 .left)))
+
+same-length : tie.Need-same-length
+same-length c = search needs
+
+returns-2 : tie.Need-returns-2
+returns-2 c =
+    let s = c .before .before .before .before .before .before .before .before .before .before .before .before .before in
+    body-put _ _ _ _ (body-is _ _ _ (s .args .t) (s .pre)) (c .before .before .before .before .before .before .before .body-len .ensures) _ _ (c .before .before .before .before .before .before .if1 .left) (c .before .before .put-body .ensures)
+
+pub write-body-spec : {M : Type 1} → statement M
+write-body-spec =
+    tie.close
+    (tie.spec
+    mul-from
+    add-from
+    sub-body-len
+    part-body-len-start
+    part-body-len-end
+    mul-body-len
+    sub-body-len-2
+    part-body-len-start-2
+    part-body-len-end-2
+    body-len-requires
+    returns
+    sub-put-body
+    part-put-body-start
+    part-put-body-end
+    mul-put-body
+    sub-put-body-2
+    part-put-body-start-2
+    part-put-body-end-2
+    put-body-requires
+    same-length
+    returns-2)

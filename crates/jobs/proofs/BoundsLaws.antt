@@ -1,0 +1,91 @@
+-- The answer of the job `bounds`: a budget of 104 pays every search of a note that is let through, so that none runs out.
+--     bounds-most                     no bounds take more than 104 scorings
+--     answer-fits, answer-is          what the search found fits the answer, and says what the definition says
+--     bounds-refused, bounds-done     the two ends of the job
+-- Assumes nothing.
+use mathlib.Core.Path.{_≡_, ap, _∙_}
+use mathlib.Core.List.{List}
+use Prim.Native.Nat.{ℕ, _-_, _≤_}
+use native.Mathlib.Omega.{arith}
+use lib.ListN.{length, getD, replicate}
+use borrow.Author.Tests.{ne-eqb, le-leb}
+use Rattle.rules.specs.declared.View.{View}
+use Rattle.rules.specs.declared.Bounded.{Bounded}
+use Rattle.rules.specs.Sizes.{linesMost}
+use Rattle.rules.specs.Lines.{lines}
+use Rattle.rules.specs.Search.{Stored, noText, bounds}
+use Rattle.rules.specs.Book.{stored}
+use Rattle.rules.specs.Count.{mostFor}
+use Rattle.rules.specs.Refusal.{refusal, ofView}
+use Rattle.rules.specs.Jobs.{lent, boundsJob, BoundsDone}
+use Rattle.rules.proofs.CountLaws.{rounds-least, bounds-count}
+use Rattle.rules.proofs.DownLaws.{bounds-in}
+use Rattle.license.specs.declared.Ranged.{Ranged}
+use Rattle.license.specs.declared.Ranged.the-variants.{Found}
+use Rattle.license.specs.Pay.{pay, rangedOf}
+use Rattle.refusals.proofs.AdmitLaws.{view-most}
+use Rattle.jobs.specs.Answers.{refusedBy, answerFor, FitsAnswer}
+use Rattle.jobs.proofs.JobLaws.{kept, zeroed}
+
+-- 24 rounds of a search take 65,536 lines down to four
+most-lines : mostFor linesMost ≤ 52
+unfolding mostFor
+most-lines = omega (arith, rounds-least linesMost 24 (omega arith))
+
+module _ (ls : List (List ℕ)) (v : View) (s : Stored) (order : v .start ≤ v .end) (inside : v .end ≤ linesMost) where
+  abbrev count : ℕ
+  count = length (bounds ls v s .list)
+
+  pub bounds-most : count ≤ 104
+  bounds-most = omega (arith, bounds-count ls v s linesMost order inside, most-lines)
+
+  abbrev answer : Bounded
+  answer =
+      let b = bounds ls v s .value in
+      record { refusal = 0; first = b .first; after = b .after; score = b .value .score; count = count }
+
+  module _ (x : Ranged) (found : x ≡ rangedOf (pay (bounds ls v s) 104)) where
+    is-found : x ≡ Found (bounds ls v s .value) (104 - count)
+    unfolding pay rangedOf
+    is-found = found ∙ rw (le-leb count 104 bounds-most)
+
+    pub answer-fits : FitsAnswer x 104
+    unfolding FitsAnswer
+    answer-fits = let i = bounds-in ls v s order in rw is-found (omega arith, omega arith, omega arith)
+
+    pub answer-is : answerFor x 104 ≡ answer
+    unfolding answerFor
+    answer-is =
+        let b = bounds ls v s .value in
+        ap (λ (y : Ranged). answerFor y 104) is-found ∙
+        ap (λ (n : ℕ). record { refusal = 0; first = b .first; after = b .after; score = b .value .score; count = n }) (paid bounds-most)
+      where
+        paid : count ≤ 104 → 104 - (104 - count) ≡ count
+        paid h = omega arith
+
+-- ---- the two ends of the job
+module _ (t book : List ℕ) (v : View) (k : ℕ) (b₀ w₀ : List ℕ) where
+  abbrev number : ℕ
+  number = refusal (ofView t book v k (lent b₀ w₀))
+
+  pub bounds-refused : (n : ℕ) (x : Bounded) → n ≡ number → (n ≡ 0 → ⊥) → x ≡ refusedBy n → BoundsDone t book v k b₀ b₀ w₀ w₀ x
+  unfolding boundsJob
+  bounds-refused n x e q r =
+      let h : n ≤ 10 = omega (arith, view-most t book v k (lent b₀ w₀)) in
+      rw r (record { answer = rw (← e, ne-eqb n 0 q); bytes = kept n b₀ q h; words = kept n w₀ q h })
+
+  pub bounds-found : (ls : List (List ℕ)) (x : Bounded) (order : v .start ≤ v .end) (inside : v .end ≤ linesMost) → number ≡ 0 → ls ≡ lines t →
+      x ≡ answer ls v (getD (stored book) k noText) order inside → x ≡ boundsJob t book v k (lent b₀ w₀)
+  unfolding boundsJob
+  bounds-found ls x order inside z l e = rw z (e ∙ rw l)
+
+  pub bounds-done : (b₁ b w₁ w : List ℕ) (x : Bounded) → number ≡ 0 → x ≡ boundsJob t book v k (lent b₀ w₀) →
+      length b₁ ≡ length b₀ → b ≡ replicate (length b₁) 0 → length w₁ ≡ length w₀ → w ≡ replicate (length w₁) 0 →
+      BoundsDone t book v k b₀ b w₀ w x
+  unfolding boundsJob
+  bounds-done b₁ b w₁ w x z e l p m q =
+      let n = none in
+      record { answer = e; bytes = rw n (zeroed b₀ b₁ b l p); words = rw n (zeroed w₀ w₁ w m q) }
+    where
+      none : x .refusal ≡ 0
+      none = ap (λ (y : Bounded). y .refusal) e ∙ rw z

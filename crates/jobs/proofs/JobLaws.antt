@@ -1,0 +1,64 @@
+-- What the two jobs share: the table of a stored text, and the areas after an answer; and the answer of the job `score`.
+--     stored-table                    the body found holds the stored text's table
+--     kept, zeroed                    an area after a refusal before any work, and after an answer
+--     score-is                        what a scoring of the view's table yields is the view's score
+--     score-refused, score-done       the two ends of the job
+-- Assumes nothing.
+use mathlib.Core.Path.{_≡_, sym, ap, ap₂, _∙_}
+use mathlib.Core.List.{List}
+use Prim.Native.Nat.{ℕ, _≤_}
+use native.Mathlib.Omega.{arith}
+use lib.Ieee.{Float}
+use lib.ListN.{length, getD, replicate}
+use borrow.Author.Tests.{ne-eqb}
+use Rattle.rules.specs.declared.View.{View}
+use Rattle.rules.specs.declared.Value.{Value}
+use Rattle.rules.specs.Lines.{lines}
+use Rattle.rules.specs.Table.{Table, nought, viewTable, valueOf}
+use Rattle.rules.specs.Search.{Stored, noText, viewed, scored, scoreView}
+use Rattle.rules.specs.Book.{stored}
+use Rattle.rules.specs.Refusal.{refusal, ofView}
+use Rattle.rules.specs.Jobs.{lent, areaAfter, scoreJob, ScoreDone}
+use Rattle.detection.specs.declared.texts.Text.{Text}
+use Rattle.detection.specs.Texts.{part, TextIs}
+use Rattle.license.specs.Ready.{tableOfBody}
+use Rattle.detect.specs.Bests.{textIn}
+use Rattle.detect.proofs.BestLaws.{text-is}
+use Rattle.refusals.proofs.AdmitLaws.{view-most}
+
+pub stored-table : (book : List ℕ) (s : Stored) (r : Text) → TextIs book s r → s .table ≡ tableOfBody (part book (r .body) (r .end))
+unfolding textIn tableOfBody
+stored-table book s r h = sym (ap (λ (x : Stored). x .table) (text-is book s r h))
+
+-- ---- the areas
+pub kept : (n : ℕ) (area : List ℕ) → (n ≡ 0 → ⊥) → n ≤ 10 → area ≡ areaAfter n area
+unfolding areaAfter
+kept n area k h = simp (ne-eqb n 0 k, ne-eqb n 11 (λ e. omega arith), ne-eqb n 12 (λ e. omega arith))
+
+pub zeroed : (area work left : List ℕ) → length work ≡ length area → left ≡ replicate (length work) 0 → left ≡ areaAfter 0 area
+unfolding areaAfter
+zeroed area work left l e = e ∙ ap (λ (n : ℕ). replicate n 0) l
+
+-- ---- score
+pub score-is : (ls laid : List (List ℕ)) (v : View) (s : Stored) (t : Table) (body : List ℕ) (x : Value) → laid ≡ ls → t ≡ viewTable (viewed laid v) →
+    s .table ≡ tableOfBody body → x ≡ valueOf t (tableOfBody body) → x .score ≡ scoreView ls s v .value .score
+unfolding scoreView scored
+score-is ls laid v s t body x a b c d =
+    ap (λ (y : Value). y .score)
+    (d ∙ ap₂ (λ (f g : Table). valueOf f g) (b ∙ ap (λ (l : List (List ℕ)). viewTable (viewed l v)) a) (sym c))
+
+module _ (t book : List ℕ) (v : View) (k : ℕ) (b₀ w₀ : List ℕ) where
+  abbrev number : ℕ
+  number = refusal (ofView t book v k (lent b₀ w₀))
+
+  pub score-refused : (n : ℕ) → n ≡ number → (n ≡ 0 → ⊥) → ScoreDone t book v k b₀ b₀ w₀ w₀ (record { refusal = n; score = nought })
+  unfolding scoreJob
+  score-refused n e q =
+      let h : n ≤ 10 = omega (arith, view-most t book v k (lent b₀ w₀)) in
+      record { answer = rw (← e, ne-eqb n 0 q); bytes = kept n b₀ q h; words = kept n w₀ q h }
+
+  pub score-done : (b₁ b w₁ w : List ℕ) (x : Float) → number ≡ 0 → x ≡ scoreView (lines t) (getD (stored book) k noText) v .value .score →
+      length b₁ ≡ length b₀ → b ≡ replicate (length b₁) 0 → length w₁ ≡ length w₀ → w ≡ replicate (length w₁) 0 →
+      ScoreDone t book v k b₀ b w₀ w (record { refusal = 0; score = x })
+  unfolding scoreJob
+  score-done b₁ b w₁ w x z e l p m q = record { answer = rw (z, e); bytes = zeroed b₀ b₁ b l p; words = zeroed w₀ w₁ w m q }

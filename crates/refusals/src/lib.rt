@@ -1,0 +1,217 @@
+// What a job refuses before any work, the first that applies in document 01's order: of score and bounds, and of scan.
+// Added to spdx 0.13.6 (detection/scan.rs, Copyright 2018 Amazon.com, Inc. or its affiliates. All Rights Reserved.
+// SPDX-License-Identifier: Apache-2.0), which refuses nothing. Assumes nothing.
+ghost use mathlib.Core.Path.{_≡_};
+ghost use mathlib.Core.Bool.{_&&_, _||_};
+ghost use Prim.Native.Nat.{_≤_};
+ghost use lib.Dec.{ltb, leb};
+ghost use Rattle.rules.specs.Sizes.{byteArea, wordArea};
+ghost use Rattle.rules.specs.Refusal.{refusal, unit, stepZero, resultsNeed};
+ghost use Rattle.refusals.specs.Admits.{AdmitsBoth, AdmitsView, AdmitsScan, viewRows, scanRows};
+use detection::check::check_book;
+use preproc_lines::test::test_text;
+use rules::Limits;
+use rules::Mode;
+use rules::View;
+
+// What is refused, 0 for nothing; and where nothing is, L and N.
+pub struct Admitted {
+    pub refusal: u32,
+    pub lines: usize,
+    pub texts: u32,
+}
+
+// Refusals 1 to 5: one walk over the text, and one over the book where the text is taken.
+fn admit_text_book(text: &[u8], book: &[u8]) -> Admitted
+    ensures { λ r. ⌜ AdmitsBoth (now (text .entry)) (now (book .entry)) r ⌝ }
+{
+    let tested = test_text(text);
+    let lines = tested.lines;
+    if tested.refusal != 0 {
+        return Admitted {
+            refusal: tested.refusal,
+            lines,
+            texts: 0,
+        };
+    }
+    let checked = check_book(book);
+    let texts = checked.texts;
+    if checked.refusal != 0 {
+        return Admitted {
+            refusal: checked.refusal,
+            lines,
+            texts,
+        };
+    }
+    if texts == 0 {
+        return Admitted {
+            refusal: 5,
+            lines,
+            texts,
+        };
+    }
+    Admitted {
+        refusal: 0,
+        lines,
+        texts,
+    }
+}
+
+fn small_areas(n: usize, bytes: usize, words: usize) -> bool
+    requires { ⌜ n ≤ 1048576 ⌝ }
+    ensures { λ r. ⌜ r ≡ (ltb bytes (byteArea n) || ltb words (wordArea n)) ⌝ }
+{
+    if bytes < 8 * n + 64 {
+        return true;
+    }
+    words < 12 * n + 64
+}
+
+fn view_inside(v: View, lines: usize) -> bool
+    ensures { λ r. ⌜ r ≡ (leb (v .start) (v .end) && leb (v .end) lines) ⌝ }
+{
+    if v.end < v.start {
+        return false;
+    }
+    v.end <= lines
+}
+
+// Refusals 8 to 10, of a text of n bytes.
+fn refuse_view(
+    n: usize,
+    lines: usize,
+    texts: u32,
+    v: View,
+    k: u32,
+    bytes: usize,
+    words: usize,
+) -> u32
+    requires { ⌜ n ≤ 1048576 ⌝ }
+    ensures { λ r. ⌜ r ≡ refusal (viewRows n lines texts v k (record { bytes = bytes; words = words })) ⌝ }
+{
+    if !view_inside(v, lines) {
+        return 8;
+    }
+    if texts <= k {
+        return 9;
+    }
+    if small_areas(n, bytes, words) {
+        return 10;
+    }
+    0
+}
+
+// Before the score or the bounds of a view against the stored text k, with work areas of so many bytes and words.
+pub fn admit_view(text: &[u8], book: &[u8], v: View, k: u32, bytes: usize, words: usize) -> Admitted
+    ensures { λ r. ⌜ AdmitsView (now (text .entry)) (now (book .entry)) v k (record { bytes = bytes; words = words }) r ⌝ }
+{
+    let both = admit_text_book(text, book);
+    if both.refusal != 0 {
+        return both;
+    }
+    let lines = both.lines;
+    let texts = both.texts;
+    let refusal = refuse_view(text.len(), lines, texts, v, k, bytes, words);
+    Admitted {
+        refusal,
+        lines,
+        texts,
+    }
+}
+
+// From 0.0 to 1.0, which no NaN is.
+fn in_unit(x: f32) -> bool
+    ensures { λ r. ⌜ r ≡ unit x ⌝ }
+{
+    if 0.0 <= x { x <= 1.0 } else { false }
+}
+
+fn limits_in_unit(lim: Limits) -> bool
+    ensures { λ r. ⌜ r ≡ (unit (lim .threshold) && unit (lim .shallow)) ⌝ }
+{
+    if in_unit(lim.threshold) {
+        in_unit(lim.shallow)
+    } else {
+        false
+    }
+}
+
+fn step_zero(mode: Mode) -> bool
+    ensures { λ r. ⌜ r ≡ stepZero mode ⌝ }
+{
+    match mode {
+        Mode::Elimination(_, _) => false,
+        Mode::TopDown(step) => step == 0,
+    }
+}
+
+fn wide(passes: u16) -> usize
+    ensures { λ r. ⌜ r ≡ passes ⌝ }
+{
+    passes as usize
+}
+
+// The numbers that the records of a scan can take.
+fn results_need(lines: usize, mode: Mode) -> usize
+    requires { ⌜ lines ≤ 65536 ⌝ }
+    ensures { λ r. ⌜ r ≡ resultsNeed lines mode ⌝ }
+{
+    match mode {
+        Mode::Elimination(optimize, passes) => if optimize { 4 * wide(passes) } else { 0 },
+        Mode::TopDown(_) => 4 * lines,
+    }
+}
+
+// Refusals 6, 7 and 10, of a text of n bytes.
+fn refuse_scan(
+    n: usize,
+    lines: usize,
+    lim: Limits,
+    mode: Mode,
+    bytes: usize,
+    words: usize,
+    results: usize,
+) -> u32
+    requires { ⌜ (n ≤ 1048576) × (lines ≤ 65536) ⌝ }
+    ensures { λ r. ⌜ r ≡ refusal (scanRows n lines lim mode (record { bytes = bytes; words = words }) results) ⌝ }
+{
+    if !limits_in_unit(lim) {
+        return 6;
+    }
+    if step_zero(mode) {
+        return 7;
+    }
+    if small_areas(n, bytes, words) {
+        return 10;
+    }
+    if results < results_need(lines, mode) {
+        return 10;
+    }
+    0
+}
+
+// Before a scan, with results of so many words.
+pub fn admit_scan(
+    text: &[u8],
+    book: &[u8],
+    lim: Limits,
+    mode: Mode,
+    bytes: usize,
+    words: usize,
+    results: usize,
+) -> Admitted
+    ensures { λ r. ⌜ AdmitsScan (now (text .entry)) (now (book .entry)) lim mode (record { bytes = bytes; words = words }) results r ⌝ }
+{
+    let both = admit_text_book(text, book);
+    if both.refusal != 0 {
+        return both;
+    }
+    let lines = both.lines;
+    let texts = both.texts;
+    let refusal = refuse_scan(text.len(), lines, lim, mode, bytes, words, results);
+    Admitted {
+        refusal,
+        lines,
+        texts,
+    }
+}
