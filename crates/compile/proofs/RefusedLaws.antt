@@ -12,9 +12,8 @@ use Rattle.rules.specs.Sizes.{textMost, linesMost, byteArea, wordArea}
 use Rattle.rules.specs.Bytes.{every}
 use Rattle.rules.specs.Lines.{lineCount}
 use Rattle.rules.specs.Refusal.{Row, row, refusal, ofText, Areas, small, beforeCompile}
-use Rattle.rules.proofs.BoolLaws.{cond-of}
 use Rattle.rules.proofs.DownLaws.{Each}
-use Rattle.rules.proofs.RefusalLaws.{refusal-first, refusal-then}
+use Rattle.rules.proofs.RefusalLaws.{refusal-first, refusal-then, refusal-most}
 
 module _ (t : List ℕ) (a : Areas) where
   abbrev before : ℕ
@@ -74,9 +73,5 @@ module _ (t : List ℕ) (a : Areas) where
 
   -- 1, 2, 3 or 10
   pub refused-most : before ≤ 10
-  unfolding beforeCompile ofText refusal
-  refused-most =
-      cond-of (λ (n : ℕ). n ≤ 10) (ltb textMost (length t)) 1 _ (omega arith)
-      (cond-of (λ (n : ℕ). n ≤ 10) (not (every (λ x. ltb x 128) t)) 2 _ (omega arith)
-      (cond-of (λ (n : ℕ). n ≤ 10) (ltb linesMost (lineCount t)) 3 _ (omega arith)
-      (cond-of (λ (n : ℕ). n ≤ 10) (small t a) 10 0 (omega arith) (omega arith))))
+  unfolding beforeCompile ofText
+  refused-most = refusal-most (beforeCompile t a) (omega arith)

@@ -24,8 +24,8 @@ use Rattle.license.specs.declared.Ranged.{Ranged}
 use Rattle.license.specs.declared.Ranged.the-variants.{Found}
 use Rattle.license.specs.Pay.{pay, rangedOf}
 use Rattle.refusals.proofs.AdmitLaws.{view-most}
+use Rattle.refusals.proofs.AreaLaws.{kept, zeroed}
 use Rattle.jobs.specs.Answers.{refusedBy, answerFor, FitsAnswer}
-use Rattle.jobs.proofs.JobLaws.{kept, zeroed}
 
 -- 24 rounds of a search take 65,536 lines down to four
 most-lines : mostFor linesMost ≤ 52

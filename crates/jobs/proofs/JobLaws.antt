@@ -1,6 +1,5 @@
--- What the two jobs share: the table of a stored text, and the areas after an answer; and the answer of the job `score`.
+-- What the two jobs share: the table of a stored text; and the answer of the job `score`.
 --     stored-table                    the body found holds the stored text's table
---     kept, zeroed                    an area after a refusal before any work, and after an answer
 --     score-is                        what a scoring of the view's table yields is the view's score
 --     score-refused, score-done       the two ends of the job
 -- Assumes nothing.
@@ -25,19 +24,11 @@ use Rattle.license.specs.Ready.{tableOfBody}
 use Rattle.detect.specs.Bests.{textIn}
 use Rattle.detect.proofs.BestLaws.{text-is}
 use Rattle.refusals.proofs.AdmitLaws.{view-most}
+use Rattle.refusals.proofs.AreaLaws.{kept, zeroed}
 
 pub stored-table : (book : List ℕ) (s : Stored) (r : Text) → TextIs book s r → s .table ≡ tableOfBody (part book (r .body) (r .end))
 unfolding textIn tableOfBody
 stored-table book s r h = sym (ap (λ (x : Stored). x .table) (text-is book s r h))
-
--- ---- the areas
-pub kept : (n : ℕ) (area : List ℕ) → (n ≡ 0 → ⊥) → n ≤ 10 → area ≡ areaAfter n area
-unfolding areaAfter
-kept n area k h = simp (ne-eqb n 0 k, ne-eqb n 11 (λ e. omega arith), ne-eqb n 12 (λ e. omega arith))
-
-pub zeroed : (area work left : List ℕ) → length work ≡ length area → left ≡ replicate (length work) 0 → left ≡ areaAfter 0 area
-unfolding areaAfter
-zeroed area work left l e = e ∙ ap (λ (n : ℕ). replicate n 0) l
 
 -- ---- score
 pub score-is : (ls laid : List (List ℕ)) (v : View) (s : Stored) (t : Table) (body : List ℕ) (x : Value) → laid ≡ ls → t ≡ viewTable (viewed laid v) →

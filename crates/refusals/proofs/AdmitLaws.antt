@@ -25,7 +25,7 @@ use Rattle.rules.specs.Refusal.{Row, row, refusal, Areas, small, ofText, ofBook
 use Rattle.rules.specs.Jobs.{check, CheckDone}
 use Rattle.rules.proofs.BoolLaws.{and-left, and-right, cond-of}
 use Rattle.rules.proofs.DownLaws.{Each}
-use Rattle.rules.proofs.RefusalLaws.{refusal-first, refusal-then}
+use Rattle.rules.proofs.RefusalLaws.{refusal-first, refusal-then, refusal-most}
 use Rattle.preproc_lines.specs.declared.test.Tested.{Tested}
 use Rattle.preproc_lines.specs.Counts.{AsTested}
 use Rattle.refusals.specs.declared.Admitted.{Admitted}
@@ -146,18 +146,13 @@ module _ (t book : List ℕ) where
         }
 
 -- ---- no number above those of the rows
-refusal-most : (n : ℕ) (rs : List Row) → Each (λ r. r .number ≤ n) rs → refusal rs ≤ n
-unfolding refusal
-refusal-most n [] h = omega arith
-refusal-most n (r ∷ rs) h = cond-of (λ x. x ≤ n) (r .applies) (r .number) (refusal rs) (h .0) (refusal-most n rs (h .1))
-
 pub view-most : (t book : List ℕ) (v : View) (k : ℕ) (a : Areas) → refusal (ofView t book v k a) ≤ 10
 unfolding ofView ofText ofBook
-view-most t book v k a = refusal-most 10 (ofView t book v k a) (omega arith)
+view-most t book v k a = refusal-most (ofView t book v k a) (omega arith)
 
 pub scan-most : (t book : List ℕ) (lim : Limits) (mode : Mode) (a : Areas) (results : ℕ) → refusal (beforeScan t book lim mode a results) ≤ 10
 unfolding beforeScan ofText ofBook
-scan-most t book lim mode a results = refusal-most 10 (beforeScan t book lim mode a results) (omega arith)
+scan-most t book lim mode a results = refusal-most (beforeScan t book lim mode a results) (omega arith)
 
 -- ---- what holds where nothing is refused
 none-first : (rs qs : List Row) → refusal (rs ++ qs) ≡ 0 → refusal rs ≡ 0

@@ -72,7 +72,7 @@ refusal-then (r ∷ rs) qs n h = at (r .applies) h (refusal-then rs qs (n .1))
         none p k = omega arith
     at false k go = go k
 
-refusal-most : (rs : List Row) → Numbered rs → refusal rs ≤ 10
+pub refusal-most : (rs : List Row) → Numbered rs → refusal rs ≤ 10
 unfolding refusal
 refusal-most [] n = omega arith
 refusal-most (r ∷ rs) n = at (r .applies) (refusal-most rs (n .1))

@@ -236,7 +236,7 @@ pub count-fits : (N P s L : ℕ) → N ≤ storedMost → P < 65_536 → L ≤ l
 count-fits N P s L h k l = (elimination-fits N P L h k l, topDown-fits N s L h l)
 
 -- ---- what a budget leaves of the records fits the results area
-numbers-length : (rs : List Recorded) → length (numbers rs) ≡ recordWidth * length rs
+pub numbers-length : (rs : List Recorded) → length (numbers rs) ≡ recordWidth * length rs
 unfolding numbers
 numbers-length [] = refl
 numbers-length (r ∷ rs) = omega (arith, numbers-length rs)

@@ -38,7 +38,7 @@ use Rattle.scan.proofs.RunLaws.{paid-is, unpaid-is, paid-written, paid-
 use Rattle.scan.proofs.GoingLaws.{going-first, going-as, going-out, going-end}
 
 -- ---- the overall best
-verdict-after : (ss : List Scoring) (es : List Event) → verdict (after ss es) ≡ verdict es
+pub verdict-after : (ss : List Scoring) (es : List Event) → verdict (after ss es) ≡ verdict es
 unfolding after verdict
 verdict-after [] es = refl
 verdict-after (s ∷ ss) es = verdict-after ss es
@@ -61,7 +61,7 @@ stands-name {book} {t} s h = record {
   most = found-name book (t .number) t s (h .inside) (h .found) .1;
 }
 
-none-name : (book : List ℕ) → NameFits book (noneYet .text)
+pub none-name : (book : List ℕ) → NameFits book (noneYet .text)
 none-name book = record { order = omega arith; high = omega arith; most = omega arith }
 
 -- ---- the whole

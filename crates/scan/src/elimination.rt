@@ -80,8 +80,8 @@ pub fn each_pass(
     let v = whole_view(scope.lines);
     let mut best = first;
     let mut left = budget;
-    let mut k: usize = 0;
-    while k < p as usize {
+    let mut k: u32 = 0;
+    while k < p as u32 {
         let text = best.text;
         let Ranged::Found(range, paid) = text_bounds(class, area, words, scope, v, book, text, left)
         else {

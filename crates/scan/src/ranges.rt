@@ -36,12 +36,12 @@ pub struct Scope {
 // How a scan ended: whether the budget was out, how many ranges are recorded, and the scorings left, 0 where it was out.
 pub struct Run {
     pub out: bool,
-    pub records: usize,
+    pub records: u32,
     pub left: u64,
 }
 
 // The budget is out, with k ranges recorded.
-pub fn out_at(k: usize) -> Run
+pub fn out_at(k: u32) -> Run
     ensures { λ r. ⌜ r ≡ runOf k none ⌝ }
 {
     Run {
@@ -52,7 +52,7 @@ pub fn out_at(k: usize) -> Run
 }
 
 // All is paid, with k ranges recorded.
-pub fn ended(k: usize, left: u64) -> Run
+pub fn ended(k: u32, left: u64) -> Run
     ensures { λ r. ⌜ r ≡ runOf k (some left) ⌝ }
 {
     Run {
@@ -112,7 +112,7 @@ fn put_four(results: &mut [u32], at: usize, a: u32, b: u32, c: u32, d: u32)
 }
 
 // Record k: the stored number, the first line, the line after the last, and the score's bits.
-pub fn put_record(results: &mut [u32], k: usize, number: u32, range: Bounds)
+pub fn put_record(results: &mut [u32], k: u32, number: u32, range: Bounds)
     requires { ⌜ recordWidth * k + recordWidth ≤ length (now results) ⌝ }
     requires { ⌜ (range .first < 4294967296) × (range .after < 4294967296) × T (unit (range .value .score)) ⌝ }
     ensures { λ _. ⌜ now (results .exit) ≡ take (recordWidth * k) (now (results .entry)) ++ (number ∷ range .first ∷ range .after ∷ toBits binary32 (range .value .score) ∷ []) ++ drop (recordWidth * k + recordWidth) (now (results .entry)) ⌝ }
@@ -121,5 +121,6 @@ pub fn put_record(results: &mut [u32], k: usize, number: u32, range: Bounds)
     let after = range.after as u32;
     let score = range.value.score;
     let bits = f32::to_bits(score);
-    put_four(results, RECORD_WIDTH * k, number, first, after, bits);
+    let at = RECORD_WIDTH * k as usize;
+    put_four(results, at, number, first, after, bits);
 }

@@ -98,7 +98,7 @@ pub fn top_down(
     let lines = scope.lines;
     let mut left = budget;
     let mut c: usize = 0;
-    let mut k: usize = 0;
+    let mut k: u32 = 0;
     while c < lines {
         match find_contained(class, area, words, scope, c, step, book, left) {
             Contained::Out => return out_at(k),

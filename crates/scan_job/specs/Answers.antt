@@ -24,6 +24,10 @@ refusedBy n = record { refusal = n; name = replicate nameMost 0; len = 0; kind =
 abbrev pub namedIn : List ℕ → Limits → Best → Stored
 namedIn book lim b = named lim (bestIn book b)
 
+-- its kind, over any book
+pub record KindIs (lim : Limits) (b : Best) (r : ℕ) : Type 0 where
+  pub is : (book : List ℕ) → r ≡ namedIn book lim b .kind
+
 abbrev pub answerFor : List ℕ → Limits → ℕ → Outcome → Scanned
 answerFor book lim budget x = record {
   refusal = cond (x .run .out) 12 0;

@@ -4,9 +4,6 @@ use borrow.Author.Needs.{needs}
 use Rattle.scan.proofs.ValueLaws.{no-nan}
 use Rattle.scan.proofs.ranges.put_record.Statement.{statement}
 use Rattle.scan.proofs.ranges.put_record.Tie as tie
-use Rattle.scan.proofs.ranges.put_record.Reads as reads
-use Rattle.scan.proofs.ranges.put_record.Lts as lts
-use Rattle.scan.proofs.ranges.put_four.Reads as put-four-reads
 
 cast-first : tie.Need-cast-first
 cast-first c = search needs
@@ -17,8 +14,8 @@ cast-after c = search needs
 float-to-bits-bits : tie.Need-float-to-bits-bits
 float-to-bits-bits c = no-nan _ (c .before .before .before .pre .1 .2)
 
-mul-put-four : tie.Need-mul-put-four
-mul-put-four c = search needs
+mul-at : tie.Need-mul-at
+mul-at c = search needs
 
 put-four-requires : tie.Need-put-four-requires
 put-four-requires c κs = search needs
@@ -36,7 +33,7 @@ put-record-spec =
     cast-first
     cast-after
     float-to-bits-bits
-    mul-put-four
+    mul-at
     put-four-requires
     same-length
     returns)

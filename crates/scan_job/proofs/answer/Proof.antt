@@ -1,0 +1,40 @@
+-- `scan_job::answer` meets its contract, field by field.
+-- Assumes nothing.
+use Prim.Native.Nat.{_-_}
+use denote.Ref.{now}
+use borrow.Author.Needs.{needs}
+use Rattle.scan_job.proofs.answer.Statement.{statement}
+use Rattle.scan_job.proofs.answer.Tie as tie
+
+name-of-requires : tie.Need-name-of-requires
+name-of-requires c κs = search needs
+
+kind-of-requires : tie.Need-kind-of-requires
+kind-of-requires c = search needs
+
+refusal-of-requires : tie.Need-refusal-of-requires
+refusal-of-requires c = search needs
+
+sub-t12 : tie.Need-sub-t12
+sub-t12 c = search needs
+
+returns : tie.Need-returns
+returns c =
+    let a = c .before .before .before .before .before .before .before .before .before .args in
+    let x = a .outcome in
+    let name = c .before .before .before .before .before .name-of .ensures in
+    let kind = c .before .before .before .kind-of .ensures .is (now (a .book)) in
+    let number = c .before .before .refusal-of .ensures in
+    λ i. record {
+      refusal = number i;
+      name = name .0 i;
+      len = name .1 i;
+      kind = kind i;
+      score = x .best .value .score;
+      count = a .budget - x .run .left;
+      records = x .run .records;
+    }
+
+pub answer-spec : {M : Type 1} → statement M
+answer-spec =
+    tie.close (tie.spec name-of-requires kind-of-requires refusal-of-requires sub-t12 returns)

@@ -1,0 +1,82 @@
+-- `scan_job::scan_laid` meets its contract: the note's lines are laid, the scan of its mode ends, and its answer is the definition's.
+-- Assumes nothing.
+use mathlib.Core.Path.{sym, ap, _∙_, subst}
+use mathlib.Core.List.{List}
+use native.Mathlib.Omega.{arith}
+use Prim.Native.Nat.{ℕ}
+use denote.Ref.{now}
+use borrow.Author.Needs.{needs}
+use Rattle.rules.specs.Scan.{events}
+use Rattle.rules.specs.Book.{stored}
+use Rattle.refusals.proofs.AdmitLaws.{scan-through}
+use Rattle.scan_job.proofs.ModeLaws.{eliminated-as}
+use Rattle.scan_job.proofs.AnswerLaws.{scan-room, answer-fits, answer-is, results-are}
+use Rattle.scan_job.proofs.scan_laid.Statement.{statement}
+use Rattle.scan_job.proofs.scan_laid.Tie as tie
+
+class-table-requires : tie.Need-class-table-requires
+class-table-requires c κs = search needs
+
+lay-requires : tie.Need-lay-requires
+lay-requires c κs =
+    let p = scan-through _ _ _ _ _ _ (c .before .before .before .before .before .before .before .before .before .pre .0) in
+    (c .before .before .before .class-table .ensures, p .both .text, p .bytes, p .words)
+
+scan-mode-requires : tie.Need-scan-mode-requires
+scan-mode-requires c κs =
+    let s = c .before .before .before .before .before .before .before .before .before .before .before .before .before .before .before .before .before .before in
+    let a = s .args in
+    let l = c .before .before .before .before .before .before .before .before .lay .ensures in
+    let p = scan-through _ _ _ _ _ _ (s .pre .0) in (
+      record {
+        classes = c .before .before .before .before .before .before .before .before .before .before .before .before .class-table .ensures;
+        laid = l .0;
+        few = omega (arith, l .1 .1, p .both .few);
+        sound = p .both .sound;
+        texts = s .pre .1;
+        some-text = p .both .some;
+      },
+      (p .step, scan-room (now (a .text)) (now (a .book)) (a .limits) (a .mode) (a .budget) (now (a .area)) (now (a .words)) (now (a .results)) (s .pre .0) _ (l .1 .0)),
+    )
+
+answer-requires : tie.Need-answer-requires
+answer-requires c κs =
+    let s = c .before .before .before .before .before .before .before .before .before .before .before .before .before .before .before .before .before .before .before .before .before .before .before .before .before in
+    let a = s .args in
+    let e = ap (λ (ls : List (List ℕ)). events (a .limits) (a .mode) (stored (now (a .book))) ls) (sym (c .before .before .before .before .before .before .before .before .before .before .before .before .before .before .before .lay .ensures .1 .0)) in
+    let h = eliminated-as e (c .before .before .before .before .before .before .scan-mode .ensures) in
+    (h .name, answer-fits (now (a .text)) (now (a .book)) (a .limits) (a .mode) (a .budget) (now (a .area)) (now (a .words)) (now (a .results)) (s .pre .0) _ _ h)
+
+same-length : tie.Need-same-length
+same-length c = search needs
+
+same-length-2 : tie.Need-same-length-2
+same-length-2 c = search needs
+
+same-length-3 : tie.Need-same-length-3
+same-length-3 c = search needs
+
+returns : tie.Need-returns
+returns c =
+    let s = c .before .before .before .before .before .before .before .before .before .before .before .before .before .before .before .before .before .before .before .before .before .before .before .before .before .before in
+    let a = s .args in
+    let e = ap (λ (ls : List (List ℕ)). events (a .limits) (a .mode) (stored (now (a .book))) ls) (sym (c .before .before .before .before .before .before .before .before .before .before .before .before .before .before .before .before .lay .ensures .1 .0)) in
+    let h = eliminated-as e (c .before .before .before .before .before .before .before .scan-mode .ensures) in
+    record {
+      answer = c .answer .ensures ∙
+          answer-is (now (a .text)) (now (a .book)) (a .limits) (a .mode) (a .budget) (now (a .area)) (now (a .words)) (now (a .results)) (s .pre .0) _ _ h;
+      results = results-are (now (a .text)) (now (a .book)) (a .limits) (a .mode) (a .budget) (now (a .area)) (now (a .words)) (now (a .results)) (s .pre .0) _ _ h;
+    }
+
+pub scan-laid-spec : {M : Type 1} → statement M
+scan-laid-spec =
+    tie.close
+    (tie.spec
+    class-table-requires
+    lay-requires
+    scan-mode-requires
+    answer-requires
+    same-length
+    same-length-2
+    same-length-3
+    returns)
