@@ -1,11 +1,14 @@
 // Runs `check_book` over every cut of document 01's book of 58 bytes, over every change of one of its bytes to each of 256 values, and over
 // books made for each clause of the format and each limit with its neighbour. It writes a sign for each book: a dot where the book is
-// refused, else the number of its stored texts.
+// refused, else the number of its stored texts; and of the books of 1,024 and 1,025 texts (limit.rt) the whole answer.
 //
 // The expected signs, in stdout, are not this code's: they are the definition `check` of the crate rules, computed by antt. For each list
 // of books below (all cuts; for each place all 256 values; the made books) one equation `signs of the books = a list of numbers` was
 // stated, the books and the numbers written out, and antt accepted each by `refl` with every definition unfolded. Assumes nothing.
+mod limit;
+
 ghost use Prim.Native.Nat.{_<_};
+use crate::limit::limit_of_texts;
 use detection::check::check_book;
 use libc::STDOUT_FILENO;
 use rules::Checked;
@@ -256,7 +259,7 @@ fn counts() {
     new_line();
 }
 
-fn bigrams() {
+fn order_of_bigrams() {
     show(
         b"\x01\x00\x00\x00\x01\x00A\x1e\x00\x00\x00\x02\x00\x02\x00\x00\x00\x02\x00\x00\x00\x01\x00\x00\x00\x03\x00\x00\x00a b\x01\x00\x00\x00\x03\x00\x00\x00a c",
     );
@@ -269,6 +272,10 @@ fn bigrams() {
     show(
         b"\x01\x00\x00\x00\x01\x00A\x1f\x00\x00\x00\x02\x00\x02\x00\x00\x00\x02\x00\x00\x00\x01\x00\x00\x00\x03\x00\x00\x00a b\x01\x00\x00\x00\x04\x00\x00\x00a bb",
     );
+    new_line();
+}
+
+fn terms() {
     show(
         b"\x01\x00\x00\x00\x01\x00A\x11\x00\x00\x00\x02\x00\x01\x00\x00\x00\x01\x00\x00\x00\x01\x00\x00\x00\x01\x00\x00\x00a",
     );
@@ -316,5 +323,7 @@ fn main() {
     order_of_names();
     table_heads();
     counts();
-    bigrams();
+    order_of_bigrams();
+    terms();
+    limit_of_texts();
 }

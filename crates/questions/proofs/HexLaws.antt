@@ -3,10 +3,10 @@
 use mathlib.Core.Path.{_≡_, refl, sym, ap, ap₂, _∙_}
 use mathlib.Core.Bool.{Bool, true, false}
 use mathlib.Core.List.{List, [], _∷_}
-use Prim.Native.Nat.{ℕ, suc, _+_, _*_, _/_, _%_, _≤_, _<_}
+use Prim.Native.Nat.{ℕ, suc, _+_, _-_, _*_, _/_, _%_, _≤_, _<_}
 use native.Mathlib.Omega.{arith}
 use lib.Dec.{leb, ltb}
-use lib.ListN.{length, drop, getD}
+use lib.ListN.{length, take, drop, getD, length-take, length-drop}
 use borrow.Author.Tests.{leb-true, leb-false, ltb-true}
 use Rattle.lists.proofs.SliceLaws.{drop-next, drop-done}
 use Rattle.lists.proofs.TableLaws.{tab, tab-at}
@@ -66,6 +66,11 @@ pub hexed-length : (s : List ℕ) → length (hexed s) ≤ 2 * length s + 1
 unfolding hexed
 hexed-length [] = omega arith
 hexed-length (x ∷ s) = omega (arith, pairs-length (x ∷ s))
+
+-- a part of a list in hex
+pub hexed-part : (a e : ℕ) (l : List ℕ) → length (hexed (take (e - a) (drop a l))) ≤ 2 * length l + 1
+hexed-part a e l =
+    omega (arith, hexed-length (take (e - a) (drop a l)), length-take (e - a) (drop a l), length-drop a l)
 
 -- ---- what was written reads as what it was
 glyphs : tab 16 (λ n. hexValue (hexGlyph n)) ≡ tab 16 (λ n. n)

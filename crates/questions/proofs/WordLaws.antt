@@ -1,11 +1,14 @@
 -- Word after word.
 -- Assumes nothing.
 use mathlib.Core.Path.{_≡_, refl, sym, ap, _∙_}
+use mathlib.Core.Bool.{Bool, true, false}
 use mathlib.Core.List.{List, []}
-use Prim.Native.Nat.{ℕ, zero, suc, _+_, _-_, _≤_, _<_}
+use Prim.Native.Nat.{ℕ, zero, suc, _+_, _-_, _≤_, _<_, min}
 use native.Mathlib.Omega.{arith}
-use lib.ListN.{length, take, drop, length-drop}
-use lib.Seq.{slice, drop-drop, length-take-le}
+use lib.Dec.{leb}
+use lib.ListN.{length, take, drop, length-drop, length-take}
+use lib.Seq.{slice, drop-drop, length-take-le, take-all, take-take}
+use borrow.Author.Tests.{leb-true, leb-false}
 use Rattle.lists.proofs.SliceLaws.{part-at, part-slice, drop-done}
 use Rattle.rules.specs.Bytes.{lead}
 use Rattle.slices.specs.declared.ends.Span.{Span}
@@ -42,3 +45,21 @@ module _ {k : ℕ} {s : List ℕ} {r : Span} (w : WordAt k s r) where
   word-length =
       ap length (sym word-part)
       ∙ length-take-le (r .end - r .start) (drop (r .start) s) (rw length-drop (omega (arith, w .order, w .within)))
+
+  -- the first bytes of a word
+  pub word-front : (most e : ℕ) → e ≡ r .start + min (r .end - r .start) most → take (e - r .start) (drop (r .start) s) ≡ take most (wordOf k s)
+  word-front most e p =
+      let n : ℕ = r .end - r .start in
+      let q : e - r .start ≡ min n most = omega arith in
+      rw (q, ← word-part) (at (leb n most) refl)
+    where
+      at : (b : Bool) → leb (r .end - r .start) most ≡ b →
+          take (min (r .end - r .start) most) (drop (r .start) s) ≡ take most (take (r .end - r .start) (drop (r .start) s))
+      at true h =
+          let l : r .end - r .start ≤ most = leb-true _ _ h in
+          let m : min (r .end - r .start) most ≡ r .end - r .start = omega arith in
+          rw m (sym (take-all most (take (r .end - r .start) (drop (r .start) s)) (rw length-take (omega arith))))
+      at false h =
+          let l : most < r .end - r .start = leb-false _ _ h in
+          let m : min (r .end - r .start) most ≡ most = omega arith in
+          rw m (sym (take-take most (r .end - r .start) (drop (r .start) s) (omega arith)))

@@ -2,3 +2,4 @@
 pub mod Words
 pub mod Hex
 pub mod Numbers
+pub mod Fields

@@ -1,8 +1,8 @@
--- Numbers read digit by digit, from the highest on; and the bytes of one.
+-- Numbers read digit by digit, from the highest on; the bytes of one, and its digits.
 -- Assumes nothing.
 use mathlib.Core.Bool.{cond}
-use mathlib.Core.List.{List, [], _∷_}
-use Prim.Native.Nat.{ℕ, _+_, _-_, _*_, _/_, _%_, min}
+use mathlib.Core.List.{List, [], _∷_, _++_}
+use Prim.Native.Nat.{ℕ, zero, suc, _+_, _-_, _*_, _/_, _%_, min}
 use lib.Dec.{ltb}
 use Rattle.questions.specs.Hex.{hexValue}
 
@@ -26,3 +26,11 @@ moreBits v x = 16 * (v % 268435456) + hexValue x
 -- the bytes of a number, the highest first
 unfoldable pub fourBytes : ℕ → List ℕ
 fourBytes x = x / 16777216 ∷ x / 65536 % 256 ∷ x / 256 % 256 ∷ x % 256 ∷ []
+
+-- a number in decimal; k is fuel, at least the number
+unfoldable pub digits : ℕ → ℕ → List ℕ
+digits zero x = (48 + x) ∷ []
+digits (suc k) x = cond (ltb x 10) ((48 + x) ∷ []) (digits k (x / 10) ++ (48 + x % 10) ∷ [])
+
+unfoldable pub decimal : ℕ → List ℕ
+decimal x = digits x x

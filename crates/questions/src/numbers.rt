@@ -6,8 +6,9 @@ ghost use Prim.Native.Nat.{_+_, _<_, _≤_};
 ghost use lib.ListN.{length, take};
 ghost use Rattle.lists.specs.Wrote.{Wrote};
 ghost use Rattle.questions.specs.Hex.{pairs};
-ghost use Rattle.questions.specs.Numbers.{digitValue, moreDigits, moreBits, read, fourBytes};
+ghost use Rattle.questions.specs.Numbers.{digitValue, moreDigits, moreBits, read, fourBytes, decimal};
 use crate::hex::hex_value;
+use crate::hex::put_byte;
 use crate::hex::put_pairs;
 
 // What a digit is worth; any other byte is worth nothing.
@@ -86,4 +87,16 @@ pub fn put_bits(x: u32, dst: &mut [u8], to: usize) -> usize
         (x % 256) as u8,
     ];
     put_pairs(&b, dst, to)
+}
+
+// A number in decimal, written from a place on; answers where it ends. It calls itself once for each digit.
+pub fn put_number(x: u32, dst: &mut [u8], to: usize) -> usize
+    requires { ⌜ to + length (decimal x) ≤ length (now dst) ⌝ }
+    ensures { λ r. ⌜ Wrote (take to (now (dst .entry)) ++ decimal x) (now (dst .entry)) r (now (dst .exit)) ⌝ }
+{
+    if x < 10 {
+        return put_byte(48 + x as u8, dst, to);
+    }
+    let at = put_number(x / 10, dst, to);
+    put_byte(48 + (x % 10) as u8, dst, at)
 }

@@ -9,14 +9,13 @@ use native.Mathlib.Numerals.{add-one}
 use native.Mathlib.Omega.{arith}
 use lib.Dec.{ltb}
 use lib.ListN.{length, take, drop, length-append, length-take}
-use borrow.Author.Tests.{ltb-true, ltb-false, eq-eqb, ne-eqb, le-leb, lt-leb}
-use Rattle.lists.specs.Wrote.{Front}
+use borrow.Author.Tests.{ltb-true, ltb-false, eq-eqb, ne-eqb}
 use Rattle.lists.proofs.SliceLaws.{part-slice}
 use Rattle.rules.specs.Bytes.{text, starts}
 use Rattle.rules.specs.Lines.{lines}
 use Rattle.rules.specs.Refusal.{refusal, ofText}
-use Rattle.questions.specs.Words.{wordOf}
-use Rattle.questions.specs.Hex.{unhexed, hexed}
+use Rattle.questions.specs.Hex.{hexed}
+use Rattle.questions.specs.Fields.{textOf}
 use Rattle.questions.proofs.HexLaws.{hexed-length}
 use Rattle.preproc_lines.specs.Entries.{startAt, endAt, lineAt, linesFrom, linesAt, Apart}
 use Rattle.replay_lines.specs.Told.{markOf, told, answerTo, answerOf}
@@ -107,9 +106,6 @@ apart-wider high h p =
     record { low = λ i k. omega arith; order = p .order; high = λ i k. omega (arith, p .high i k); apart = p .apart }
 
 -- ---- which answer it is
-pub front-none : {out : List ℕ} {d : List ℕ} → out ≡ [] → Front out 0 d
-front-none e = record { within = omega arith; count = rw e; bytes = sym e }
-
 pub answer-none : (t : List ℕ) → (refusal (ofText t) ≡ 0 → ⊥) → answerTo t ≡ []
 unfolding answerTo
 answer-none t h = rw (ne-eqb (refusal (ofText t)) 0 h)
@@ -123,10 +119,6 @@ module _ (q : List ℕ) where
   unfolding answerOf
   other-question e = rw e
 
-  pub long-text : starts (text "lines ") q ≡ true → 4097 < length (wordOf 1 q) → answerOf q ≡ []
+  pub right-question : starts (text "lines ") q ≡ true → answerOf q ≡ answerTo (textOf 2048 1 q)
   unfolding answerOf
-  long-text e h = rw (e, lt-leb (length (wordOf 1 q)) 4097 h)
-
-  pub right-question : starts (text "lines ") q ≡ true → length (wordOf 1 q) ≤ 4097 → answerOf q ≡ answerTo (unhexed (wordOf 1 q))
-  unfolding answerOf
-  right-question e h = rw (e, le-leb (length (wordOf 1 q)) 4097 h)
+  right-question e = rw e

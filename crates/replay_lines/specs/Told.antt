@@ -1,15 +1,14 @@
 -- The answer to a question `lines TEXT`: the text's lines, as the rules give them, in hex.
 -- Assumes nothing.
-use mathlib.Core.Bool.{_&&_, cond}
+use mathlib.Core.Bool.{cond}
 use mathlib.Core.List.{List, [], _∷_, _++_}
 use Prim.Native.Nat.{ℕ}
-use lib.Dec.{leb, eqb}
-use lib.ListN.{length}
+use lib.Dec.{eqb}
 use Rattle.rules.specs.Bytes.{text, starts}
 use Rattle.rules.specs.Lines.{lines}
 use Rattle.rules.specs.Refusal.{refusal, ofText}
-use Rattle.questions.specs.Words.{wordOf}
-use Rattle.questions.specs.Hex.{unhexed, hexed}
+use Rattle.questions.specs.Hex.{hexed}
+use Rattle.questions.specs.Fields.{textOf}
 
 -- what stands behind a line: a space, and behind the last the newline
 unfoldable pub markOf : List (List ℕ) → ℕ
@@ -24,6 +23,6 @@ told (l ∷ ls) = hexed l ++ markOf ls ∷ told ls
 unfoldable pub answerTo : List ℕ → List ℕ
 answerTo t = cond (eqb (refusal (ofText t)) 0) (told (lines t)) []
 
--- nor does another question, nor a text of more than 2,048 bytes
+-- nor does another question; of a text 2,048 bytes are read
 unfoldable pub answerOf : List ℕ → List ℕ
-answerOf q = cond (starts (text "lines ") q && leb (length (wordOf 1 q)) 4097) (answerTo (unhexed (wordOf 1 q))) []
+answerOf q = cond (starts (text "lines ") q) (answerTo (textOf 2048 1 q)) []

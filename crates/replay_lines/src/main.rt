@@ -1,5 +1,5 @@
 // Answers recorded questions `lines TEXT` as the original does (oracle/README.md): the lines of the text, normalised, in hex. Its input
-// holds the questions, and what it must write the original's own answers. Texts to 2,048 bytes; any other line gets no answer.
+// holds the questions, and what it must write the original's own answers. Of a text 2,048 bytes are read; any other line gets no answer.
 // Assumes nothing but the C library's read and write.
 ghost use mathlib.Core.Path.{_≡_};
 ghost use mathlib.Core.Bool.{cond};
@@ -8,18 +8,17 @@ ghost use lib.Dec.{ltb};
 ghost use lib.ListN.{length};
 ghost use Rattle.lists.specs.Wrote.{Wrote, Front};
 ghost use Rattle.slices.specs.Classes.{classTable};
-ghost use Rattle.questions.specs.Hex.{unhexed};
+ghost use Rattle.questions.specs.Fields.{textOf};
 ghost use Rattle.preproc_lines.specs.Entries.{linesAt, Apart};
 ghost use Rattle.replay_lines.specs.Told.{told, answerTo, answerOf};
 use preproc_lines::table::line_end;
 use preproc_lines::table::line_start;
 use preproc_lines::test::test_text;
 use preproc_lines::whole::normalise;
+use questions::fields::text_at;
 use questions::hex::put_byte;
 use questions::hex::put_hex;
-use questions::hex::unhex;
 use questions::words::mark_at;
-use questions::words::word;
 use slices::class::class_table;
 use slices::two::starts_with;
 
@@ -90,19 +89,19 @@ fn answer_text(
     put_lines(area, table, count, out)
 }
 
-// The answer to a text in hex, read into `text`.
+// The answer to a question on lines, whose text is read into `text`.
 fn answer_word(
     class: &[u8; 256],
-    src: &[u8],
+    line: &[u8],
     text: &mut [u8],
     area: &mut [u8; 16448],
     table: &mut [u32; 24640],
     out: &mut [u8; 16386],
 ) -> usize
-    requires { ⌜ (now class ≡ classTable) × (length (now src) ≤ 2 * length (now text) + 1) × (length (now text) ≤ 2048) ⌝ }
-    ensures { λ r. ⌜ Front (answerTo (unhexed (now (src .entry)))) r (now (out .exit)) ⌝ }
+    requires { ⌜ (now class ≡ classTable) × (length (now text) ≡ 2048) ⌝ }
+    ensures { λ r. ⌜ Front (answerTo (textOf 2048 1 (now (line .entry)))) r (now (out .exit)) ⌝ }
 {
-    let n = unhex(src, text);
+    let n = text_at(line, 1, text);
     answer_text(class, &text[..n], area, table, out)
 }
 
@@ -121,13 +120,7 @@ fn answer(
     if !starts_with(line, 0, b"lines ") {
         return 0;
     }
-    let w = word(line, 1);
-    let a = w.start;
-    let e = w.end;
-    if 4097 < e - a {
-        return 0;
-    }
-    answer_word(class, &line[a..e], text, area, table, out)
+    answer_word(class, line, text, area, table, out)
 }
 
 // Every question of the input, one after the other.

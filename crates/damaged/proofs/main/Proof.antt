@@ -50,8 +50,14 @@ table-heads-requires c κs = search needs
 counts-requires : tie.Need-counts-requires Inv-loop μ-loop
 counts-requires c κs = search needs
 
-bigrams-requires : tie.Need-bigrams-requires Inv-loop μ-loop
-bigrams-requires c κs = search needs
+order-of-bigrams-requires : tie.Need-order-of-bigrams-requires Inv-loop μ-loop
+order-of-bigrams-requires c κs = search needs
+
+terms-requires : tie.Need-terms-requires Inv-loop μ-loop
+terms-requires c κs = search needs
+
+limit-of-texts-requires : tie.Need-limit-of-texts-requires Inv-loop μ-loop
+limit-of-texts-requires c κs = search needs
 
 returns : tie.Need-returns Inv-loop μ-loop
 returns c = search needs
@@ -75,5 +81,7 @@ main-spec =
     order-of-names-requires
     table-heads-requires
     counts-requires
-    bigrams-requires
+    order-of-bigrams-requires
+    terms-requires
+    limit-of-texts-requires
     returns)

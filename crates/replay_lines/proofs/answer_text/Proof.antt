@@ -4,7 +4,8 @@ use mathlib.Core.Path.{sym, _∙_}
 use native.Mathlib.Omega.{arith}
 use denote.Ref.{now}
 use Rattle.lists.proofs.ChainLaws.{front-of}
-use Rattle.replay_lines.proofs.ToldLaws.{told-length, few-lines, apart-wider, front-none, answer-none, answer-some}
+use Rattle.questions.proofs.PutLaws.{front-none}
+use Rattle.replay_lines.proofs.ToldLaws.{told-length, few-lines, apart-wider, answer-none, answer-some}
 use borrow.Author.Needs.{needs}
 use Rattle.replay_lines.proofs.answer_text.Statement.{statement}
 use Rattle.replay_lines.proofs.answer_text.Tie as tie

@@ -1,0 +1,167 @@
+// Answers recorded questions `view START END TEXT` as the original does (oracle/README.md): the view after all aggressive passes, in hex.
+// Its input holds the questions, and what it must write the original's own answers. Of a text 2,048 bytes are read; any other line gets
+// no answer. Assumes nothing but the C library's read and write.
+ghost use mathlib.Core.Path.{_≡_};
+ghost use Prim.Native.Nat.{_+_, _*_, _≤_};
+ghost use lib.ListN.{length};
+ghost use Rattle.lists.specs.Wrote.{Front};
+ghost use Rattle.rules.specs.Passes.{aggressive};
+ghost use Rattle.rules.specs.Search.{viewed};
+ghost use Rattle.slices.specs.Classes.{classTable};
+ghost use Rattle.preproc_lines.specs.Entries.{linesAt};
+ghost use Rattle.license.specs.Ready.{Laid};
+ghost use Rattle.replay_views.specs.Told.{told, answerTo, answerIn, answerOf};
+use license::notes::lay;
+use license::views::process;
+use preproc_lines::test::test_text;
+use questions::fields::number_at;
+use questions::fields::text_at;
+use questions::hex::put_byte;
+use questions::hex::put_hex;
+use questions::words::mark_at;
+use rules::View;
+use slices::class::class_table;
+use slices::two::starts_with;
+
+// Room for all questions, for a text, for its areas and for an answer.
+fn input() -> [u8; 1048576] {
+    [0; 1048576]
+}
+
+fn text_area() -> [u8; 2048] {
+    [0; 2048]
+}
+
+fn byte_area() -> [u8; 16448] {
+    [0; 16448]
+}
+
+fn word_area() -> [u32; 24640] {
+    [0; 24640]
+}
+
+fn out_area() -> [u8; 32898] {
+    [0; 32898]
+}
+
+// The processed text of a view in hex, and a newline, written from the front; answers where they end.
+fn put_view(
+    class: &[u8; 256],
+    area: &mut [u8],
+    words: &mut [u32],
+    n: usize,
+    lines: usize,
+    v: View,
+    out: &mut [u8],
+) -> usize
+    requires { ⌜ (now class ≡ classTable) × Laid n lines (now area) (now words) × (2 * length (now area) + 2 ≤ length (now out)) ⌝ }
+    requires { ⌜ (v .start ≤ v .end) × (v .end ≤ lines) ⌝ }
+    ensures { λ r. ⌜ Front (told (aggressive (viewed (linesAt (now (area .entry)) (now (words .entry)) lines) v))) r (now (out .exit)) ⌝ }
+{
+    let p = process(class, area, words, n, lines, v);
+    let a = p.start;
+    let e = p.end;
+    let h = put_hex(&area[a..e], out, 0);
+    put_byte(10, out, h)
+}
+
+// The answer to a view of a text, written from the front; answers where it ends.
+fn answer_view(
+    class: &[u8; 256],
+    text: &[u8],
+    start: usize,
+    end: usize,
+    area: &mut [u8; 16448],
+    words: &mut [u32; 24640],
+    out: &mut [u8; 32898],
+) -> usize
+    requires { ⌜ (now class ≡ classTable) × (length (now text) ≤ 2048) ⌝ }
+    ensures { λ r. ⌜ Front (answerTo start end (now (text .entry))) r (now (out .exit)) ⌝ }
+{
+    let t = test_text(text);
+    let refusal = t.refusal;
+    if refusal != 0 {
+        return 0;
+    }
+    let lines = lay(class, text, area, words);
+    if lines < end {
+        return 0;
+    }
+    if end < start {
+        return 0;
+    }
+    put_view(
+        class,
+        area,
+        words,
+        text.len(),
+        lines,
+        View { start, end },
+        out,
+    )
+}
+
+// The answer to a question on a view, whose text is read into `text`.
+fn answer_words(
+    class: &[u8; 256],
+    line: &[u8],
+    text: &mut [u8],
+    area: &mut [u8; 16448],
+    words: &mut [u32; 24640],
+    out: &mut [u8; 32898],
+) -> usize
+    requires { ⌜ (now class ≡ classTable) × (length (now text) ≡ 2048) ⌝ }
+    ensures { λ r. ⌜ Front (answerIn (now (line .entry))) r (now (out .exit)) ⌝ }
+{
+    let start = number_at(line, 1) as usize;
+    let end = number_at(line, 2) as usize;
+    let n = text_at(line, 3, text);
+    answer_view(class, &text[..n], start, end, area, words, out)
+}
+
+// The answer to a question.
+fn answer(
+    class: &[u8; 256],
+    line: &[u8],
+    text: &mut [u8; 2048],
+    area: &mut [u8; 16448],
+    words: &mut [u32; 24640],
+    out: &mut [u8; 32898],
+) -> usize
+    requires { ⌜ now class ≡ classTable ⌝ }
+    ensures { λ r. ⌜ Front (answerOf (now (line .entry))) r (now (out .exit)) ⌝ }
+{
+    if !starts_with(line, 0, b"view ") {
+        return 0;
+    }
+    answer_words(class, line, text, area, words, out)
+}
+
+// Every question of the input, one after the other.
+fn answer_all(all: &[u8]) {
+    let class = class_table();
+    let mut text = text_area();
+    let mut area = byte_area();
+    let mut words = word_area();
+    let mut out = out_area();
+    let mut at = 0;
+    while at < all.len() {
+        let end = mark_at(all, at, 10);
+        let n = answer(
+            &class,
+            &all[at..end],
+            &mut text,
+            &mut area,
+            &mut words,
+            &mut out,
+        );
+        io::write_all(1, &out[..n]);
+        at = end + 1;
+    }
+}
+
+fn main() {
+    let mut all = input();
+    let n = io::read_full(0, &mut all);
+    answer_all(&all[..n]);
+}
