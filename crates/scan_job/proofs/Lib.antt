@@ -1,2 +1,3 @@
 pub mod ModeLaws
 pub mod AnswerLaws
+pub mod FaceLaws

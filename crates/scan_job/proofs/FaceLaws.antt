@@ -1,0 +1,77 @@
+-- Demand 3 at the face: what a caller concludes from `ScanDone`, the contract of the job `scan`, alone.
+--     count-exact                       the count is the number of scorings that the budget pays of the definition's list
+--     elimination-most, topDown-most    the two limits on the count
+--     over-budget, only-over            12 comes exactly where nothing is refused before any work and the list is longer than the budget
+--     over-counts                       the count is then the budget
+--     recorded-stays                    the records that it has written are the first of the full scan's
+-- Assumes nothing.
+use mathlib.Core.Path.{_≡_, refl, sym, ap, _∙_}
+use mathlib.Core.Bool.{Bool}
+use mathlib.Core.List.{List, _++_}
+use Prim.Native.Nat.{ℕ, _≤_, _<_, min}
+use native.Mathlib.Omega.{arith}
+use lib.ListN.{length, drop}
+use Rattle.rules.specs.declared.Limits.{Limits}
+use Rattle.rules.specs.declared.Mode.{Mode}
+use Rattle.rules.specs.declared.Mode.the-variants.{Elimination, TopDown}
+use Rattle.rules.specs.declared.Scanned.{Scanned}
+use Rattle.rules.specs.Lines.{lines, lineCount}
+use Rattle.rules.specs.Scan.{Event, events, afford, scorings, records, numbers}
+use Rattle.rules.specs.Book.{stored}
+use Rattle.rules.specs.Count.{mostElimination, mostTopDown}
+use Rattle.rules.specs.Refusal.{refusal, beforeScan, ofScan}
+use Rattle.rules.specs.Jobs.{lent, over, happened, scan, resultsAfter, ScanDone}
+use Rattle.rules.proofs.BudgetLaws.{Begins, records-begins}
+use Rattle.rules.proofs.RefusalLaws.{lines-count, scan-over, scan-only, scan-count, scan-happened}
+use Rattle.rules.proofs.ScanCountLaws.{elimination-count, topDown-count}
+
+module _ {t book : List ℕ} {lim : Limits} {mode : Mode} {budget : ℕ} {b₀ b w₀ w r₀ r : List ℕ} {a : Scanned}
+    (d : ScanDone t book lim mode budget b₀ b w₀ w r₀ r a) where
+  abbrev pub full : List Event
+  full = events lim mode (stored book) (lines t)
+
+  -- what is refused before any work
+  abbrev pub before : ℕ
+  before = refusal (beforeScan t book lim mode (lent b₀ w₀) (length r₀))
+
+  number : a .refusal ≡ refusal (ofScan t book lim mode budget (lent b₀ w₀) (length r₀))
+  unfolding scan
+  number = ap (λ (x : Scanned). x .refusal) (d .answer)
+
+  pub count-exact : before ≡ 0 → a .count ≡ min budget (length (scorings full))
+  count-exact z = ap (λ (x : Scanned). x .count) (d .answer) ∙ scan-count t book lim mode (lent b₀ w₀) (length r₀) budget z
+
+  pub over-budget : before ≡ 0 → budget < length (scorings full) → a .refusal ≡ 12
+  over-budget z l = number ∙ scan-over t book lim mode (lent b₀ w₀) (length r₀) budget z l
+
+  pub only-over : a .refusal ≡ 12 → (before ≡ 0) × (budget < length (scorings full))
+  only-over e = scan-only t book lim mode (lent b₀ w₀) (length r₀) budget (sym number ∙ e)
+
+  pub over-counts : a .refusal ≡ 12 → a .count ≡ budget
+  over-counts e =
+      let o = only-over e in
+      omega (arith, count-exact (o .0), o .1)
+
+  pub recorded-stays : before ≡ 0 → r ≡ over (numbers (records (afford budget full))) r₀
+  unfolding resultsAfter
+  recorded-stays z =
+      d .results ∙ ap (λ (es : List Event). over (numbers (records es)) r₀) (scan-happened t book lim mode (lent b₀ w₀) (length r₀) budget z)
+
+  pub recorded-first : Begins (records (afford budget full)) (records full)
+  recorded-first = records-begins budget full
+
+-- ---- the two limits
+module _ {t book : List ℕ} {lim : Limits} {budget : ℕ} {b₀ b w₀ w r₀ r : List ℕ} {a : Scanned} where
+  pub elimination-most : (optimize : Bool) (p : ℕ) (d : ScanDone t book lim (Elimination optimize p) budget b₀ b w₀ w r₀ r a) →
+      refusal (beforeScan t book lim (Elimination optimize p) (lent b₀ w₀) (length r₀)) ≡ 0 →
+      a .count ≤ mostElimination (length (stored book)) p (lineCount t)
+  unfolding events
+  elimination-most optimize p d z =
+      omega (arith, count-exact d z, elimination-count lim optimize p (stored book) (lines t), ap (mostElimination (length (stored book)) p) (lines-count t))
+
+  pub topDown-most : (s : ℕ) → 0 < s → (d : ScanDone t book lim (TopDown s) budget b₀ b w₀ w r₀ r a) →
+      refusal (beforeScan t book lim (TopDown s) (lent b₀ w₀) (length r₀)) ≡ 0 →
+      a .count ≤ mostTopDown (length (stored book)) s (lineCount t)
+  unfolding events
+  topDown-most s p d z =
+      omega (arith, count-exact d z, topDown-count lim s (stored book) (lines t) p, ap (mostTopDown (length (stored book)) s) (lines-count t))
