@@ -1,9 +1,19 @@
 // The library's face for C: plain types, nothing else. So far two jobs stand here, the check of a book and the compilation of a text; the
 // others follow as they are proved. Assumes of a C caller that no two of the slices that it lends to one call overlap.
 ghost use mathlib.Core.Path.{_≡_};
-ghost use Rattle.rules.specs.Jobs.{check, CompileDone};
+ghost use Rattle.rules.specs.Search.{view};
+ghost use Rattle.rules.specs.declared.Mode.the-variants.{Elimination, TopDown};
+ghost use Rattle.chultarvi.specs.Answers.{answerOf};
+ghost use Rattle.rules.specs.Jobs.{ScoreDone, BoundsDone, ScanDone, check, CompileDone};
 use compile::compile;
 use detection::check::check_book;
+use jobs::bounds::bounds_of;
+use jobs::score::score_view;
+use rules::Limits;
+use rules::Mode;
+use rules::Scanned;
+use rules::View;
+use scan_job::scan;
 
 // Document 01's number of the refusal, 0 for none; and N.
 #[repr(C)]
@@ -44,4 +54,131 @@ pub extern "C" fn chultarvi_compile(
         refusal: t.refusal,
         len: t.len,
     }
+}
+
+#[repr(C)]
+pub struct ViewScored {
+    pub refusal: u32,
+    pub score: f32,
+}
+
+// The view [start, end) of the text's lines against the stored text `number`.
+#[no_mangle]
+pub extern "C" fn chultarvi_score(
+    text: &[u8],
+    book: &[u8],
+    start: usize,
+    end: usize,
+    number: u32,
+    area: &mut [u8],
+    words: &mut [u32],
+) -> ViewScored
+    ensures { λ r. ⌜ ScoreDone (now (text .entry)) (now (book .entry)) (view start end) number (now (area .entry)) (now (area .exit)) (now (words .entry)) (now (words .exit)) (record { refusal = r .refusal; score = r .score }) ⌝ }
+{
+    let v = View { start, end };
+    let s = score_view(text, book, v, number, area, words);
+    ViewScored {
+        refusal: s.refusal,
+        score: s.score,
+    }
+}
+
+#[repr(C)]
+pub struct BoundsFound {
+    pub refusal: u32,
+    pub first: u32,
+    pub after: u32,
+    pub score: f32,
+    pub count: u64,
+}
+
+#[no_mangle]
+pub extern "C" fn chultarvi_bounds(
+    text: &[u8],
+    book: &[u8],
+    start: usize,
+    end: usize,
+    number: u32,
+    area: &mut [u8],
+    words: &mut [u32],
+) -> BoundsFound
+    ensures { λ r. ⌜ BoundsDone (now (text .entry)) (now (book .entry)) (view start end) number (now (area .entry)) (now (area .exit)) (now (words .entry)) (now (words .exit)) (record { refusal = r .refusal; first = r .first; after = r .after; score = r .score; count = r .count }) ⌝ }
+{
+    let v = View { start, end };
+    let b = bounds_of(text, book, v, number, area, words);
+    BoundsFound {
+        refusal: b.refusal,
+        first: b.first,
+        after: b.after,
+        score: b.score,
+        count: b.count,
+    }
+}
+
+// The answer of both scans: the name that won, zero-filled, and its length; its kind, 0 where none is named.
+#[repr(C)]
+pub struct NoteScanned {
+    pub refusal: u32,
+    pub records: u32,
+    pub count: u64,
+    pub score: f32,
+    pub kind: u32,
+    pub len: u32,
+    pub name: [u8; 64],
+}
+
+fn for_c(s: Scanned) -> NoteScanned
+    ensures { λ r. ⌜ s ≡ answerOf r ⌝ }
+{
+    let name = s.name;
+    NoteScanned {
+        refusal: s.refusal,
+        records: s.records,
+        count: s.count,
+        score: s.score,
+        kind: s.kind,
+        len: s.len,
+        name,
+    }
+}
+
+#[no_mangle]
+pub extern "C" fn chultarvi_eliminate(
+    text: &[u8],
+    book: &[u8],
+    threshold: f32,
+    shallow: f32,
+    optimize: bool,
+    passes: u16,
+    budget: u64,
+    area: &mut [u8],
+    words: &mut [u32],
+    results: &mut [u32],
+) -> NoteScanned
+    ensures { λ r. ⌜ ScanDone (now (text .entry)) (now (book .entry)) (record { threshold = threshold; shallow = shallow }) (Elimination optimize passes) budget (now (area .entry)) (now (area .exit)) (now (words .entry)) (now (words .exit)) (now (results .entry)) (now (results .exit)) (answerOf r) ⌝ }
+{
+    let limits = Limits { threshold, shallow };
+    let mode = Mode::Elimination(optimize, passes);
+    let s = scan(text, book, limits, mode, budget, area, words, results);
+    for_c(s)
+}
+
+#[no_mangle]
+pub extern "C" fn chultarvi_top_down(
+    text: &[u8],
+    book: &[u8],
+    threshold: f32,
+    shallow: f32,
+    step: u64,
+    budget: u64,
+    area: &mut [u8],
+    words: &mut [u32],
+    results: &mut [u32],
+) -> NoteScanned
+    ensures { λ r. ⌜ ScanDone (now (text .entry)) (now (book .entry)) (record { threshold = threshold; shallow = shallow }) (TopDown step) budget (now (area .entry)) (now (area .exit)) (now (words .entry)) (now (words .exit)) (now (results .entry)) (now (results .exit)) (answerOf r) ⌝ }
+{
+    let limits = Limits { threshold, shallow };
+    let mode = Mode::TopDown(step);
+    let s = scan(text, book, limits, mode, budget, area, words, results);
+    for_c(s)
 }

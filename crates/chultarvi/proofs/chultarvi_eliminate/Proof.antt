@@ -1,0 +1,14 @@
+-- `chultarvi::chultarvi_eliminate` meets its contract: the job's answer, field by field.
+-- Assumes nothing.
+use borrow.Author.Needs.{needs}
+use Rattle.chultarvi.proofs.AnswerLaws.{scan-as}
+use Rattle.chultarvi.proofs.chultarvi_eliminate.Statement.{statement}
+use Rattle.chultarvi.proofs.chultarvi_eliminate.Tie as tie
+
+returns : tie.Need-returns
+returns c = scan-as (c .for-c .ensures) (c .before .before .before .before .before .before .before .scan .ensures)
+
+pub chultarvi-eliminate-spec : {M : Type 1} → statement M
+chultarvi-eliminate-spec =
+    tie.close
+    (tie.spec (λ c κs. search needs) (λ c κs. search needs) (λ c. search needs) (λ c. search needs) (λ c. search needs) returns)
