@@ -239,7 +239,7 @@ module _ {s p body : List ℕ} {k d n m i j : ℕ} (c : Meeting s p body k d n m
       omega (arith, y, meet-empty (c .stored))
 
 -- ---- the start
-sound-some : (body : List ℕ) (o : Option (List Counted)) → soundTable body o ≡ true → o ≡ some (tableIn body o .entries)
+pub sound-some : (body : List ℕ) (o : Option (List Counted)) → soundTable body o ≡ true → o ≡ some (tableIn body o .entries)
 unfolding soundTable tableIn
 sound-some body none h = absurd (false≢true h)
 sound-some body (some fs) h = refl
@@ -266,7 +266,7 @@ meeting-start s p body k d l r t h =
     }
 
 -- ---- the value of the two tables
-body-total : (body : List ℕ) (o : Option (List Counted)) → soundTable body o ≡ true → tableIn body o .total ≡ number 4 body
+pub body-total : (body : List ℕ) (o : Option (List Counted)) → soundTable body o ≡ true → tableIn body o .total ≡ number 4 body
 unfolding soundTable tableIn
 body-total body none h = absurd (false≢true h)
 body-total body (some fs) h = refl

@@ -2,3 +2,4 @@ pub mod HexLaws
 pub mod WordLaws
 pub mod NumberLaws
 pub mod PutLaws
+pub mod FitLaws

@@ -3,4 +3,5 @@
 pub mod fields;
 pub mod hex;
 pub mod numbers;
+pub mod views;
 pub mod words;

@@ -13,11 +13,11 @@ ghost use Rattle.license.specs.Ready.{Laid};
 ghost use Rattle.replay_views.specs.Told.{told, answerTo, answerIn, answerOf};
 use license::notes::lay;
 use license::views::process;
-use preproc_lines::test::test_text;
 use questions::fields::number_at;
 use questions::fields::text_at;
 use questions::hex::put_byte;
 use questions::hex::put_hex;
+use questions::views::view_fits;
 use questions::words::mark_at;
 use rules::View;
 use slices::class::class_table;
@@ -78,18 +78,10 @@ fn answer_view(
     requires { ⌜ (now class ≡ classTable) × (length (now text) ≤ 2048) ⌝ }
     ensures { λ r. ⌜ Front (answerTo start end (now (text .entry))) r (now (out .exit)) ⌝ }
 {
-    let t = test_text(text);
-    let refusal = t.refusal;
-    if refusal != 0 {
+    if !view_fits(text, start, end) {
         return 0;
     }
     let lines = lay(class, text, area, words);
-    if lines < end {
-        return 0;
-    }
-    if end < start {
-        return 0;
-    }
     put_view(
         class,
         area,

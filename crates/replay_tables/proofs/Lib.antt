@@ -1,0 +1,4 @@
+pub mod ToldLaws
+pub mod WalkLaws
+pub mod ScoreLaws
+pub mod MadeLaws

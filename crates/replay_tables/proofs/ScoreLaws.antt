@@ -1,0 +1,44 @@
+-- A score is no NaN, so that it has bits.
+-- Assumes nothing.
+use mathlib.Core.Path.{_≡_, ap}
+use mathlib.Core.Bool.{true, not}
+use mathlib.Core.List.{List, []}
+use Prim.Native.Nat.{ℕ}
+use native.Mathlib.Omega.{arith}
+use lib.Dec.{T}
+use lib.Ieee.{Float, nan, inf, fin, le, isNan}
+use lib.Seq.{slice}
+use Rattle.rules.specs.Table.{Table, bigrams, tableOf, valueOf}
+use Rattle.rules.specs.Book.{entriesOf, soundTable, tableIn}
+use Rattle.rules.specs.Refusal.{unit}
+use Rattle.rules.proofs.TableLaws.{Proper, table-proper, value-unit, sound-entries-rising}
+use Rattle.rules.proofs.SoundLaws.{table-sound}
+use Rattle.ngram.specs.Tables.{tableAt}
+use Rattle.license.specs.declared.views.Viewed.{Viewed}
+use Rattle.license.specs.Ready.{Tabled, tableOver, tableOfBody}
+
+pub no-nan : (x : Float) → T (unit x) → T (not (isNan x))
+unfolding unit le isNan
+no-nan nan t = t
+no-nan (inf s) t = tt
+no-nan (fin s m e) t = tt
+
+-- ---- a view's table and a sound body's
+view-proper : {n : ℕ} {area words : List ℕ} {t : Viewed} → Tabled n area words t → Proper (tableOver area t)
+unfolding tableOver tableAt tableOf
+view-proper {area = area} {t = t} h =
+    table-proper (bigrams (slice (t .start) (t .end) area)) (omega (arith, ap (λ (u : Table). u .total) (h .stands), h .most))
+
+body-proper : (body : List ℕ) → soundTable body (entriesOf body) ≡ true → Proper (tableOfBody body)
+unfolding tableOfBody
+body-proper body h =
+    let s = table-sound body (entriesOf body) h in
+    record {
+      rising = sound-entries-rising [] (tableIn body (entriesOf body) .entries) (s .0) .1;
+      summed = s .1;
+      limited = omega (arith, s .1, s .2);
+    }
+
+pub score-unit : {n : ℕ} {area words : List ℕ} {t : Viewed} (body : List ℕ) → Tabled n area words t → soundTable body (entriesOf body) ≡ true →
+    T (unit (valueOf (tableOver area t) (tableOfBody body) .score))
+score-unit {area = area} {t = t} body h s = value-unit (tableOver area t) (tableOfBody body) (view-proper h) (body-proper body s)
