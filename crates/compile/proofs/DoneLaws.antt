@@ -13,13 +13,9 @@ use Rattle.rules.specs.Book.{compiled}
 use Rattle.rules.specs.Refusal.{refusal, beforeCompile, ofCompile}
 use Rattle.rules.specs.Jobs.{areaAfter, over, compile, outputAfter, lent, CompileDone}
 use Rattle.rules.proofs.RefusalLaws.{compile-before, compile-fits}
+use Rattle.refusals.proofs.AdmitLaws.{compile-most}
+use Rattle.refusals.proofs.AreaLaws.{kept}
 use Rattle.compile.specs.Bodied.{Bodied}
-use Rattle.compile.proofs.RefusedLaws.{refused-most}
-
--- an area that a refusal from 1 to 10 leaves
-area-kept : (n : ℕ) (area : List ℕ) → (n ≡ 0 → ⊥) → n ≤ 10 → area ≡ areaAfter n area
-unfolding areaAfter
-area-kept n area h k = simp (ne-eqb n 0 h, ne-eqb n 11 (λ e. omega arith), ne-eqb n 12 (λ e. omega arith))
 
 module _ (t b w out : List ℕ) where
   abbrev before : ℕ
@@ -33,13 +29,13 @@ module _ (t b w out : List ℕ) where
   unfolding compile outputAfter
   done-none n e h =
       let same : number ≡ n = compile-before t (lent b w) (length out) (λ z. h (e ∙ z)) ∙ sym e in
-      let most : n ≤ 10 = omega (arith, e, refused-most t (lent b w)) in
+      let most : n ≤ 10 = omega (arith, e, compile-most t (lent b w)) in
       let not : eqb number 0 ≡ false = ne-eqb number 0 (λ z. h (sym same ∙ z)) in
       record {
         answer = simp not (λ i. record { refusal = sym same i; len = 0 });
         output = simp not;
-        bytes = area-kept n b h most;
-        words = area-kept n w h most;
+        bytes = kept n b h most;
+        words = kept n w h most;
       }
 
   -- ---- the work is done: 0 or 11

@@ -1,4 +1,3 @@
-pub mod RefusedLaws
 pub mod BodyLaws
 pub mod DoneLaws
 pub mod SoundCompiled

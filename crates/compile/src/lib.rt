@@ -6,7 +6,7 @@ ghost use Prim.Native.Nat.{_≤_};
 ghost use lib.ListN.{length, replicate};
 ghost use Rattle.rules.specs.Sizes.{byteArea, wordArea};
 ghost use Rattle.rules.specs.Book.{tableOut, compiled};
-ghost use Rattle.rules.specs.Refusal.{refusal, ofText, beforeCompile};
+ghost use Rattle.rules.specs.Refusal.{refusal, ofText};
 ghost use Rattle.rules.specs.Jobs.{CompileDone};
 ghost use Rattle.license.specs.Ready.{Tabled, tableOver};
 ghost use Rattle.compile.specs.Bodied.{Bodied};
@@ -17,29 +17,10 @@ use license::views::view_table;
 use ngram::bodies::body_len;
 use ngram::bodies::put_body;
 use ngram::tables::TableSize;
-use preproc_lines::test::test_text;
+use refusals::admit_compile;
 use rules::Compiled;
 use rules::View;
 use slices::class::class_table;
-
-// What is refused before any work, 0 for nothing: the text, then lent areas of so many bytes and words.
-fn refused(text: &[u8], bytes: usize, words: usize) -> u32
-    ensures { λ r. ⌜ r ≡ refusal (beforeCompile (now (text .entry)) (record { bytes = bytes; words = words })) ⌝ }
-{
-    let tested = test_text(text);
-    let number = tested.refusal;
-    if number != 0 {
-        return number;
-    }
-    let n = text.len();
-    if bytes < 8 * n + 64 {
-        return 10;
-    }
-    if words < 12 * n + 64 {
-        return 10;
-    }
-    0
-}
 
 // The body of the table that stands in the areas, at the front of the output, where it fits.
 fn write_body(area: &[u8], words: &[u32], n: usize, t: Viewed, out: &mut [u8]) -> Compiled
@@ -88,7 +69,7 @@ fn compile_through(text: &[u8], area: &mut [u8], words: &mut [u32], out: &mut [u
 pub fn compile(text: &[u8], area: &mut [u8], words: &mut [u32], out: &mut [u8]) -> Compiled
     ensures { λ r. ⌜ CompileDone (now (text .entry)) (now (area .entry)) (now (area .exit)) (now (words .entry)) (now (words .exit)) (now (out .entry)) (now (out .exit)) r ⌝ }
 {
-    let number = refused(text, area.len(), words.len());
+    let number = admit_compile(text, area.len(), words.len());
     if number != 0 {
         return Compiled {
             refusal: number,

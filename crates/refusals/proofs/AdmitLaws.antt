@@ -1,8 +1,9 @@
 -- Rows that are tried one after the other, and what is known of a text, a book, a view, settings and areas that are let through.
 --     check-not, check-none, check-some          the answer of `check`, as the two rows of a book
 --     both-first, both-then                      refusals 1 to 5, then the others
---     view-most, scan-most                       no refusal before any work is above 10
---     Through, ViewThrough, ScanThrough          what holds where nothing is refused: `through`, `view-through`, `scan-through`
+--     compile-most, view-most, scan-most         no refusal before any work is above 10
+--     compile-first, compile-then                compile: the text decides, then the areas
+--     Through, CompileThrough, ViewThrough, ScanThrough   what holds where nothing is refused: `through` and its like
 -- Assumes nothing.
 use mathlib.Core.Path.{_≡_, refl, sym, ap, _∙_}
 use mathlib.Core.Bool.{Bool, true, false, not, _&&_, _||_, cond}
@@ -21,9 +22,9 @@ use Rattle.rules.specs.Bytes.{every}
 use Rattle.rules.specs.Lines.{lineCount}
 use Rattle.rules.specs.Book as Book
 use Rattle.rules.specs.Book.{stored}
-use Rattle.rules.specs.Refusal.{Row, row, refusal, Areas, small, ofText, ofBook, ofCheck, ofView, beforeScan, unit, stepZero, resultsNeed}
+use Rattle.rules.specs.Refusal.{Row, row, refusal, Areas, small, ofText, ofBook, ofCheck, beforeCompile, ofView, beforeScan, unit, stepZero, resultsNeed}
 use Rattle.rules.specs.Jobs.{check, CheckDone}
-use Rattle.rules.proofs.BoolLaws.{and-left, and-right, cond-of}
+use Rattle.rules.proofs.BoolLaws.{and-left, and-right}
 use Rattle.rules.proofs.DownLaws.{Each}
 use Rattle.rules.proofs.RefusalLaws.{refusal-first, refusal-then, refusal-most}
 use Rattle.preproc_lines.specs.declared.test.Tested.{Tested}
@@ -181,6 +182,32 @@ through t book h =
 
 pub both-through : (t book : List ℕ) {a : Admitted} → AdmitsBoth t book a → a .refusal ≡ 0 → Through t book
 both-through t book h z = through t book (sym (h .number) ∙ z)
+
+-- ---- compile
+module _ (t : List ℕ) (a : Areas) where
+  pub compile-first : (refusal (ofText t) ≡ 0 → ⊥) → refusal (ofText t) ≡ refusal (beforeCompile t a)
+  unfolding beforeCompile
+  compile-first k = sym (refusal-first (ofText t) (row 10 (small t a) ∷ []) k)
+
+  pub compile-then : refusal (ofText t) ≡ 0 → (b : Bool) → b ≡ smallFor (length t) a → cond b 10 0 ≡ refusal (beforeCompile t a)
+  unfolding beforeCompile refusal small
+  compile-then z b e = ap (λ (q : Bool). cond q 10 0) e ∙ sym (refusal-then (ofText t) (row 10 (small t a) ∷ []) (text-numbered t []) z)
+
+  pub compile-most : refusal (beforeCompile t a) ≤ 10
+  unfolding beforeCompile ofText
+  compile-most = refusal-most (beforeCompile t a) (omega arith)
+
+  pub record CompileThrough : Type 0 where
+    pub text : refusal (ofText t) ≡ 0
+    pub bytes : byteArea (length t) ≤ a .bytes
+    pub words : wordArea (length t) ≤ a .words
+
+  pub compile-through : refusal (beforeCompile t a) ≡ 0 → CompileThrough
+  unfolding beforeCompile small
+  compile-through h =
+      let z = none-first (ofText t) (row 10 (small t a) ∷ []) h in
+      let w = neither _ _ (row-passes 9 (small t a) [] (sym (refusal-then (ofText t) (row 10 (small t a) ∷ []) (text-numbered t []) z) ∙ h) .0) in
+      record { text = z; bytes = ltb-false _ _ (w .0); words = ltb-false _ _ (w .1) }
 
 -- ---- a view
 module _ (t book : List ℕ) (v : View) (k : ℕ) (a : Areas) where

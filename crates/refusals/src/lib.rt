@@ -1,4 +1,4 @@
-// What a job refuses before any work, the first that applies in document 01's order: of score and bounds, and of scan.
+// What a job refuses before any work, the first that applies in document 01's order: of compile, of score and bounds, and of scan.
 // Added to spdx 0.13.6 (detection/scan.rs, Copyright 2018 Amazon.com, Inc. or its affiliates. All Rights Reserved.
 // SPDX-License-Identifier: Apache-2.0), which refuses nothing. Assumes nothing.
 ghost use mathlib.Core.Path.{_≡_};
@@ -6,7 +6,7 @@ ghost use mathlib.Core.Bool.{_&&_, _||_};
 ghost use Prim.Native.Nat.{_≤_};
 ghost use lib.Dec.{ltb, leb};
 ghost use Rattle.rules.specs.Sizes.{byteArea, wordArea};
-ghost use Rattle.rules.specs.Refusal.{refusal, unit, stepZero, resultsNeed};
+ghost use Rattle.rules.specs.Refusal.{refusal, beforeCompile, unit, stepZero, resultsNeed};
 ghost use Rattle.refusals.specs.Admits.{AdmitsBoth, AdmitsView, AdmitsScan, viewRows, scanRows};
 use detection::check::check_book;
 use preproc_lines::test::test_text;
@@ -65,6 +65,21 @@ fn small_areas(n: usize, bytes: usize, words: usize) -> bool
         return true;
     }
     words < 12 * n + 64
+}
+
+// Before compile, with work areas of so many bytes and words: refusals 1 to 3 and 10.
+pub fn admit_compile(text: &[u8], bytes: usize, words: usize) -> u32
+    ensures { λ r. ⌜ r ≡ refusal (beforeCompile (now (text .entry)) (record { bytes = bytes; words = words })) ⌝ }
+{
+    let tested = test_text(text);
+    let number = tested.refusal;
+    if number != 0 {
+        return number;
+    }
+    if small_areas(text.len(), bytes, words) {
+        return 10;
+    }
+    0
 }
 
 fn view_inside(v: View, lines: usize) -> bool

@@ -2,25 +2,21 @@
 -- Assumes nothing.
 use borrow.Author.Needs.{needs}
 use mathlib.Core.Path.{sym, _∙_}
-use Rattle.compile.proofs.RefusedLaws.{let-through}
+use Rattle.refusals.proofs.AdmitLaws.{compile-through}
 use Rattle.compile.proofs.DoneLaws.{done-none, done-work}
 use Rattle.compile.proofs.compile.Statement.{statement}
 use Rattle.compile.proofs.compile.Tie as tie
-use Rattle.compile.proofs.compile.Reads as reads
-use Rattle.compile.proofs.compile.Lts as lts
-use Rattle.compile.proofs.compile_through.Reads as compile-through-reads
-use Rattle.compile.proofs.refused.Reads as refused-reads
 
-refused-requires : tie.Need-refused-requires
-refused-requires c κs = search needs
+admit-compile-requires : tie.Need-admit-compile-requires
+admit-compile-requires c κs = search needs
 
 returns : tie.Need-returns
-returns c = done-none _ _ _ _ _ (c .before .refused .ensures) (c .if1 .taken)
+returns c = done-none _ _ _ _ _ (c .before .admit-compile .ensures) (c .if1 .taken)
 
 compile-through-requires : tie.Need-compile-through-requires
 compile-through-requires c κs =
-    let t = let-through _ _ (sym (c .before .before .before .before .refused .ensures) ∙ c .before .before .before .if1 .left) in
-    (t .passes, t .bytes, t .words)
+    let t = compile-through _ _ (sym (c .before .before .before .before .admit-compile .ensures) ∙ c .before .before .before .if1 .left) in
+    (t .text, t .bytes, t .words)
 
 same-length : tie.Need-same-length
 same-length c = search needs
@@ -34,13 +30,13 @@ same-length-3 c = search needs
 returns-2 : tie.Need-returns-2
 returns-2 c =
     let d = c .before .before .before .before .before .before .compile-through .ensures in
-    done-work _ _ _ _ _ _ _ _ (sym (c .before .before .before .before .before .before .before .before .before .before .before .refused .ensures) ∙ c .before .before .before .before .before .before .before .before .before .before .if1 .left) (d .0) (d .1 .0) (d .1 .1)
+    done-work _ _ _ _ _ _ _ _ (sym (c .before .before .before .before .before .before .before .before .before .before .before .admit-compile .ensures) ∙ c .before .before .before .before .before .before .before .before .before .before .if1 .left) (d .0) (d .1 .0) (d .1 .1)
 
 pub compile-spec : {M : Type 1} → statement M
 compile-spec =
     tie.close
     (tie.spec
-    refused-requires
+    admit-compile-requires
     returns
     compile-through-requires
     same-length
