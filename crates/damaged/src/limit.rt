@@ -1,5 +1,5 @@
 // Books of 1,024 and of 1,025 stored texts: one licence, its original and its alternates, each with an empty table. The first is the most
-// that a book may hold (refusal 0, and 1024), the second one more (refusal 4, and 0: `too-many-texts` of the crate rules).
+// that a book may hold, the second one more. What must be written of them is computed from the definitions (proofs/LimitCases.antt).
 // Assumes nothing.
 ghost use Prim.Native.Nat.{_+_, _≤_};
 ghost use lib.ListN.{length};

@@ -8,6 +8,7 @@ use Rattle.rules.specs.Bytes.{text, starts}
 use Rattle.rules.specs.Lines.{lines}
 use Rattle.rules.specs.Passes.{aggressive}
 use Rattle.rules.specs.Search.{view, viewed}
+use Rattle.questions.specs.Fields.{textOf, numberOf}
 use Rattle.questions.specs.Views.{viewFits}
 use Rattle.replay_views.specs.Told.{told, answerTo, answerIn, answerOf}
 
@@ -21,6 +22,11 @@ module _ (start end : ℕ) (t : List ℕ) where
   right-view e = rw e
 
 module _ (q : List ℕ) where
+  -- what was read is what the words stand for
+  pub view-asked : (start end : ℕ) (t : List ℕ) → start ≡ numberOf 1 q → end ≡ numberOf 2 q → t ≡ textOf 2048 3 q → answerTo start end t ≡ answerIn q
+  unfolding answerIn
+  view-asked start end t a b c = rw (a, b, c)
+
   pub other-question : starts (text "view ") q ≡ false → answerOf q ≡ []
   unfolding answerOf
   other-question e = rw e

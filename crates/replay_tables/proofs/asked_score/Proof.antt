@@ -2,8 +2,9 @@
 -- Assumes nothing.
 use mathlib.Core.Path.{sym}
 use native.Mathlib.Omega.{arith}
+use denote.Ref.{now}
 use lib.Seq.{length-take-le}
-use Rattle.replay_tables.specs.Told.{scoreAsked}
+use Rattle.replay_tables.proofs.ToldLaws.{score-asked}
 use borrow.Author.Needs.{needs}
 use Rattle.replay_tables.proofs.asked_score.Statement.{statement}
 use Rattle.replay_tables.proofs.asked_score.Tie as tie
@@ -21,15 +22,14 @@ answer-score-requires c κs =
     (s .pre .0, omega (arith, length-take-le (u .result) (u .last .1 .1 .0) (u .ensures .within), u .ensures .within, u .kept .1 .1 .0, s .pre .1), omega arith)
 
 returns : tie.Need-returns
-unfolding scoreAsked
 returns c =
-    let l = c .before .before .before .before .before .before .before .before .before .text-at2 in
-    let u = c .before .before .before .before .before .before .before .before .before .before .before .before .before .text-at in
+    let l = c .before .before .before .before .before .before .before .before .before .text-at2 .ensures .bytes in
+    let u = c .before .before .before .before .before .before .before .before .before .before .before .before .before .text-at .ensures .bytes in
     let m = c .before .before .before .before .before .before .before .before .before .before .before .before .before .before .before in
-    let s = c .before .before .before .before .before .before .before .before .before .before .before .before .before .before .before .before .before .before .before .before .pre in
-    let a = rw (s .1) at (u .ensures .bytes) in
-    let b = rw (s .2) at (l .ensures .bytes) in
-    rw (← m .number-at2 .ensures, ← m .before .number-at .ensures, ← a, ← b) (c .answer-score .ensures)
+    let s = c .before .before .before .before .before .before .before .before .before .before .before .before .before .before .before .before .before .before .before .before in
+    let a = rw (s .pre .1) at u in
+    let b = rw (s .pre .2) at l in
+    rw (← score-asked (now (s .args .line)) _ _ _ _ (m .before .number-at .ensures) (m .number-at2 .ensures) a b) (c .answer-score .ensures)
 
 pub asked-score-spec : {M : Type 1} → statement M
 asked-score-spec =

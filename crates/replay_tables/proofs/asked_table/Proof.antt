@@ -1,8 +1,9 @@
 -- `asked_table`: the text that the word stands for is what was read.
 -- Assumes nothing.
 use mathlib.Core.Path.{sym}
+use denote.Ref.{now}
 use lib.Seq.{length-take-le}
-use Rattle.replay_tables.specs.Told.{tableAsked}
+use Rattle.replay_tables.proofs.ToldLaws.{table-asked}
 use borrow.Author.Needs.{needs}
 use Rattle.replay_tables.proofs.asked_table.Statement.{statement}
 use Rattle.replay_tables.proofs.asked_table.Tie as tie
@@ -11,8 +12,10 @@ slice-aggregate-answer-table : tie.Need-slice-aggregate-answer-table
 slice-aggregate-answer-table c = sym (length-take-le _ _ (c .before .before .before .text-at .ensures .within))
 
 returns : tie.Need-returns
-unfolding tableAsked
-returns c = rw (← c .before .before .before .before .before .before .before .before .before .before .before .before .pre, ← c .before .before .before .before .before .before .before .before .text-at .ensures .bytes) (c .answer-table .ensures)
+returns c =
+    let s = c .before .before .before .before .before .before .before .before .before .before .before .before in
+    let a = rw (s .pre) at (c .before .before .before .before .before .before .before .before .text-at .ensures .bytes) in
+    rw (← table-asked (now (s .args .line)) _ a) (c .answer-table .ensures)
 
 pub asked-table-spec : {M : Type 1} → statement M
 asked-table-spec =

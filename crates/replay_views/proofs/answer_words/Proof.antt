@@ -2,8 +2,9 @@
 -- Assumes nothing.
 use mathlib.Core.Path.{sym}
 use native.Mathlib.Omega.{arith}
+use denote.Ref.{now}
 use lib.Seq.{length-take-le}
-use Rattle.replay_views.specs.Told.{answerIn}
+use Rattle.replay_views.proofs.ToldLaws.{view-asked}
 use borrow.Author.Needs.{needs}
 use Rattle.replay_views.proofs.answer_words.Statement.{statement}
 use Rattle.replay_views.proofs.answer_words.Tie as tie
@@ -18,12 +19,11 @@ answer-view-requires c κs =
     (s .pre .0, omega (arith, length-take-le (u .result) (u .last .1 .1 .0) (u .ensures .within), u .ensures .within, u .kept .1 .1 .0, s .pre .1))
 
 returns : tie.Need-returns
-unfolding answerIn
 returns c =
-    let u = c .before .before .before .before .before .before .before .text-at in
     let m = c .before .before .before .before .before .before .before .before .before in
     let s = c .before .before .before .before .before .before .before .before .before .before .before .before .before in
-    rw (← m .number-at2 .ensures, ← m .before .number-at .ensures, ← s .pre .1, ← u .ensures .bytes) (c .answer-view .ensures)
+    let t = rw (s .pre .1) at (c .before .before .before .before .before .before .before .text-at .ensures .bytes) in
+    rw (← view-asked (now (s .args .line)) _ _ _ (m .before .number-at .ensures) (m .number-at2 .ensures) t) (c .answer-view .ensures)
 
 pub answer-words-spec : {M : Type 1} → statement M
 answer-words-spec =
