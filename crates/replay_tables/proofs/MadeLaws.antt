@@ -17,7 +17,7 @@ use Rattle.rules.specs.Refusal.{refusal, Areas, ofText, beforeCompile, ofCompil
 use Rattle.rules.specs.Jobs.{over, compile, outputAfter, lent, CompileDone}
 use Rattle.rules.proofs.RefusalLaws.{compile-before}
 use Rattle.license.specs.Ready.{tableOfBody}
-use Rattle.compile.proofs.RefusedLaws.{let-through}
+use Rattle.refusals.proofs.AdmitLaws.{compile-through}
 use Rattle.compile.proofs.SoundCompiled.{compiled-sound, compiled-again}
 use Rattle.replay_tables.specs.Told.{compiles, tableTold, tableFor, scoreOver, scoreFor}
 
@@ -26,7 +26,7 @@ passes : (t : List ℕ) (a : Areas) (out : ℕ) → refusal (ofCompile t a out) 
 passes t a out z = at (eqb (refusal (beforeCompile t a)) 0) refl
   where
     at : (b : Bool) → eqb (refusal (beforeCompile t a)) 0 ≡ b → refusal (ofText t) ≡ 0
-    at true e = let-through t a (eqb-true (refusal (beforeCompile t a)) 0 e) .passes
+    at true e = compile-through t a (eqb-true (refusal (beforeCompile t a)) 0 e) .text
     at false e = let n = eqb-false (refusal (beforeCompile t a)) 0 e in absurd (n (sym (compile-before t a out n) ∙ z))
 
 pub record Made (t : List ℕ) (len : ℕ) (out : List ℕ) : Type 0 where
