@@ -1,4 +1,5 @@
 -- Rows that are tried one after the other, and what is known of a text, a book, a view, settings and areas that are let through.
+--     check-texts, check-sound                   what `check` says of a book that it does not refuse
 --     check-not, check-none, check-some          the answer of `check`, as the two rows of a book
 --     both-first, both-then                      refusals 1 to 5, then the others
 --     compile-most, view-most, scan-most         no refusal before any work is above 10
@@ -79,6 +80,18 @@ module _ (book : List ℕ) (c : Checked) (d : CheckDone book c) where
   pub check-texts : c .refusal ≡ 0 → c .texts ≡ length (stored book)
   unfolding check
   check-texts z = ap (λ (x : Checked). x .texts) (d .answer) ∙ rw (eq-eqb (refusal (ofCheck book)) 0 (sym check-number ∙ z))
+
+  -- a book that is not refused is sound
+  pub check-sound : c .refusal ≡ 0 → Book.sound book ≡ true
+  unfolding refusal ofCheck
+  check-sound z = at (Book.sound book) (sym check-number ∙ z)
+    where
+      at : (s : Bool) → _≡_ {A = ℕ} (cond (not s) 4 0) 0 → s ≡ true
+      at true e = refl
+      at false e = absurd (none e)
+        where
+          none : _≡_ {A = ℕ} 4 0 → ⊥
+          none e = omega arith
 
   pub check-not : (c .refusal ≡ 0 → ⊥) → c .refusal ≡ refusal (ofBook book)
   unfolding refusal ofCheck ofBook

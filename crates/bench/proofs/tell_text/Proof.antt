@@ -1,8 +1,7 @@
 -- `tell_text`: a book that is not refused is sound, and the number was held against its texts.
 -- Assumes nothing.
 use native.Mathlib.Omega.{arith}
-use Rattle.refusals.proofs.AdmitLaws.{check-texts}
-use Rattle.bench.proofs.BookLaws.{check-sound}
+use Rattle.refusals.proofs.AdmitLaws.{check-texts, check-sound}
 use borrow.Author.Needs.{needs}
 use Rattle.bench.proofs.tell_text.Statement.{statement}
 use Rattle.bench.proofs.tell_text.Tie as tie

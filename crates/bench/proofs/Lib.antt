@@ -1,2 +1,0 @@
--- What an answer of `check_book` says of the book.
-pub mod BookLaws
