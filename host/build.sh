@@ -1,4 +1,4 @@
-# shellcheck shell=sh disable=SC2086,SC2034
+# shellcheck shell=sh disable=SC2034,SC2086,SC2164,SC3013
 # Sourced by run.sh and test.sh: the compiler for x86-64 (the archive's machine), how its programs run here, and what must be built first.
 # On x86-64 that is cc; on another machine Debian's cross compiler and emulator. What is missing is installed by package name, and said.
 root=$(cd "$(dirname "$0")/.." && pwd)

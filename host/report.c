@@ -77,7 +77,7 @@ static void report_json(const report *r) {
 static void plain_range(const report *r, const uint32_t *record) {
     const stored_text *s = r->stored + record[0];
     uint32_t first = record[1], after = record[2];
-    if (first == after) printf("  no line, before line %" PRIu32, first + 1);
+    if (first == after) printf("  no line, after line %" PRIu32, first);
     else if (first + 1 == after) printf("  line %" PRIu32, after);
     else printf("  lines %" PRIu32 " to %" PRIu32, first + 1, after);
     printf(": %.*s, %s, score %.4f\n", (int)s->len, s->name, kind_words(s->kind), (double)score_of(record[3]));

@@ -1,4 +1,5 @@
 #!/bin/sh
+# shellcheck disable=SC1091,SC2086,SC2154
 # Builds what is missing and runs the command line with the words given; with none it scans the example note against the default book.
 set -eu
 . "$(dirname "$0")/build.sh"
