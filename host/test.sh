@@ -1,6 +1,6 @@
 #!/bin/sh
 # shellcheck disable=SC1091,SC2086,SC2154
-# Passes all tests of the host: builds what is missing, then runs host/test_face.c compiled as C and as C++, and host/test_line.sh over the command line.
+# Passes all tests of the host: builds what is missing, runs host/test_face.c compiled as C and as C++, and host/test_line.sh over the command line.
 # The last line is 'N passed, M failed', the sum; the exit status is 0 only where M is 0.
 set -eu
 . "$(dirname "$0")/build.sh"

@@ -121,10 +121,11 @@ static chultarvi_bounds_found bounds(const lent *l, size_t start, size_t end, ui
 static bool nothing_else(const chultarvi_note_scanned *s) {
     return s->records == 0 && s->count == 0 && s->score == 0.0f && s->kind == 0 && s->len == 0 && all_are(s->name, 0, 64, 0);
 }
-static chultarvi_note_scanned eliminate(const lent *l, float threshold, float shallow, bool optimize, uint16_t passes, uint64_t budget, const char *what) {
+static chultarvi_note_scanned eliminate(const lent *l, float threshold, float shallow, bool optimize, uint16_t passes, uint64_t budget,
+                                        const char *what) {
     fill(l);
-    chultarvi_note_scanned s = chultarvi_eliminate(l->text, l->len, l->book, l->book_len, threshold, shallow, optimize, passes, budget, area, l->area_len,
-                                                   words, l->words_len, results, l->results_len);
+    chultarvi_note_scanned s = chultarvi_eliminate(l->text, l->len, l->book, l->book_len, threshold, shallow, optimize, passes, budget, area,
+                                                   l->area_len, words, l->words_len, results, l->results_len);
     check(areas_right(l, s.refusal, 0, s.records) && (s.refusal == 0 || s.refusal == 12 || nothing_else(&s)), what);
     return s;
 }
@@ -168,8 +169,8 @@ static void test_answers(void) {
     check(s.refusal == 0 && s.records == 1 && s.score == 0.0f && s.kind == 0 && memcmp(results, record, 16) == 0, "top-down finds the same range");
     l = lend("My First License", 16, book_a, BOOK_A);
     s = eliminate(&l, 0.9f, 0.99f, false, 0, 1, "areas of a named licence");
-    check(s.refusal == 0 && s.kind == CHULTARVI_ORIGINAL && s.len == 1 && s.name[0] == 'A' && all_are(s.name, 1, 64, 0) && s.score == 1.0f && s.count == 1,
-          "a named licence: name, kind, score, count");
+    check(s.refusal == 0 && s.kind == CHULTARVI_ORIGINAL && s.len == 1 && s.name[0] == 'A' && all_are(s.name, 1, 64, 0) && s.score == 1.0f &&
+              s.count == 1, "a named licence: name, kind, score, count");
     check(eliminate(&l, 1.0f, 0.99f, false, 0, 1, "areas at threshold 1").kind == 0, "nothing is named at a score equal to the threshold");
 }
 

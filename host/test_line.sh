@@ -1,7 +1,8 @@
 #!/bin/sh
 # shellcheck disable=SC2015,SC2059,SC2086
-# Tests of the command line, run by host/test.sh: test_line.sh PROGRAM FAULTY BOOK NOTE, where FAULTY is the program with host/test_faults.c and RUN what
-# runs programs of x86-64. Prints what fails, then 'N passed, M failed'. Each test is: run STATUS WORDS..., then what must stand in $out and $err.
+# Tests of the command line, run by host/test.sh: test_line.sh PROGRAM FAULTY BOOK NOTE, where FAULTY is the program with host/test_faults.c and
+# RUN what runs programs of x86-64. Each test is: run STATUS WORDS..., then what must stand in $out and $err. Prints what fails, then
+# 'N passed, M failed'.
 set -u
 work=$(mktemp -d)
 chmod 755 "$work"
@@ -426,8 +427,9 @@ done
 mkdir small
 if unshare -m sh -c 'mount -t tmpfs -o size=64k none small' 2>/dev/null; then
     ran='compile wide onto a full disk'
-    unshare -m sh -c 'mount -t tmpfs -o size=64k none small && printf old >small/kept && { '"$program"' compile wide -o small/kept; echo $? >.got; } 2>.err >.out
-        cat small/kept >.kept; ls -A small >.left'
+    unshare -m sh -c 'mount -t tmpfs -o size=64k none small && printf old >small/kept
+        '"$program"' compile wide -o small/kept 2>.err >.out
+        echo $? >.got; cat small/kept >.kept; ls -A small >.left'
     got=$(cat .got) out=$(cat .out) err=$(cat .err)
     judge 2
     err_has 'No space left on device; what was there is unchanged'
