@@ -11,14 +11,20 @@ x86_64 | amd64) CC=${CC:-cc} CXX=${CXX:-g++} RUN=${RUN-} LINK=${LINK-} packages=
     packages='gcc-x86-64-linux-gnu g++-x86-64-linux-gnu qemu-user' ;;
 esac
 
+# Asks nothing. A fresh machine may have no list of packages yet, so on failure that is fetched first.
+install_packages() {
+    as_root=
+    [ "$(id -u)" = 0 ] || as_root='sudo -n'
+    apt="$as_root env DEBIAN_FRONTEND=noninteractive apt-get"
+    $apt install -y $packages >&2 || { $apt update >&2 && $apt install -y $packages >&2; }
+}
+
 # need PROGRAM...: installs the packages where one of the programs is not here
 need() {
     for program; do
         command -v "$program" >/dev/null && continue
         echo "host: $program is not here; installing the Debian packages $packages" >&2
-        as_root=
-        [ "$(id -u)" = 0 ] || as_root='sudo -n'
-        $as_root apt-get install -y $packages >&2 || {
+        install_packages || {
             echo "host: could not install $packages" >&2
             exit 2
         }
