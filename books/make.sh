@@ -39,12 +39,12 @@ while read -r name kind package file part; do
     fi
     number=$((number + 1))
     text=$work/$number
-    # a link names another text of the list, or of nobody's choice
+    # a link, as GPL to GPL-3, would be a second copy of another text
     [ ! -L "$file" ] || { echo "make.sh: $file is a link; name the file itself" >&2; exit 2; }
     part "$file" "$part" >"$text.whole"
     [ -s "$text.whole" ] || { echo "make.sh: $file of $package has no text '$part'" >&2; exit 2; }
     LC_ALL=C tr -d '\200-\377' <"$text.whole" >"$text"
-    LC_ALL=C grep -n "$(printf '[\200-\377]')" "$text.whole" | sed "s|^|make.sh: dropped bytes that are not ASCII: $file, $part, line |" >&2 || true
+    LC_ALL=C grep -an "$(printf '[\200-\377]')" "$text.whole" | sed "s|^|make.sh: dropped bytes that are not ASCII: $file, $part, line |" >&2 || true
     echo "$name $kind $text" >>"$work/list"
 done <"$books/debian.list"
 "$books/../host/run.sh" book "$out" "$work/list"

@@ -16,6 +16,7 @@ typedef struct {
     uint32_t *results;
     stored_text *stored;
     size_t stored_count;
+    bool watched;
 } scanner;
 
 enum { THRESHOLD = 1, SHALLOW, PASSES, NO_OPTIMIZE, TOP_DOWN, BUDGET, JSON, OPTIONS };
@@ -26,10 +27,24 @@ static const struct option options[] = {
     {"json", no_argument, 0, JSON},                 {0, 0, 0, 0},
 };
 
-static bool wrong_value(int which, const char *wanted) {
+static const char *option_name(int which) {
     const struct option *o = options;
-    while (o->val != which) o++;
-    say("--%s wants %s, not '%s'", o->name, wanted, optarg);
+    while (o->name && o->val != which) o++;
+    return o->name;
+}
+
+static bool wrong_value(int which, const char *wanted) {
+    say("--%s wants %s, not '%s'", option_name(which), wanted, optarg);
+    return false;
+}
+
+/* getopt's own words would name the subcommand as if it were the program. */
+static bool wrong_option(int which, const char *word) {
+    const char *name = option_name(optopt);
+    if (which == ':') say("--%s wants a value", name);
+    else if (name) say("--%s takes no value", name);
+    else if (optopt) say("-%c: scan has no such option; chultarvi --help tells more", optopt);
+    else say_of(word, "scan has no such option; chultarvi --help tells more");
     return false;
 }
 
@@ -53,7 +68,9 @@ static bool read_option(int which, settings *s) {
 /* An option that would have no effect is an error, so that nobody trusts in it. */
 static bool read_options(int count, char **words, settings *s) {
     bool seen[OPTIONS] = {false};
-    for (int which; (which = getopt_long(count, words, "+", options, 0)) != -1;) {
+    opterr = 0;
+    for (int which; (which = getopt_long(count, words, "+:", options, 0)) != -1;) {
+        if (which == '?' || which == ':') return wrong_option(which, words[optind - 1]);
         if (!read_option(which, s)) return false;
         seen[which] = true;
     }
@@ -89,7 +106,7 @@ static int scan_note(const scanner *s, const char *file) {
     const char *why = read_file(file, s->lent.text, CHULTARVI_TEXT_MOST, &len);
     chultarvi_note_scanned answer = {0};
     if (!why) answer = scan_text(s, len);
-    if (isatty(STDERR_FILENO)) fputs("\r\033[K", stderr);
+    if (s->watched) fputs("\r\033[K", stderr);
     if (why) {
         report_trouble(file, why, s->with.json);
         return TROUBLE;
@@ -99,9 +116,7 @@ static int scan_note(const scanner *s, const char *file) {
     return answer.refusal ? REFUSED : DONE;
 }
 
-/* Only for a person who waits: several notes, and standard error is a terminal. */
 static void show_progress(int at, int count, const char *file) {
-    if (count < 2 || !isatty(STDERR_FILENO)) return;
     fprintf(stderr, "\r\033[K%d of %d: ", at + 1, count);
     put_plain(stderr, file);
     fflush(stderr);
@@ -141,10 +156,12 @@ int run_scan(int count, char **words) {
     }
     char **notes = words + optind + 1;
     int many = count - optind - 1, status = DONE;
+    /* progress only for a person who waits */
+    s.watched = many > 1 && isatty(STDERR_FILENO);
     if (!open_scanner(&s, words[optind])) status = TROUBLE;
     else
         for (int i = 0; i < many; i++) {
-            show_progress(i, many, notes[i]);
+            if (s.watched) show_progress(i, many, notes[i]);
             int one = scan_note(&s, notes[i]);
             if (one > status) status = one;
             /* each answer is seen when it is there; when none can be written any more, the rest is not worth its time */

@@ -97,8 +97,13 @@ err_is "chultarvi: book wants OUT and LIST; $help"
 run 2 scan a.book
 err_is "chultarvi: scan wants a book and at least one note; $help"
 run 2 scan --frob a.book two
-err_has 'frob'
+err_is "chultarvi: --frob: scan has no such option; $help"
+run 2 scan -x a.book two
+err_is "chultarvi: -x: scan has no such option; $help"
+run 2 scan --json=yes a.book two
+err_is 'chultarvi: --json takes no value'
 run 2 scan --threshold
+err_is 'chultarvi: --threshold wants a value'
 run 2 scan --threshold x a.book two
 err_is "chultarvi: --threshold wants a number, not 'x'"
 run 2 scan --threshold '' a.book two
@@ -324,6 +329,14 @@ err_has 'chultarvi: nowhere: cannot be read: No such file or directory
 chultarvi: .: cannot be read: Is a directory
 chultarvi: umlaut: refused (2)'
 run 1 scan a.book license umlaut license
+# the same memory serves a long note and the short ones around it
+run 1 scan --no-optimize a.book license most over two
+out_is 'license: A, original, score 1.0000
+  1 scoring
+most: no licence as a whole (best score 0.0000)
+  1 scoring
+two: no licence as a whole (best score 0.6667)
+  1 scoring'
 
 # scan: JSON
 run 0 scan --json a.book two license
@@ -472,7 +485,7 @@ if command -v script >/dev/null; then
     out_has '2 of 2: license'
     script -qec "$program scan a.book two" /dev/null </dev/null >.out 2>&1
     out=$(cat .out)
-    case $out in *' of 1'*) bad 'progress of one note' ;; *) good ;; esac
+    case $out in *' of 1'* | *"$(printf '\033')"*) bad 'progress of one note' ;; *) good ;; esac
 else
     echo 'not run here: progress (no script)'
 fi
