@@ -321,7 +321,7 @@ static void test_areas(void) {
     lent l = marked();
     l.out_len = 1024;
     l.results_len = 40;
-    check(l.area_len == 8 * l.len + 64 && l.words_len == 12 * l.len + 64, "the helpers give 8n+64 and 12n+64");
+    check(l.area_len == 8 * l.len + 64 && l.words_len == 12 * l.len + 64, "the header's functions give 8n+64 and 12n+64");
     each_area(&l, 0, "areas of 8n+64 and 12n+64");
     l.area_len--;
     each_area(&l, 10, "one byte less");
