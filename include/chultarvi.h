@@ -1,16 +1,24 @@
-/* Chultarvi for C: a licence-note scanner whose every answer is proved. Link target/staticlib/libchultarvi.a (`rt staticlib chultarvi`).
+/* Chultarvi for C and C++: a licence-note scanner whose every answer is proved. Link target/staticlib/libchultarvi.a (x86-64, made by
+   `rt staticlib chultarvi`). host/memory.c and host/scan.c are callers to copy from; host/test_face.c calls everything here.
 
-   A slice is a pointer and a count of elements. A pointer may be null only where its count is 0; that is an empty slice.
-   All memory is the caller's, lent for the length of the call: nothing is allocated, kept or freed. Lent areas that are written
-   (area, words, out, results) overlap neither each other nor text or book; text and book are only read, and may be the same.
-   Calls keep no state, so several threads may call at once with areas of their own.
+   Arguments. A slice is two arguments, a pointer and a count of elements (not bytes: for uint32_t one element is four bytes). A pointer may
+   be null only where its count is 0; that is an empty slice. Pointers to uint32_t are aligned as C has it.
 
-   `refusal` is 0, or the number of the first of these that applies:
+   Memory. All of it is the caller's, lent for the length of the call: nothing is allocated, kept or freed, so free it or lend it again when the
+   call is back. It need not be cleared before. Areas that are written (area, words, out, results) must overlap neither each other nor text or
+   book. Text and book are only read, and may be the same. Calls keep no state, so several threads may call at once, each with areas of its own.
+   The time of a call grows with the areas lent, since they are cleared: lend no more than the text needs.
+
+   Answers. `refusal` is 0, or the first of these numbers that applies, in this order:
      1 text over 1,048,576 bytes    2 a byte of 128 or more         3 over 65,536 lines          4 unsound book
      5 no stored text               6 a limit not from 0.0 to 1.0   7 top-down step 0            8 view out of range
-     9 stored number N or more     10 a lent area too small        11 output too short          12 budget
-   With a refusal from 1 to 11 all else in the answer is 0, and from 1 to 10 no lent area has changed. After 0, 11 and 12 every
-   element of both work areas is 0, whatever its size. Lines count from 0; a text has one line more than newlines. */
+     9 stored number N or more     10 a lent area too small        11 output too short          12 stopped by the budget
+   With a refusal from 1 to 11 all else in the answer is 0. With 12 the answer holds what the scan had until it stopped.
+   After 1 to 10 no lent area has changed. After 0, 11 and 12 every element of area and words is 0, also those beyond what the text needs;
+   out and results have changed only where the answer says that something was written (with 11: nowhere).
+
+   Lines count from 0, and a text has one line more than it has newline bytes, so an empty text has one. A range of lines is its first line
+   and the line after its last; where both are equal it is empty. Scores are IEEE 754 binary32, rounded to nearest as C does from the start. */
 #ifndef CHULTARVI_H
 #define CHULTARVI_H
 
@@ -31,47 +39,56 @@ extern "C" {
 
 enum { CHULTARVI_NONE = 0, CHULTARVI_ORIGINAL = 2, CHULTARVI_ALTERNATE = 3, CHULTARVI_HEADER = 4 };
 
-/* The work areas of a text of n bytes, in elements; and the results of a scan: of elimination by its passes (0 without optimize), of
-   top-down by the text's lines. */
+/* How much to lend, in elements. `area` and `words`, for a text of n bytes; areas for CHULTARVI_TEXT_MOST serve every text, since a longer one is
+   refused by its length. `results`, for elimination by its passes (none without optimize), for top-down by the text's lines. */
 static inline size_t chultarvi_area_bytes(size_t n) { return 8 * n + 64; }
 static inline size_t chultarvi_area_words(size_t n) { return 12 * n + 64; }
 static inline size_t chultarvi_elimination_results(bool optimize, uint16_t passes) { return optimize ? CHULTARVI_RECORD_WIDTH * (size_t)passes : 0; }
 static inline size_t chultarvi_top_down_results(size_t lines) { return CHULTARVI_RECORD_WIDTH * lines; }
 
-/* Is the book sound? texts: N, the number of its stored texts. Refusal 4. */
+/* Is the book sound? texts: N, the number of its stored texts. An empty book is sound, and N is 0. Refusal 4. The other calls check the book
+   themselves. */
 typedef struct { uint32_t refusal, texts; } chultarvi_book_checked;
 chultarvi_book_checked chultarvi_check_book(const uint8_t *book, size_t book_len);
 
-/* The table of a text, as the body of a book's record, at the front of out; len: its length. Refusals 1 to 3, 10, 11. */
+/* Compiles a text to its table, which is the body of a record of kind 2, 3 or 4 in a book. It is written at the front of out; len: its length in
+   bytes. For a text of n bytes 18n + 64 are enough (counted by hand, not proved; a miscount would be refusal 11). Refusals 1 to 3, 10, 11. */
 typedef struct { uint32_t refusal; size_t len; } chultarvi_text_compiled;
 chultarvi_text_compiled chultarvi_compile(const uint8_t *text, size_t text_len, uint8_t *area, size_t area_len, uint32_t *words, size_t words_len,
                                           uint8_t *out, size_t out_len);
 
-/* The score, from 0.0 to 1.0, of the text's lines from start up to end, which is not among them, against the stored text `number`, counted
-   from 0 in the book's order. Refusals 1 to 5, 8 to 10. */
+/* Scores a view: the text's lines from `start` up to, and without, `end`, against the stored text `number`, counted from 0 in the book's order.
+   score: from 0.0 (nothing in common) to 1.0 (the same words, pair by pair). Refusals 1 to 5, 8 to 10. */
 typedef struct { uint32_t refusal; float score; } chultarvi_view_scored;
 chultarvi_view_scored chultarvi_score(const uint8_t *text, size_t text_len, const uint8_t *book, size_t book_len, size_t start, size_t end,
                                       uint32_t number, uint8_t *area, size_t area_len, uint32_t *words, size_t words_len);
 
-/* Where in that view the stored text stands: from line first up to line after, its score there, and how many scorings that took. The same
-   refusals. */
+/* Finds where in that view the stored text stands: from line `first` up to, and without, line `after`, both counted in the whole text. score: the
+   score there; count: how many scorings that took. Refusals 1 to 5, 8 to 10. */
 typedef struct { uint32_t refusal, first, after; float score; uint64_t count; } chultarvi_bounds_found;
 chultarvi_bounds_found chultarvi_bounds(const uint8_t *text, size_t text_len, const uint8_t *book, size_t book_len, size_t start, size_t end,
                                         uint32_t number, uint8_t *area, size_t area_len, uint32_t *words, size_t words_len);
 
-/* Which licence a text holds. score: the overall score; kind, len, name: of the licence whose score is above the threshold, 0 where none is;
-   name is zero-filled, and not ended by a zero where len is 64. records: how many records of four numbers stand at the front of the results
-   (stored number, first line, line after last, the score's bits); the rest of the results is as it was. count: how many scorings were made.
-   A scan stops, with refusal 12, at the first scoring that the budget does not pay; what it has recorded until then stays. Refusals 1 to 6, 10, 12,
-   and 7 of top-down. */
+/* What a scan answers, of either kind.
+     score      the overall score: that of the best stored text over the whole text (0.0 in top-down, which has none)
+     kind       CHULTARVI_ORIGINAL, _ALTERNATE or _HEADER where that score is above the threshold; else CHULTARVI_NONE, and len and name are 0
+     len, name  the licence's name. It is zero-filled, so no zero ends it where len is 64
+     records    how many ranges were found. Each is four numbers at the front of results: the stored text's number, first line, line after
+                last, and the bits of the score (memcpy them into a float). The rest of results is as it was
+     count      how many scorings were made
+   A scan stops, with refusal 12, at the first scoring that `budget` does not pay. Then count is the budget, finished records stay, and elimination
+   has score, kind and name once each stored text has been scored once. UINT64_MAX is a budget that no scan reaches.
+   Both limits are from 0.0 to 1.0. Refusals 1 to 6, 10, 12, and 7 of top-down. */
 typedef struct { uint32_t refusal, records; uint64_t count; float score; uint32_t kind, len; uint8_t name[64]; } chultarvi_note_scanned;
 
-/* Elimination: the best stored text of the whole; with optimize, unless that is named and above the shallow limit, up to `passes` ranges. */
+/* Elimination: the best stored text over the whole text. Unless it is named with a score above `shallow`, and if `optimize` is true: up to `passes`
+   times, the range of the best stored text, which is recorded and blanked where its score reaches the threshold. */
 chultarvi_note_scanned chultarvi_eliminate(const uint8_t *text, size_t text_len, const uint8_t *book, size_t book_len, float threshold, float shallow,
                                            bool optimize, uint16_t passes, uint64_t budget, uint8_t *area, size_t area_len, uint32_t *words,
                                            size_t words_len, uint32_t *results, size_t results_len);
 
-/* Top-down: views whose bounds go on by `step` lines, from the first line on; no overall score. */
+/* Top-down: from the first line on, views that grow by `step` lines until a score reaches the threshold and falls below it again; the range found in
+   such a view is recorded, and the search goes on one line after its end. `shallow` is tested as in elimination (6) and else not used. */
 chultarvi_note_scanned chultarvi_top_down(const uint8_t *text, size_t text_len, const uint8_t *book, size_t book_len, float threshold, float shallow,
                                           uint64_t step, uint64_t budget, uint8_t *area, size_t area_len, uint32_t *words, size_t words_len,
                                           uint32_t *results, size_t results_len);

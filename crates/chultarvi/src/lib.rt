@@ -1,5 +1,5 @@
-// The library's face for C: plain types, nothing else. So far two jobs stand here, the check of a book and the compilation of a text; the
-// others follow as they are proved. Assumes of a C caller that no two of the slices that it lends to one call overlap.
+// The library's face for C: the five jobs with plain types, the scan as two calls, since an enum does not cross. include/chultarvi.h describes
+// them. Assumes of a C caller that no slice that it lends to be written overlaps another of the same call.
 ghost use mathlib.Core.Path.{_≡_};
 ghost use Rattle.rules.specs.Search.{view};
 ghost use Rattle.rules.specs.declared.Mode.the-variants.{Elimination, TopDown};

@@ -1,0 +1,66 @@
+# shellcheck shell=sh disable=SC2034,SC2086,SC2164,SC3013
+# Sourced by run.sh and test.sh: the compiler for x86-64 (the archive's machine), how its programs run here, and what must be built first.
+# On x86-64 that is cc; on another machine Debian's cross compiler and emulator. What is missing is installed by package name, and said.
+root=$(cd "$(dirname "$0")/.." && pwd)
+archive=$root/target/staticlib/libchultarvi.a
+flags='-std=c11 -D_GNU_SOURCE -O2 -Wall -Wextra -Wconversion -Wshadow'
+case $(uname -m) in
+x86_64 | amd64) CC=${CC:-cc} CXX=${CXX:-g++} RUN=${RUN-} LINK=${LINK-} packages='gcc g++ libc6-dev' ;;
+*) # static, so that the emulator needs no library of the other machine
+    CC=${CC:-x86_64-linux-gnu-gcc} CXX=${CXX:-x86_64-linux-gnu-g++} RUN=${RUN-qemu-x86_64} LINK=${LINK--static}
+    packages='gcc-x86-64-linux-gnu g++-x86-64-linux-gnu qemu-user' ;;
+esac
+
+# Asks nothing. A fresh machine may have no list of packages yet, so on failure that is fetched first.
+install_packages() {
+    as_root=
+    [ "$(id -u)" = 0 ] || as_root='sudo -n'
+    apt="$as_root env DEBIAN_FRONTEND=noninteractive apt-get"
+    $apt install -y $packages >&2 || { $apt update >&2 && $apt install -y $packages >&2; }
+}
+
+# need PROGRAM...: installs the packages where one of the programs is not here
+need() {
+    for program; do
+        command -v "$program" >/dev/null && continue
+        echo "host: $program is not here; installing the Debian packages $packages" >&2
+        install_packages || {
+            echo "host: could not install $packages" >&2
+            exit 2
+        }
+        return
+    done
+}
+
+need_archive() {
+    [ -e "$archive" ] && return
+    command -v rt >/dev/null || {
+        echo "host: target/staticlib/libchultarvi.a is missing, and so is rt, which proves and builds it (rt staticlib chultarvi)" >&2
+        exit 2
+    }
+    echo 'host: proving and building the archive (rt staticlib chultarvi)' >&2
+    (cd "$root" && rt staticlib chultarvi) >&2
+}
+
+sources='host/chultarvi.c host/scan.c host/report.c host/book.c host/files.c host/memory.c host/words.c'
+
+# stale FILE OTHER...: is one of the others newer than the file, or the file not there?
+stale() {
+    [ -e "$1" ] || return 0
+    made=$1
+    shift
+    for other; do [ "$other" -nt "$made" ] && return 0; done
+    return 1
+}
+
+need_program() {
+    need "$CC" ${RUN%% *}
+    need_archive
+    (
+        cd "$root"
+        stale target/chultarvi "$archive" $sources host/host.h include/chultarvi.h || exit 0
+        echo 'host: building target/chultarvi' >&2
+        mkdir -p target
+        $CC $flags $LINK -o target/chultarvi $sources "$archive"
+    )
+}

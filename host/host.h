@@ -1,0 +1,86 @@
+/* What the files of the command line share: exit statuses, reading and writing of files, words for people and for JSON, and the memory
+   that is lent to the library. The library itself is ../include/chultarvi.h; it allocates nothing and opens no file. */
+#ifndef HOST_H
+#define HOST_H
+
+#include "../include/chultarvi.h"
+#include <stdarg.h>
+#include <stdio.h>
+
+#define VERSION "0.1.0"
+
+/* Exit statuses. Of several notes the highest counts. */
+enum { DONE = 0, REFUSED = 1, TROUBLE = 2 };
+
+enum { KIND_NAME = 1, KIND_ALIAS = 5, RECORD_HEAD = 6 };
+
+/* files.c */
+
+/* Reads all of a file, or of standard input for "-", but never more than one byte above `most`: that byte suffices for the library to
+   refuse it. `to` has room for most + 1 bytes. Gives null, or the reason why it cannot be read. */
+const char *read_file(const char *path, uint8_t *to, size_t most, size_t *len);
+/* Writes beside, flushes, renames. Either the file is new and whole, or what stood there still stands and the reason has been said. */
+bool write_file(const char *path, const uint8_t *bytes, size_t len);
+
+/* words.c */
+
+void say(const char *format, ...) __attribute__((format(printf, 1, 2)));
+void say_of(const char *name, const char *format, ...) __attribute__((format(printf, 2, 3)));
+/* A file name as a person may see it: controls and bytes that are no UTF-8 are written \n, \t, \xHH, a backslash twice. */
+void put_plain(FILE *to, const char *name);
+/* A JSON string with its quotes. A byte that is no UTF-8 is written as \udcHH, which says which byte it was. */
+void put_json(FILE *to, const char *bytes, size_t len);
+const char *kind_words(uint32_t kind);
+bool read_number(const char *word, uint64_t most, uint64_t *number);
+bool read_limit(const char *word, float *limit);
+/* The first byte of 128 or more; len where there is none. */
+size_t first_not_ascii(const uint8_t *text, size_t len);
+enum { MESSAGE_MOST = 256 };
+/* A refusal in words, with its number, and the place where the text is not ASCII. */
+void refusal_message(char to[MESSAGE_MOST], uint32_t refusal, const uint8_t *text, size_t len);
+
+/* memory.c */
+
+/* Lent to the library again and again. All of it is taken at the start, for the largest text; of each area a call is lent only what its text
+   needs, since the library clears what it is lent. */
+typedef struct { uint8_t *text, *area; uint32_t *words; } memory;
+void *take(size_t bytes);
+memory take_memory(void);
+size_t lent_bytes(size_t text_len);
+size_t lent_words(size_t text_len);
+/* Compiles the text that stands in the memory. */
+chultarvi_text_compiled compile_text(const memory *m, size_t text_len, uint8_t *out, size_t out_len);
+uint32_t number_at(const uint8_t *bytes);
+
+/* The subcommands: each takes what follows its name, and gives the exit status. */
+int run_book(int count, char **words);
+int run_scan(int count, char **words);
+
+/* report.c */
+
+/* Of each stored text its licence's name and its kind, by number. */
+typedef struct { const char *name; uint32_t len, kind; } stored_text;
+size_t list_stored(const uint8_t *book, size_t book_len, stored_text *to);
+
+typedef struct {
+    float threshold, shallow;
+    bool optimize, down, json;
+    uint16_t passes;
+    uint64_t step, budget;
+} settings;
+
+/* All that there is to say of one note. */
+typedef struct {
+    const char *file;
+    const uint8_t *text;
+    size_t len;
+    const settings *with;
+    chultarvi_note_scanned answer;
+    const uint32_t *results;
+    const stored_text *stored;
+    size_t stored_count;
+} report;
+void report_note(const report *r);
+void report_trouble(const char *file, const char *why, bool json);
+
+#endif

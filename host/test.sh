@@ -1,0 +1,43 @@
+#!/bin/sh
+# shellcheck disable=SC1091,SC2086,SC2154
+# Passes all tests of the host: builds what is missing, runs host/test_face.c compiled as C and as C++, and host/test_line.sh over the command line.
+# The last line is 'N passed, M failed', the sum; the exit status is 0 only where M is 0.
+set -eu
+. "$(dirname "$0")/build.sh"
+need_program
+need "$CXX"
+cd "$root"
+warn='-O2 -Wall -Wextra -Wconversion -Wshadow -Werror'
+wraps='-Wl,--wrap=read,--wrap=write,--wrap=fsync,--wrap=close,--wrap=rename,--wrap=malloc'
+echo 'host: building the tests' >&2
+$CC -std=c11 -D_GNU_SOURCE $warn $LINK -o target/test_face_c host/test_face.c "$archive" -lm
+$CXX -x c++ -std=c++17 $warn $LINK -o target/test_face_cxx host/test_face.c -x none "$archive" -lm
+$CC -std=c11 -D_GNU_SOURCE $warn $LINK $wraps -o target/chultarvi-faults $sources host/test_faults.c "$archive"
+
+passed=0 failed=0
+# part NAME COMMAND...: its last line is 'N passed, M failed'; a part that does not come so far has failed
+part() {
+    name=$1
+    shift
+    "$@" >target/test.out || true
+    sed '$d' target/test.out
+    last=$(tail -n 1 target/test.out)
+    case $last in
+    *' passed, '*' failed')
+        echo "$name: $last"
+        passed=$((passed + ${last%% *}))
+        last=${last#*, }
+        failed=$((failed + ${last%% *}))
+        ;;
+    *)
+        echo "$name: broke off: $last"
+        failed=$((failed + 1))
+        ;;
+    esac
+}
+part 'the header from C' $RUN target/test_face_c
+part 'the header from C++' $RUN target/test_face_cxx
+export RUN
+part 'the command line' sh host/test_line.sh target/chultarvi target/chultarvi-faults books/debian.book examples/note.txt
+echo "$passed passed, $failed failed"
+[ "$failed" = 0 ]

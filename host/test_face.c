@@ -1,0 +1,395 @@
+/* Tests of the library as C and C++ see it: this file is compiled as both. Layout of every answer; every export; every refusal with the neighbour
+   that is not refused; and after each call, what the lent areas hold. Prints what fails, then 'N passed, M failed'. */
+#include "../include/chultarvi.h"
+#include <assert.h>
+#include <float.h>
+#include <math.h>
+#include <stdio.h>
+#include <stdlib.h>
+#include <string.h>
+
+#define LAYOUT(type, field, at) static_assert(offsetof(type, field) == (at), #type "." #field)
+static_assert(sizeof(chultarvi_book_checked) == 8, "size");
+LAYOUT(chultarvi_book_checked, refusal, 0);
+LAYOUT(chultarvi_book_checked, texts, 4);
+static_assert(sizeof(chultarvi_text_compiled) == 16, "size");
+LAYOUT(chultarvi_text_compiled, refusal, 0);
+LAYOUT(chultarvi_text_compiled, len, 8);
+static_assert(sizeof(chultarvi_view_scored) == 8, "size");
+LAYOUT(chultarvi_view_scored, refusal, 0);
+LAYOUT(chultarvi_view_scored, score, 4);
+static_assert(sizeof(chultarvi_bounds_found) == 24, "size");
+LAYOUT(chultarvi_bounds_found, refusal, 0);
+LAYOUT(chultarvi_bounds_found, first, 4);
+LAYOUT(chultarvi_bounds_found, after, 8);
+LAYOUT(chultarvi_bounds_found, score, 12);
+LAYOUT(chultarvi_bounds_found, count, 16);
+static_assert(sizeof(chultarvi_note_scanned) == 96, "size");
+LAYOUT(chultarvi_note_scanned, refusal, 0);
+LAYOUT(chultarvi_note_scanned, records, 4);
+LAYOUT(chultarvi_note_scanned, count, 8);
+LAYOUT(chultarvi_note_scanned, score, 16);
+LAYOUT(chultarvi_note_scanned, kind, 20);
+LAYOUT(chultarvi_note_scanned, len, 24);
+LAYOUT(chultarvi_note_scanned, name, 28);
+
+static int passed, failed;
+static void check(bool good, const char *what) {
+    if (good) passed++;
+    else {
+        failed++;
+        printf("failed: %s\n", what);
+    }
+}
+
+/* The marked book (licence A, `My First License`), and the marked text 2. */
+static const uint8_t book_a[] = "\x01\0\0\0\x01\0A\x2d\0\0\0\x02\0\x02\0\0\0\x02\0\0\0\x01\0\0\0\x0d\0\0\0first license\x01\0\0\0\x08\0\0\0my first";
+enum { BOOK_A = 58 };
+static const char text_1[] = "copyright 20xx me irl\n\n //  my   first license";
+static const char text_2[] = "copyright 20xx me irl\n// My First License\nfn hello() {\n ...";
+
+/* What a call is lent. Every element is garbage before the call, also `SPARE` elements that are not lent. */
+enum { SPARE = 7 };
+static const size_t ROOM = CHULTARVI_TEXT_MOST;
+typedef struct { const uint8_t *text; size_t len, area_len, words_len, out_len, results_len; const uint8_t *book; size_t book_len; } lent;
+static uint8_t *area, *out, *big;
+static uint32_t *words, *results;
+static size_t area_most, words_most;
+
+static void take_areas(void) {
+    area_most = chultarvi_area_bytes(ROOM) + SPARE;
+    words_most = chultarvi_area_words(ROOM) + SPARE;
+    area = (uint8_t *)malloc(area_most);
+    words = (uint32_t *)malloc(4 * words_most);
+    out = (uint8_t *)malloc(ROOM);
+    results = (uint32_t *)malloc(4 * ROOM);
+    big = (uint8_t *)malloc(CHULTARVI_BOOK_MOST + 1);
+    if (!area || !words || !out || !results || !big) exit(2);
+}
+static void fill(const lent *l) {
+    memset(area, 0xa5, l->area_len + SPARE);
+    memset(words, 0xa5, 4 * (l->words_len + SPARE));
+    memset(out, 0xa5, l->out_len + SPARE);
+    memset(results, 0xa5, 4 * (l->results_len + SPARE));
+}
+static bool all_are(const void *at, size_t from, size_t to, int byte) {
+    const uint8_t *p = (const uint8_t *)at;
+    for (size_t i = from; i < to; i++) if (p[i] != byte) return false;
+    return true;
+}
+/* As the header says: zero after 0, 11 and 12, unchanged after 1 to 10; beyond what was lent, and in out and results beyond what was written,
+   unchanged always. */
+static bool areas_right(const lent *l, uint32_t refusal, size_t written, size_t recorded) {
+    int now = refusal == 0 || refusal == 11 || refusal == 12 ? 0 : 0xa5;
+    return all_are(area, 0, l->area_len, now) && all_are(area, l->area_len, l->area_len + SPARE, 0xa5) && all_are(words, 0, 4 * l->words_len, now) &&
+           all_are(words, 4 * l->words_len, 4 * (l->words_len + SPARE), 0xa5) && all_are(out, written, l->out_len + SPARE, 0xa5) &&
+           all_are(results, 16 * recorded, 4 * (l->results_len + SPARE), 0xa5);
+}
+static lent lend(const void *text, size_t len, const uint8_t *book, size_t book_len) {
+    lent l;
+    l.text = (const uint8_t *)text;
+    l.len = len;
+    l.area_len = chultarvi_area_bytes(len < ROOM ? len : ROOM);
+    l.words_len = chultarvi_area_words(len < ROOM ? len : ROOM);
+    l.out_len = 0;
+    l.results_len = 0;
+    l.book = book;
+    l.book_len = book_len;
+    return l;
+}
+static lent marked(void) { return lend(text_2, sizeof text_2 - 1, book_a, BOOK_A); }
+
+/* Each export, its areas looked at. */
+static chultarvi_text_compiled compile(const lent *l, const char *what) {
+    fill(l);
+    chultarvi_text_compiled c = chultarvi_compile(l->text, l->len, area, l->area_len, words, l->words_len, out, l->out_len);
+    check(areas_right(l, c.refusal, c.len, 0) && (c.refusal == 0 || c.len == 0), what);
+    return c;
+}
+static chultarvi_view_scored score(const lent *l, size_t start, size_t end, uint32_t number, const char *what) {
+    fill(l);
+    chultarvi_view_scored s = chultarvi_score(l->text, l->len, l->book, l->book_len, start, end, number, area, l->area_len, words, l->words_len);
+    check(areas_right(l, s.refusal, 0, 0) && (s.refusal == 0 || s.score == 0.0f), what);
+    return s;
+}
+static chultarvi_bounds_found bounds(const lent *l, size_t start, size_t end, uint32_t number, const char *what) {
+    fill(l);
+    chultarvi_bounds_found b = chultarvi_bounds(l->text, l->len, l->book, l->book_len, start, end, number, area, l->area_len, words, l->words_len);
+    check(areas_right(l, b.refusal, 0, 0) && (b.refusal == 0 || (b.first == 0 && b.after == 0 && b.score == 0.0f && b.count == 0)), what);
+    return b;
+}
+static bool nothing_else(const chultarvi_note_scanned *s) {
+    return s->records == 0 && s->count == 0 && s->score == 0.0f && s->kind == 0 && s->len == 0 && all_are(s->name, 0, 64, 0);
+}
+static chultarvi_note_scanned eliminate(const lent *l, float threshold, float shallow, bool optimize, uint16_t passes, uint64_t budget,
+                                        const char *what) {
+    fill(l);
+    chultarvi_note_scanned s = chultarvi_eliminate(l->text, l->len, l->book, l->book_len, threshold, shallow, optimize, passes, budget, area,
+                                                   l->area_len, words, l->words_len, results, l->results_len);
+    check(areas_right(l, s.refusal, 0, s.records) && (s.refusal == 0 || s.refusal == 12 || nothing_else(&s)), what);
+    return s;
+}
+static chultarvi_note_scanned top_down(const lent *l, float threshold, float shallow, uint64_t step, uint64_t budget, const char *what) {
+    fill(l);
+    chultarvi_note_scanned s = chultarvi_top_down(l->text, l->len, l->book, l->book_len, threshold, shallow, step, budget, area, l->area_len, words,
+                                                  l->words_len, results, l->results_len);
+    check(areas_right(l, s.refusal, 0, s.records) && (s.refusal == 0 || s.refusal == 12 || nothing_else(&s)), what);
+    return s;
+}
+
+/* All five calls that take a text, the same lent text and book: is each refused by this number? */
+static void each_refuses(const lent *given, uint32_t refusal, bool compile_too, const char *what) {
+    lent l = *given;
+    l.results_len = 4;
+    check(score(&l, 0, 0, 0, what).refusal == refusal, what);
+    check(bounds(&l, 0, 0, 0, what).refusal == refusal, what);
+    check(eliminate(&l, 0.9f, 0.99f, true, 1, UINT64_MAX, what).refusal == refusal, what);
+    check(top_down(&l, 0.9f, 0.99f, 1, UINT64_MAX, what).refusal == refusal, what);
+    l.out_len = 64;
+    if (compile_too) check(compile(&l, what).refusal == refusal, what);
+}
+
+static void test_answers(void) {
+    chultarvi_book_checked c = chultarvi_check_book(book_a, BOOK_A);
+    check(c.refusal == 0 && c.texts == 1, "the marked book is sound and has one text");
+    lent l = lend("My First License", 16, book_a, BOOK_A);
+    l.out_len = 45;
+    check(compile(&l, "areas of compile").len == 45 && memcmp(out, book_a + 13, 45) == 0, "compile gives the marked body");
+    l = lend(text_1, sizeof text_1 - 1, book_a, BOOK_A);
+    check(score(&l, 0, 3, 0, "areas of score").score == 1.0f, "marked case 1");
+    l = marked();
+    chultarvi_bounds_found b = bounds(&l, 0, 4, 0, "areas of bounds");
+    check(b.refusal == 0 && b.first == 1 && b.after == 2 && b.score == 1.0f && b.count == 8, "marked case 2");
+    l.results_len = 40;
+    chultarvi_note_scanned s = eliminate(&l, 0.9f, 0.99f, true, 10, 20, "areas of elimination");
+    static const uint32_t record[] = {0, 1, 2, 0x3f800000};
+    check(s.refusal == 0 && s.count == 20 && s.records == 1 && s.kind == 0 && memcmp(results, record, 16) == 0, "marked case 10, budget 20");
+    l.results_len = 16;
+    s = top_down(&l, 0.9f, 0.99f, 1, 1000, "areas of top-down");
+    check(s.refusal == 0 && s.records == 1 && s.score == 0.0f && s.kind == 0 && memcmp(results, record, 16) == 0, "top-down finds the same range");
+    l = lend("My First License", 16, book_a, BOOK_A);
+    s = eliminate(&l, 0.9f, 0.99f, false, 0, 1, "areas of a named licence");
+    check(s.refusal == 0 && s.kind == CHULTARVI_ORIGINAL && s.len == 1 && s.name[0] == 'A' && all_are(s.name, 1, 64, 0) && s.score == 1.0f &&
+              s.count == 1, "a named licence: name, kind, score, count");
+    check(eliminate(&l, 1.0f, 0.99f, false, 0, 1, "areas at threshold 1").kind == 0, "nothing is named at a score equal to the threshold");
+}
+
+static void test_texts(void) {
+    memset(big, ' ', CHULTARVI_TEXT_MOST + 1);
+    lent l = lend(big, CHULTARVI_TEXT_MOST, book_a, BOOK_A);
+    each_refuses(&l, 0, true, "1,048,576 bytes");
+    l = lend(big, CHULTARVI_TEXT_MOST + 1, book_a, BOOK_A);
+    each_refuses(&l, 1, true, "one byte more");
+    big[7] = 0x80;
+    each_refuses(&l, 1, true, "one byte more comes before a byte of 128");
+    for (int byte = 127; byte < 256; byte++) {
+        uint8_t one = (uint8_t)byte;
+        l = lend(&one, 1, book_a, BOOK_A);
+        each_refuses(&l, byte == 127 ? 0 : 2, true, "bytes 127 and 128 to 255");
+    }
+    memset(big, '\n', CHULTARVI_LINES_MOST);
+    l = lend(big, CHULTARVI_LINES_MOST - 1, book_a, BOOK_A);
+    l.out_len = 8;
+    check(compile(&l, "65,536 lines").refusal == 0, "65,536 lines");
+    check(score(&l, 0, CHULTARVI_LINES_MOST, 0, "65,536 lines").refusal == 0, "65,536 lines");
+    check(eliminate(&l, 0.9f, 0.99f, false, 0, 1, "65,536 lines").refusal == 0, "65,536 lines");
+    l = lend(big, CHULTARVI_LINES_MOST, book_a, BOOK_A);
+    each_refuses(&l, 3, true, "one line more");
+    big[5] = 0xff;
+    each_refuses(&l, 2, true, "a byte of 255 comes before the lines");
+    l = lend(0, 0, book_a, BOOK_A);
+    each_refuses(&l, 0, true, "a null text of length 0");
+}
+
+/* A sound book of `size` bytes with one text, whose entries are `aaaa aaaa` and up; the last is as long as it takes. */
+static uint8_t *put_number(uint8_t *p, size_t x) {
+    for (int i = 0; i < 4; i++) *p++ = (uint8_t)(x >> 8 * i);
+    return p;
+}
+static uint8_t *put_head(uint8_t *p, size_t len, uint8_t kind) {
+    p = put_number(p, len);
+    *p++ = kind;
+    *p++ = 0;
+    return p;
+}
+static void large_book(uint8_t *b, size_t size) {
+    size_t entries = (size - 21) / 17, rest = (size - 21) % 17;
+    uint8_t *p = put_head(b, 1, 1);
+    *p++ = 'A';
+    p = put_number(put_number(put_head(p, size - 13, 2), entries), entries);
+    for (size_t i = 0; i < entries; i++) {
+        size_t more = i + 1 == entries ? rest : 0, x = i;
+        p = put_number(put_number(p, 1), 9 + more);
+        for (int k = 7; k >= 0; k--, x /= 26) p[k < 4 ? k : k + 1] = (uint8_t)('a' + x % 26);
+        p[4] = ' ';
+        memset(p + 9, 'z', more);
+        p += 9 + more;
+    }
+}
+/* A name of `name_len` bytes, an original and `more` alternates, all tables empty. */
+static size_t small_book(uint8_t *b, size_t name_len, size_t more) {
+    uint8_t *p = put_head(b, name_len, 1);
+    memset(p, 'n', name_len);
+    p += name_len;
+    for (size_t i = 0; i < more + 1; i++) {
+        p = put_head(p, 8, i == 0 ? 2 : 3);
+        memset(p, 0, 8);
+        p += 8;
+    }
+    return (size_t)(p - b);
+}
+
+static void test_books(void) {
+    large_book(big, CHULTARVI_BOOK_MOST);
+    chultarvi_book_checked c = chultarvi_check_book(big, CHULTARVI_BOOK_MOST);
+    check(c.refusal == 0 && c.texts == 1, "a book of 16,777,216 bytes");
+    large_book(big, CHULTARVI_BOOK_MOST + 1);
+    c = chultarvi_check_book(big, CHULTARVI_BOOK_MOST + 1);
+    check(c.refusal == 4 && c.texts == 0, "one byte more");
+    c = chultarvi_check_book(big, small_book(big, 1, CHULTARVI_STORED_MOST - 1));
+    check(c.refusal == 0 && c.texts == CHULTARVI_STORED_MOST, "1,024 stored texts");
+    c = chultarvi_check_book(big, small_book(big, 1, CHULTARVI_STORED_MOST));
+    check(c.refusal == 4 && c.texts == 0, "one text more");
+    size_t len = small_book(big, CHULTARVI_NAME_MOST, 0);
+    check(chultarvi_check_book(big, len).refusal == 0, "a name of 64 bytes");
+    lent l = lend("x", 1, big, len);
+    chultarvi_note_scanned s = eliminate(&l, 0.0f, 0.0f, false, 0, 1, "areas, name of 64");
+    check(s.refusal == 0 && s.kind == 0, "an empty table scores 0.0, which is not above 0.0");
+    len = small_book(big, CHULTARVI_NAME_MOST + 1, 0);
+    check(chultarvi_check_book(big, len).refusal == 4, "a name of 65 bytes");
+    for (size_t n = 0; n < BOOK_A; n++) {
+        bool empty = n == 0;
+        l = lend("x", 1, book_a, n);
+        check(chultarvi_check_book(book_a, n).refusal == (empty ? 0 : 4), "a book cut short");
+        each_refuses(&l, empty ? 5 : 4, false, "a book cut short, or empty");
+    }
+    c = chultarvi_check_book(0, 0);
+    check(c.refusal == 0 && c.texts == 0, "a null book of length 0 is sound and empty");
+    l = lend("x", 1, 0, 0);
+    each_refuses(&l, 5, false, "a null book of length 0");
+}
+
+/* A named licence of 64 bytes: no zero ends the name. */
+static void test_long_name(void) {
+    uint8_t *p = put_head(big, 64, 1);
+    memset(p, 'n', 64);
+    memcpy(p + 64, book_a + 7, BOOK_A - 7);
+    lent l = lend("My First License", 16, big, 70 + BOOK_A - 7);
+    chultarvi_note_scanned s = eliminate(&l, 0.9f, 0.99f, true, 0, 1, "areas of a long name");
+    check(s.refusal == 0 && s.len == 64 && all_are(s.name, 0, 64, 'n') && s.kind == CHULTARVI_ORIGINAL, "a name that fills its 64 bytes");
+}
+
+static void test_limits(void) {
+    lent l = marked();
+    l.results_len = 16;
+    const float good[] = {0.0f, -0.0f, 1.0f, FLT_MIN, 0.5f}, bad[] = {-FLT_MIN, nextafterf(1.0f, 2.0f), 2.0f, INFINITY, -INFINITY, NAN};
+    for (size_t i = 0; i < sizeof good / sizeof *good; i++) {
+        check(eliminate(&l, good[i], 0.5f, false, 0, 1, "a good threshold").refusal == 0, "a good threshold");
+        check(eliminate(&l, 0.5f, good[i], false, 0, 1, "a good shallow limit").refusal == 0, "a good shallow limit");
+    }
+    for (size_t i = 0; i < sizeof bad / sizeof *bad; i++) {
+        check(eliminate(&l, bad[i], 0.5f, false, 0, 1, "a bad threshold").refusal == 6, "a bad threshold");
+        check(eliminate(&l, 0.5f, bad[i], false, 0, 1, "a bad shallow limit").refusal == 6, "a bad shallow limit");
+        check(top_down(&l, bad[i], 0.5f, 0, 1, "a bad threshold").refusal == 6, "a bad threshold, before step 0");
+        check(top_down(&l, 0.5f, bad[i], 0, 1, "a bad shallow limit").refusal == 6, "a bad shallow limit, before step 0");
+    }
+    check(top_down(&l, 0.9f, 0.99f, 0, 1000, "step 0").refusal == 7, "step 0");
+    check(top_down(&l, 0.9f, 0.99f, 1, 1000, "step 1").refusal == 0, "step 1");
+    check(top_down(&l, 0.9f, 0.99f, UINT64_MAX, 1000, "the largest step").refusal == 0, "the largest step");
+}
+
+static void test_views(void) {
+    lent l = marked();
+    static const struct { size_t start, end; uint32_t number, refusal; } view[] = {
+        {0, 0, 0, 0}, {4, 4, 0, 0},        {0, 4, 0, 0},        {0, 5, 0, 8}, {5, 5, 0, 8}, {2, 1, 0, 8},
+        {1, 1, 0, 0}, {0, SIZE_MAX, 0, 8}, {SIZE_MAX, 0, 0, 8}, {0, 4, 1, 9}, {0, 5, 1, 8}, {0, 4, UINT32_MAX, 9},
+    };
+    for (size_t i = 0; i < sizeof view / sizeof *view; i++) {
+        check(score(&l, view[i].start, view[i].end, view[i].number, "areas, view").refusal == view[i].refusal, "score: views and numbers");
+        check(bounds(&l, view[i].start, view[i].end, view[i].number, "areas, view").refusal == view[i].refusal, "bounds: views and numbers");
+    }
+}
+
+static void each_area(const lent *l, uint32_t refusal, const char *what) {
+    check(compile(l, what).refusal == refusal, what);
+    check(score(l, 0, 4, 0, what).refusal == refusal, what);
+    check(bounds(l, 0, 4, 0, what).refusal == refusal, what);
+    check(eliminate(l, 0.9f, 0.99f, true, 10, 20, what).refusal == refusal, what);
+    check(top_down(l, 0.9f, 0.99f, 1, 1000, what).refusal == refusal, what);
+}
+static void test_areas(void) {
+    lent l = marked();
+    l.out_len = 1024;
+    l.results_len = 40;
+    check(l.area_len == 8 * l.len + 64 && l.words_len == 12 * l.len + 64, "the header's functions give 8n+64 and 12n+64");
+    each_area(&l, 0, "areas of 8n+64 and 12n+64");
+    l.area_len--;
+    each_area(&l, 10, "one byte less");
+    l.area_len++;
+    l.words_len--;
+    each_area(&l, 10, "one number less");
+    l.area_len += 1000;
+    l.words_len += 1001;
+    each_area(&l, 0, "larger areas");
+    l = marked();
+    l.results_len = chultarvi_elimination_results(true, 10);
+    check(l.results_len == 40, "4P");
+    check(eliminate(&l, 0.9f, 0.99f, true, 10, 20, "4P").refusal == 0, "results of 4P");
+    l.results_len--;
+    check(eliminate(&l, 0.9f, 0.99f, true, 10, 20, "4P less one").refusal == 10, "results of 4P less one");
+    l.results_len = chultarvi_elimination_results(false, 10);
+    check(l.results_len == 0 && eliminate(&l, 0.9f, 0.99f, false, 10, 20, "no results").refusal == 0, "without optimize none are needed");
+    l.results_len = chultarvi_elimination_results(true, UINT16_MAX);
+    check(eliminate(&l, 0.9f, 0.99f, true, UINT16_MAX, 20, "4 * 65,535").refusal == 0, "results of 4 * 65,535");
+    l.results_len--;
+    check(eliminate(&l, 0.9f, 0.99f, true, UINT16_MAX, 20, "less one").refusal == 10, "results of 4 * 65,535 less one");
+    l.results_len = chultarvi_top_down_results(4);
+    check(l.results_len == 16 && top_down(&l, 0.9f, 0.99f, 1, 1000, "4L").refusal == 0, "results of 4L");
+    l.results_len--;
+    check(top_down(&l, 0.9f, 0.99f, 1, 1000, "4L less one").refusal == 10, "results of 4L less one");
+}
+
+static void test_output(void) {
+    lent l = lend("My First License", 16, book_a, BOOK_A);
+    for (size_t room = 0; room <= 46; room++) {
+        l.out_len = room;
+        check(compile(&l, "areas, output").refusal == (room < 45 ? 11 : 0), "an output of 45 bytes, and less");
+    }
+    chultarvi_text_compiled c = chultarvi_compile(0, 0, area, 64, words, 64, 0, 0);
+    check(c.refusal == 11 && c.len == 0, "a null output of length 0");
+    l.out_len = 44;
+    l.area_len--;
+    check(compile(&l, "areas, 10 before 11").refusal == 10, "a small area comes before a short output");
+}
+
+static void test_budget(void) {
+    lent l = marked();
+    l.results_len = 40;
+    for (uint64_t budget = 0; budget <= 21; budget++) {
+        chultarvi_note_scanned s = eliminate(&l, 0.9f, 0.99f, true, 10, budget, "areas, budget");
+        check(s.refusal == (budget < 20 ? 12 : 0), "12 below a budget of 20, never from there on");
+        check(s.count == (budget < 20 ? budget : 20), "the count is the budget, or 20");
+        check(s.records == (budget < 9 ? 0 : 1), "one record from a budget of 9 on");
+        check((s.score > 0.0f) == (budget >= 1) && s.kind == 0, "the overall score is known once the first text is paid");
+    }
+    l.results_len = 16;
+    uint64_t full = top_down(&l, 0.9f, 0.99f, 1, UINT64_MAX, "areas, no budget").count;
+    check(top_down(&l, 0.9f, 0.99f, 1, full, "areas, budget").refusal == 0, "top-down with its own count as budget");
+    chultarvi_note_scanned s = top_down(&l, 0.9f, 0.99f, 1, full - 1, "areas, budget");
+    check(s.refusal == 12 && s.count == full - 1, "top-down with one less");
+}
+
+int main(void) {
+    take_areas();
+    test_answers();
+    test_texts();
+    test_books();
+    test_long_name();
+    test_limits();
+    test_views();
+    test_areas();
+    test_output();
+    test_budget();
+    printf("%d passed, %d failed\n", passed, failed);
+    return failed != 0;
+}
