@@ -1,0 +1,2 @@
+-- A book that grows by a record.
+pub mod Shelf
