@@ -88,8 +88,8 @@ fn job_row<T>(library: &Library, job: &str, note: &str, mut ours: impl FnMut() -
     race(&mut sides);
     let [ours, check, original] = sides.map(|s| s.best);
     let rest = ours - check;
-    // what is left of a difference of two large times is noise
-    let off = if rest < 0.03 * check { "(noise)".into() } else { format!("{:.2}", original / rest) };
+    // what is left of a difference of two large times is noise: with a small book the same rows tell otherwise
+    let off = if rest < 0.1 * check { "(noise)".into() } else { format!("{:.2}", original / rest) };
     let same = if same { "same" } else { "other" };
     println!("| {job} | {note} | {} | {} | {} | {:.2} | {off} | {same} |", micros(ours), micros(rest), micros(original), original / ours);
 }
