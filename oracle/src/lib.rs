@@ -1,0 +1,4 @@
+//! The original detection module, unchanged, for programs that call it (../bench).
+
+#[allow(dead_code)]
+pub mod detection;
