@@ -1,4 +1,4 @@
-//! The original's time and ours, in one run: bench/README.md says what is measured. `bench [quick]`: quick leaves out the 1 MiB notes and the grown books.
+//! The original's time and ours, in one run: speed/README.md says what is measured. `speed [quick]`: quick leaves out the 1 MiB notes and the grown books.
 
 mod clock;
 mod ours;
