@@ -3,6 +3,7 @@
 // SPDX-License-Identifier: Apache-2.0), changed: the table goes to lent memory as bytes. Assumes nothing.
 ghost use mathlib.Core.Path.{_≡_};
 ghost use Prim.Native.Nat.{_≤_};
+ghost use lib.Dec.{ltb};
 ghost use lib.ListN.{length, replicate};
 ghost use Rattle.rules.specs.Sizes.{byteArea, wordArea};
 ghost use Rattle.rules.specs.Book.{tableOut, compiled};
@@ -22,6 +23,12 @@ use rules::Compiled;
 use rules::View;
 use slices::class::class_table;
 
+fn too_short(room: usize, len: usize) -> bool
+    ensures { λ r. ⌜ r ≡ ltb room len ⌝ }
+{
+    room < len
+}
+
 // The body of the table that stands in the areas, at the front of the output, where it fits.
 fn write_body(area: &[u8], words: &[u32], n: usize, t: Viewed, out: &mut [u8]) -> Compiled
     requires { ⌜ Tabled n (now area) (now words) t ⌝ }
@@ -35,7 +42,7 @@ fn write_body(area: &[u8], words: &[u32], n: usize, t: Viewed, out: &mut [u8]) -
         distinct: t.distinct,
     };
     let len = body_len(&area[start..end], &words[from..], size);
-    if out.len() < len {
+    if too_short(out.len(), len) {
         return Compiled {
             refusal: 11,
             len: 0,

@@ -1,14 +1,14 @@
 -- `compile::write_body` meets its contract: the lent parts hold the table, and its body fits or not.
 -- Assumes nothing.
+use mathlib.Core.Path.{sym, _∙_, subst}
+use Prim.Native.Nat.{ℕ, _≤_}
+use lib.ListN.{length}
+use denote.Ref.{now}
 use borrow.Author.Needs.{needs}
-use native.Mathlib.Omega.{arith}
+use borrow.Author.Tests.{ltb-true, ltb-false}
 use Rattle.compile.proofs.BodyLaws.{body-sizes, body-is, body-over, body-put}
 use Rattle.compile.proofs.write_body.Statement.{statement}
 use Rattle.compile.proofs.write_body.Tie as tie
-use Rattle.compile.proofs.write_body.Reads as reads
-use Rattle.compile.proofs.write_body.Lts as lts
-use Rattle.ngram.proofs.bodies.body_len.Reads as body-len-reads
-use Rattle.ngram.proofs.bodies.put_body.Reads as put-body-reads
 
 mul-from : tie.Need-mul-from
 mul-from c = search needs
@@ -40,10 +40,13 @@ part-body-len-end-2 c = search needs
 body-len-requires : tie.Need-body-len-requires
 body-len-requires c κs = body-sizes _ _ _ _ (c .before .before .before .before .before .pre)
 
+too-short-requires : tie.Need-too-short-requires
+too-short-requires c κs = search needs
+
 returns : tie.Need-returns
 returns c =
-    let s = c .before .before .before .before .before .before .before in
-    body-over _ _ _ _ (body-is _ _ _ (s .args .t) (s .pre)) (c .before .body-len .ensures) (c .if1 .taken)
+    let s = c .before .before .before .before .before .before .before .before in
+    body-over _ _ _ _ (body-is _ _ _ (s .args .t) (s .pre)) (c .before .before .body-len .ensures) (ltb-true _ _ (sym (c .before .too-short .ensures) ∙ c .if1 .taken))
 
 sub-put-body : tie.Need-sub-put-body
 sub-put-body c = search needs
@@ -68,16 +71,18 @@ part-put-body-end-2 c = search needs
 
 put-body-requires : tie.Need-put-body-requires
 put-body-requires c κs =
-    let z = body-sizes _ _ _ _ (c .before .before .before .before .before .before .before .before .before .before .pre) in
-    (z .0, (z .1, omega (arith, c .before .before .before .before .body-len .ensures, c .before .before .before .if1 .left)))
+    let s = c .before .before .before .before .before .before .before .before .before .before .before in
+    let z = body-sizes _ _ _ _ (s .pre) in
+    let fits = sym (c .before .before .before .before .too-short .ensures) ∙ c .before .before .before .if1 .left in
+    (z .0, (z .1, subst (λ (n : ℕ). n ≤ length (now (s .args .out))) (c .before .before .before .before .before .body-len .ensures) (ltb-false (length (now (s .args .out))) _ fits)))
 
 same-length : tie.Need-same-length
 same-length c = search needs
 
 returns-2 : tie.Need-returns-2
 returns-2 c =
-    let s = c .before .before .before .before .before .before .before .before .before .before .before .before .before in
-    body-put _ _ _ _ (body-is _ _ _ (s .args .t) (s .pre)) (c .before .before .before .before .before .before .before .body-len .ensures) _ _ (c .before .before .before .before .before .before .if1 .left) (c .before .before .put-body .ensures)
+    let s = c .before .before .before .before .before .before .before .before .before .before .before .before .before .before in
+    body-put _ _ _ _ (body-is _ _ _ (s .args .t) (s .pre)) (c .before .before .before .before .before .before .before .before .body-len .ensures) _ _ (ltb-false _ _ (sym (c .before .before .before .before .before .before .before .too-short .ensures) ∙ c .before .before .before .before .before .before .if1 .left)) (c .before .before .put-body .ensures)
 
 pub write-body-spec : {M : Type 1} → statement M
 write-body-spec =
@@ -93,6 +98,7 @@ write-body-spec =
     part-body-len-start-2
     part-body-len-end-2
     body-len-requires
+    too-short-requires
     returns
     sub-put-body
     part-put-body-start
