@@ -292,6 +292,16 @@ def replay_scans(out, rng):
         t = "\n".join(["int main() {", rng.choice(stored).text, "}", "", rng.choice(stored).text])[:MOST]
         scans_of(out, rng, stored, t, 12)
 
+    out.heading("up to twelve stored texts, and every step")
+    for n in range(6, 13):
+        stored = [compare.Stored(f"N{i // 2:02}", 2 + 2 * (i % 2), compare.stored_text(rng)) for i in range(n)]
+        stock(out, stored)
+        t = compare.note(rng, stored, 8)
+        met = max(int(x, 16) for x in out.oracle.ask("scores", 0, out.lines(t), hexed(t)).split(" "))
+        for step in (1, 2, 3, 4, 5, 6, 7, WHOLE):
+            out.ask("countdown", f"{rng.choice([ZERO, HALF, met]):08x} {ONE:08x} {step}", WHOLE, hexed(t))
+        budgets(out, "eliminate", f"{rng.choice([HALF, met]):08x} {ONE:08x} 1 3", t, stored)
+
 
 LISTS = {f.__name__: f for f in (replay_lines, replay_views, replay_tables, replay_scans)}
 
