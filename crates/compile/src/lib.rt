@@ -53,7 +53,7 @@ fn write_body(area: &[u8], words: &[u32], n: usize, t: Viewed, out: &mut [u8]) -
 }
 
 // The work, on a text that is let through in areas that fit. Both areas are zero after it.
-fn compile_through(text: &[u8], area: &mut [u8], words: &mut [u32], out: &mut [u8]) -> Compiled
+pub fn compile_through(text: &[u8], area: &mut [u8], words: &mut [u32], out: &mut [u8]) -> Compiled
     requires { ⌜ (refusal (ofText (now text)) ≡ 0) × (byteArea (length (now text)) ≤ length (now area)) × (wordArea (length (now text)) ≤ length (now words)) ⌝ }
     ensures body { λ r. ⌜ Bodied (compiled (now (text .entry))) (now (out .entry)) r (now (out .exit)) ⌝ }
     ensures bytes { λ r. ⌜ now (area .exit) ≡ replicate (length (now (area .entry))) 0 ⌝ }

@@ -45,7 +45,7 @@ fn answer(ranged: Ranged, budget: u64) -> Bounded
 }
 
 // The work, of what is let through: the areas hold what it leaves. No note of 65,536 lines takes more than 104 scorings.
-fn bounds_laid(
+pub fn bounds_laid(
     text: &[u8],
     book: &[u8],
     v: View,

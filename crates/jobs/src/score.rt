@@ -19,7 +19,14 @@ use rules::View;
 use slices::class::class_table;
 
 // The work, of what is let through: the areas hold what it leaves.
-fn score_laid(text: &[u8], book: &[u8], v: View, k: u32, area: &mut [u8], words: &mut [u32]) -> f32
+pub fn score_laid(
+    text: &[u8],
+    book: &[u8],
+    v: View,
+    k: u32,
+    area: &mut [u8],
+    words: &mut [u32],
+) -> f32
     requires { ⌜ refusal (ofView (now text) (now book) v k (lent (now area) (now words))) ≡ 0 ⌝ }
     ensures { λ r. ⌜ r ≡ scoreView (lines (now (text .entry))) (getD (stored (now (book .entry))) k noText) v .value .score ⌝ }
 {

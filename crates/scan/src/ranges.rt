@@ -14,7 +14,6 @@ ghost use Rattle.rules.specs.Search.{view};
 ghost use Rattle.rules.specs.Sizes.{recordWidth};
 ghost use Rattle.detect.specs.Bests.{Stands};
 ghost use Rattle.scan.specs.Run.{Scanning, RangeDone, runOf};
-use detect::Best;
 use detection::texts::Text;
 use license::Ranged;
 use license::find_bounds;
