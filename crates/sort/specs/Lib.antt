@@ -1,3 +1,4 @@
--- What the sort does, and what the grouping behind it does, as functions on lists.
+-- What the sort does, what the grouping behind it does, and what the spreading before it keeps, as functions on lists.
 pub mod Sort
 pub mod Group
+pub mod Spread

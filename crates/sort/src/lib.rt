@@ -1,6 +1,8 @@
 // Parts of a text, sorted in a lent slice of their starts. A part is named by where it starts: it ends at the c-th byte `mark` from
 // there, or at the text's end. Bigrams are parts with (32, 2) of a processed text, common prefixes parts with (10, 1) of a list of lines.
 // The sort is a stable merge sort, equal to `msorted` of specs/. Assumes nothing of the starts: one past the end is an empty part.
+pub mod spread;
+
 ghost use mathlib.Core.Path.{_≡_};
 ghost use mathlib.Core.Bool.{true, false};
 ghost use Prim.Native.Nat.{_+_, _≤_, _<_};
