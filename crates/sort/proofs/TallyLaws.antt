@@ -16,6 +16,7 @@ use Rattle.rules.specs.Table.{tallied, countIn}
 use Rattle.rules.proofs.OrderLaws.{Compared, compared, flip, order-eq, order-flip, rises-is}
 use Rattle.rules.proofs.TableLaws.{Above, Rising, occurs, tallied-count, tallied-rising, entries-exactly}
 use Rattle.sort.specs.Sort.{partOf, lexLater, partLater, msorted, countOf, Leads, InOrder}
+use Rattle.sort.specs.Spread.{Shuffled}
 use Rattle.sort.specs.Group.{Group, groupsFrom, groups, starts, counts, Grouped, entriesFrom, entriesAt, partsAt}
 use Rattle.sort.proofs.PartLaws.{later-one}
 use Rattle.sort.proofs.OrderLaws.{countOf-msorted, inorder-msorted}
@@ -158,6 +159,14 @@ module _ (m c : ℕ) (s : List ℕ) where
       ∙ countOf-msorted (λ a. same (part a) g) later k xs
       ∙ sym (occurs-count g xs)
       ∙ sym (tallied-count g gs))
+
+  -- the table does not depend on the order
+  pub tallied-shuffled : (xs ys : List ℕ) → Shuffled xs ys → tallied (partsAt m c s xs) ≡ tallied (partsAt m c s ys)
+  tallied-shuffled xs ys h =
+      let us = partsAt m c s xs in
+      let vs = partsAt m c s ys in
+      entries-exactly (tallied us) (tallied vs) (tallied-rising us) (tallied-rising vs) .1
+      (λ g. tallied-count g us ∙ occurs-count g xs ∙ h (λ a. same (part a) g) ∙ sym (occurs-count g ys) ∙ sym (tallied-count g vs))
 
   -- what the two steps leave, read back
   pub table-there : (k d : ℕ) (p₀ p₁ p₂ : List ℕ) → k ≤ length p₀ → take k p₁ ≡ msorted later k (take k p₀)

@@ -11,6 +11,7 @@ ghost use lib.Seq.{slice, paste};
 ghost use Rattle.rules.specs.Table.{tallied};
 ghost use Rattle.sort.specs.Group.{groups, Grouped, entriesAt, partsAt};
 ghost use Rattle.sort.specs.Sort.{endsPart, marksLeft, partOf, partLater, rightNext, merged, msorted};
+use crate::spread::spread_all;
 
 // Whether x ends a part, with `left` marks left.
 pub fn ends_part(x: u8, mark: u8, left: usize) -> bool
@@ -211,13 +212,14 @@ pub fn group_parts(text: &[u8], p: &mut [u32], k: usize, mark: u8, c: usize) -> 
     d + 1
 }
 
-// The first k of p, sorted and grouped: the d distinct parts with their counts, as `group_parts` leaves them; d comes back.
+// The first k of p, spread, sorted and grouped: the d distinct parts with their counts, as `group_parts` leaves them; d comes back.
 pub fn tally_parts(text: &[u8], p: &mut [u32], k: usize, mark: u8, c: usize) -> usize
     requires { ⌜ (k + k ≤ length (now p)) × (k < 4294967296) ⌝ }
     ensures table { λ r. ⌜ entriesAt mark c (now (text .entry)) (now (p .exit)) k r ≡ tallied (partsAt mark c (now (text .entry)) (take k (now (p .entry)))) ⌝ }
     ensures few { λ r. ⌜ r ≤ k ⌝ }
     ensures rest { λ _. ⌜ drop (k + k) (now (p .exit)) ≡ drop (k + k) (now (p .entry)) ⌝ }
 {
+    spread_all(text, p, k);
     sort_parts(text, p, k, mark, c);
     group_parts(text, p, k, mark, c)
 }

@@ -91,11 +91,15 @@ fn spread_by(text: &[u8], p: &mut [u32], from: usize, to: usize, k: usize, d: us
 }
 
 // The first k of p, spread by their first twelve bytes; p has 2k, and the later k are scratch. Two passes a turn: there and back.
+// A few starts stay as they are, since clearing the counters would cost more than it gains.
 pub fn spread_all(text: &[u8], p: &mut [u32], k: usize)
     requires { ⌜ (k + k ≤ length (now p)) × (k < 4294967296) ⌝ }
     ensures same { λ _. ⌜ Shuffled (take k (now (p .exit))) (take k (now (p .entry))) ⌝ }
     ensures rest { λ _. ⌜ drop (k + k) (now (p .exit)) ≡ drop (k + k) (now (p .entry)) ⌝ }
 {
+    if k < 64 {
+        return;
+    }
     let mut d = 12;
     while 1 < d {
         spread_by(text, p, 0, k, k, d - 1);

@@ -1,5 +1,6 @@
 -- `sort::spread::spread_all` meets its contract: its loop is `Passing`. The measure is the byte to come.
 -- Assumes nothing.
+use mathlib.Core.Path.{refl}
 use mathlib.Core.Logic.{inl, inr}
 use native.Mathlib.Omega.{arith}
 use borrow.Author.Needs.{needs}
@@ -12,6 +13,9 @@ Inv-loop text p₀ k d₀ p d = Passing p₀ p k d
 
 abbrev μ-loop : tie.MeasureT-loop
 μ-loop text p₀ k d₀ p d = d
+
+returns : tie.Need-returns Inv-loop μ-loop
+returns c = (λ q. refl, refl)
 
 loop-holds : tie.Need-loop-holds Inv-loop μ-loop
 loop-holds c = passing-start _ _
@@ -48,8 +52,8 @@ loop-again c =
 same-length : tie.Need-same-length Inv-loop μ-loop
 same-length c = c .before .loop .inv .long
 
-returns : tie.Need-returns Inv-loop μ-loop
-returns c =
+returns-2 : tie.Need-returns-2 Inv-loop μ-loop
+returns-2 c =
     let l = c .before .loop in
     (l .inv .same, l .inv .rest)
 
@@ -59,6 +63,7 @@ spread-all-spec =
     (tie.spec
     Inv-loop
     μ-loop
+    returns
     loop-holds
     sub-spread-by
     spread-by-requires
@@ -68,4 +73,4 @@ spread-all-spec =
     loop-less
     loop-again
     same-length
-    returns)
+    returns-2)
