@@ -1,16 +1,20 @@
 -- The sorted list has the same elements, and is in order, where of two elements at most one comes after the other.
 --     countOf-merged, countOf-msorted      as many of each kind
 --     inorder-msorted                      none comes after the next
+--     runs-apart                           two runs that are in turn are merged by laying one before the other
 -- Assumes nothing.
 use mathlib.Core.Path.{_≡_, refl, sym, ap, _∙_}
 use mathlib.Core.Bool.{Bool, true, false, cond}
 use mathlib.Core.List.{List, [], _∷_, _++_}
-use Prim.Native.Nat.{ℕ, zero, suc, _+_, _/_, _≤_, _<_}
+use Prim.Native.Nat.{ℕ, zero, suc, _+_, _-_, _/_, _≤_, _<_}
 use native.Mathlib.Omega.{arith}
 use lib.Dec.{ltb}
 use borrow.Author.Tests.{lt-ltb, le-ltb}
 use Rattle.sort.proofs.SortLaws.{either}
 use lib.ListN.{length, take, drop, getD, length-take, length-drop, take-append-drop}
+use lib.Seq.{slice, length-slice, getD-take, getD-drop}
+use Rattle.lists.proofs.SliceLaws.{slice-next}
+use Rattle.sort.proofs.MergeLaws.{merged-out}
 use Rattle.sort.specs.Sort.{merged, msorted, rightNext, countOf, Leads, InOrder}
 
 length-cond : (b : Bool) (us vs : List ℕ) (n : ℕ) → length us ≡ n → length vs ≡ n → length (cond b us vs) ≡ n
@@ -121,3 +125,33 @@ module _ (f : ℕ → ℕ → Bool) (one : (x y : ℕ) → f x y ≡ true → f 
       rw (le-ltb (length xs) 2 l)
       (inorder-merged (length xs) (msorted f k (take m xs)) (msorted f k (drop m xs)) (length-halves f k m xs)
       (inorder-msorted k (take m xs) ta) (inorder-msorted k (drop m xs) tb)))
+
+  -- ---- in turn
+  module _ (chain : (x y z : ℕ) → f x y ≡ false → f y z ≡ false → f x z ≡ false) where
+    -- the last does not come after y: nor does the first
+    head-before : (x y : ℕ) (xs : List ℕ) → InOrder f (x ∷ xs) → f (getD (x ∷ xs) (length xs) 0) y ≡ false → f x y ≡ false
+    unfolding InOrder Leads
+    head-before x y [] o e = e
+    head-before x y (z ∷ zs) o e = chain x z y (o .0) (head-before z y zs (o .1) e)
+
+    merged-apart : (n x y : ℕ) (xs ys : List ℕ) → n ≡ suc (length xs) + suc (length ys) → InOrder f (x ∷ xs) → f (getD (x ∷ xs) (length xs) 0) y ≡ false
+        → merged f n (x ∷ xs) (y ∷ ys) ≡ x ∷ (xs ++ y ∷ ys)
+    unfolding merged rightNext InOrder Leads
+    merged-apart zero x y xs ys n o e = absurd (omega arith)
+    merged-apart (suc m) x y [] ys n o e = rw (head-before x y [] o e) (ap (λ (zs : List ℕ). x ∷ zs) (merged-out f m (y ∷ ys) (omega arith)))
+    merged-apart (suc m) x y (z ∷ zs) ys n o e =
+        rw (head-before x y (z ∷ zs) o e) (ap (λ (us : List ℕ). x ∷ us) (merged-apart m z y zs ys (omega arith) (o .1) e))
+
+    -- two runs of a list, the first in order and its last not after the second's first
+    pub runs-apart : (l : List ℕ) (k h : ℕ) → 0 < h → h < k → k + h ≤ length l → InOrder f (slice k (k + h) l) → f (getD l (k + h - 1) 0) (getD l h 0) ≡ false
+        → merged f k (slice k (k + h) l) (slice h k l) ≡ slice k (k + h) l ++ slice h k l
+    runs-apart l k h a b r o e =
+        let u : slice k (k + h) l ≡ getD l k 0 ∷ slice (k + 1) (k + h) l = slice-next l k (k + h) (omega arith) r in
+        let v : slice h k l ≡ getD l h 0 ∷ slice (h + 1) k l = slice-next l h k b (omega arith) in
+        let n : length (slice (k + 1) (k + h) l) ≡ h - 1 = rw (length-slice (k + 1) (k + h) l r) (omega arith) in
+        let m : length (slice (h + 1) k l) ≡ k - (h + 1) = length-slice (h + 1) k l (omega arith) in
+        let i : k + (h - 1) ≡ k + h - 1 = omega arith in
+        let w : getD (slice k (k + h) l) (h - 1) 0 ≡ getD l (k + h - 1) 0 =
+        getD-drop k (take (k + h) l) (h - 1) 0 ∙ getD-take (k + h) l (k + (h - 1)) 0 (omega arith) ∙ ap (λ (t : ℕ). getD l t 0) i in
+        let z : f (getD (getD l k 0 ∷ slice (k + 1) (k + h) l) (length (slice (k + 1) (k + h) l)) 0) (getD l h 0) ≡ false = rw (n, ← u, w) e in
+        rw (u, v) (merged-apart k (getD l k 0) (getD l h 0) (slice (k + 1) (k + h) l) (slice (h + 1) k l) (omega (arith, n, m)) (rw (← u) o) z)

@@ -1,13 +1,13 @@
 -- Two parts, byte by byte.
 -- Assumes nothing.
-use mathlib.Core.Path.{_≡_, refl, sym, ap}
+use mathlib.Core.Path.{_≡_, refl, sym, ap, _∙_}
 use mathlib.Core.Bool.{Bool, true, false, cond}
 use mathlib.Core.List.{List, [], _∷_}
 use Prim.Native.Nat.{ℕ, suc, _+_, _≤_, _<_}
 use native.Mathlib.Omega.{arith}
 use lib.Dec.{ltb, eqb}
 use lib.ListN.{length, take, drop, getD, drop-of-length-le}
-use borrow.Author.Tests.{eq-eqb, ne-eqb, le-ltb, eqb-true, ltb-true}
+use borrow.Author.Tests.{eq-eqb, ne-eqb, le-ltb, eqb-true, eqb-false, ltb-true, ltb-false}
 use Rattle.lists.proofs.SliceLaws.{drop-next}
 use Rattle.sort.specs.Sort.{endsPart, marksLeft, partOf, lexLater, partLater}
 
@@ -110,3 +110,34 @@ lex-one (x ∷ xs) (y ∷ ys) h = one-cons (eqb y x) x y (lexLater xs ys) (lexLa
 pub later-one : (m c : ℕ) (text : List ℕ) (x y : ℕ) → partLater m c text x y ≡ true → partLater m c text y x ≡ false
 unfolding partLater
 later-one m c text x y h = lex-one (partOf m c (drop x text)) (partOf m c (drop y text)) h
+
+-- what does not come after one that does not come after a third does not come after the third
+chain-cons : (b c : Bool) (x y z : ℕ) (p q r : Bool) → eqb y x ≡ b → eqb z y ≡ c → (p ≡ false → q ≡ false → r ≡ false)
+    → cond b p (ltb y x) ≡ false → cond c q (ltb z y) ≡ false → cond (eqb z x) r (ltb z x) ≡ false
+chain-cons true true x y z p q r e g h s t = rw (eq-eqb z x (eqb-true z y g ∙ eqb-true y x e)) (h s t)
+chain-cons true false x y z p q r e g h s t =
+    let v : y ≡ x = eqb-true y x e in
+    let n : z ≡ x → ⊥ = (λ w. eqb-false z y g (w ∙ sym v)) in
+    rw (ne-eqb z x n) (le-ltb z x (omega (arith, ltb-false z y t)))
+chain-cons false true x y z p q r e g h s t =
+    let v : z ≡ y = eqb-true z y g in
+    let n : z ≡ x → ⊥ = (λ w. eqb-false y x e (sym v ∙ w)) in
+    rw (ne-eqb z x n) (le-ltb z x (omega (arith, ltb-false y x s)))
+chain-cons false false x y z p q r e g h s t =
+    let v : y ≡ x → ⊥ = eqb-false y x e in
+    let u : x ≤ y = ltb-false y x s in
+    let o : y ≤ z = ltb-false z y t in
+    let n : z ≡ x → ⊥ = (λ w. v (omega arith)) in
+    rw (ne-eqb z x n) (le-ltb z x (omega arith))
+
+lex-chain : (xs ys zs : List ℕ) → lexLater xs ys ≡ false → lexLater ys zs ≡ false → lexLater xs zs ≡ false
+unfolding lexLater
+lex-chain [] ys zs s t = refl
+lex-chain (x ∷ xs) [] zs s t = absurd (no (sym s))
+lex-chain (x ∷ xs) (y ∷ ys) [] s t = absurd (no (sym t))
+lex-chain (x ∷ xs) (y ∷ ys) (z ∷ zs) s t =
+    chain-cons (eqb y x) (eqb z y) x y z (lexLater xs ys) (lexLater ys zs) (lexLater xs zs) refl refl (lex-chain xs ys zs) s t
+
+pub later-chain : (m c : ℕ) (text : List ℕ) (x y z : ℕ) → partLater m c text x y ≡ false → partLater m c text y z ≡ false → partLater m c text x z ≡ false
+unfolding partLater
+later-chain m c text x y z s t = lex-chain (partOf m c (drop x text)) (partOf m c (drop y text)) (partOf m c (drop z text)) s t

@@ -5,8 +5,9 @@ pub mod spread;
 
 ghost use mathlib.Core.Path.{_≡_};
 ghost use mathlib.Core.Bool.{true, false};
-ghost use Prim.Native.Nat.{_+_, _≤_, _<_};
-ghost use lib.ListN.{length, take, drop, set};
+ghost use mathlib.Core.Logic.{_⊎_};
+ghost use Prim.Native.Nat.{_+_, _-_, _≤_, _<_};
+ghost use lib.ListN.{length, take, drop, set, getD};
 ghost use lib.Seq.{slice, paste};
 ghost use Rattle.rules.specs.Table.{tallied};
 ghost use Rattle.sort.specs.Group.{groups, Grouped, entriesAt, partsAt};
@@ -100,7 +101,7 @@ pub fn takes_right(
     mark: u8,
     c: usize,
 ) -> bool
-    requires { ⌜ (i ≤ m) × (m ≤ n) × (j ≤ n) × (n ≤ length (now p)) × (i + j < m + n) ⌝ }
+    requires { ⌜ (i ≤ m) × (m ≤ length (now p)) × (j ≤ n) × (n ≤ length (now p)) × (i + j < m + n) ⌝ }
     ensures next { λ r. ⌜ r ≡ rightNext (partLater mark c (now (text .entry))) (slice i m (now (p .entry))) (slice j n (now (p .entry))) ⌝ }
     ensures right { λ r. ⌜ (r ≡ true → j < n) ⌝ }
     ensures left { λ r. ⌜ (r ≡ false → i < m) ⌝ }
@@ -118,19 +119,28 @@ pub fn takes_right(
     }
 }
 
-// The runs [k, k+h) and [k+h, 2k) of p are merged to [0, k).
+// Whether the last of a run that ends at m comes after the first of a run that starts at j.
+fn last_after(text: &[u8], p: &[u32], m: usize, j: usize, mark: u8, c: usize) -> bool
+    requires { ⌜ (0 < m) × (m ≤ length (now p)) × (j < length (now p)) ⌝ }
+    ensures { λ r. ⌜ r ≡ partLater mark c (now (text .entry)) (getD (now (p .entry)) (m - 1) 0) (getD (now (p .entry)) j 0) ⌝ }
+{
+    let a = wide(p[m - 1]);
+    let b = wide(p[j]);
+    part_after(text, a, b, mark, c)
+}
+
+// The runs [k, k+h) and [h, k) of p are merged to [0, k). Once the first run is out, what is left of the second stands where it belongs.
 pub fn merge(text: &[u8], p: &mut [u32], k: usize, h: usize, mark: u8, c: usize)
     requires { ⌜ (k + k ≤ length (now p)) × (h ≤ k) ⌝ }
-    ensures front { λ _. ⌜ take k (now (p .exit)) ≡ merged (partLater mark c (now (text .entry))) k (slice k (k + h) (now (p .entry))) (slice (k + h) (k + k) (now (p .entry))) ⌝ }
+    ensures front { λ _. ⌜ take k (now (p .exit)) ≡ merged (partLater mark c (now (text .entry))) k (slice k (k + h) (now (p .entry))) (slice h k (now (p .entry))) ⌝ }
     ensures back { λ _. ⌜ drop k (now (p .exit)) ≡ drop k (now (p .entry)) ⌝ }
 {
     let m = k + h;
-    let n = k + k;
     let mut i = k;
-    let mut j = m;
+    let mut j = h;
     let mut w = 0;
-    while w < k {
-        if takes_right(text, p, i, m, j, n, mark, c) {
+    while i < m {
+        if takes_right(text, p, i, m, j, k, mark, c) {
             p[w] = p[j];
             j = j + 1;
             w = w + 1;
@@ -142,9 +152,10 @@ pub fn merge(text: &[u8], p: &mut [u32], k: usize, h: usize, mark: u8, c: usize)
     }
 }
 
-// k numbers from `from` to `to`, which lies past them.
+// k numbers from `from` to `to`, which lies past them or wholly below them.
 pub fn copy_nums(p: &mut [u32], from: usize, k: usize, to: usize)
-    requires { ⌜ (from + k ≤ to) × (to + k ≤ length (now p)) ⌝ }
+    requires { ⌜ (from + k ≤ to) ⊎ (to + k ≤ from) ⌝ }
+    requires { ⌜ (from + k ≤ length (now p)) × (to + k ≤ length (now p)) ⌝ }
     ensures { λ _. ⌜ now (p .exit) ≡ paste (now (p .entry)) to (drop from (now (p .entry))) k ⌝ }
 {
     let mut i = 0;
@@ -154,7 +165,8 @@ pub fn copy_nums(p: &mut [u32], from: usize, k: usize, to: usize)
     }
 }
 
-// The first k of p are sorted; p has 2k, and the later k are scratch.
+// The first k of p are sorted; p has 2k, and the later k are scratch. Halves that are in turn already are not merged: so starts that come
+// nearly in order are sorted by little more than one comparison each.
 pub fn sort_parts(text: &[u8], p: &mut [u32], k: usize, mark: u8, c: usize)
     requires { ⌜ k + k ≤ length (now p) ⌝ }
     ensures sorted { λ _. ⌜ take k (now (p .exit)) ≡ msorted (partLater mark c (now (text .entry))) k (take k (now (p .entry))) ⌝ }
@@ -167,11 +179,14 @@ pub fn sort_parts(text: &[u8], p: &mut [u32], k: usize, mark: u8, c: usize)
     let r = k - h;
     let e = h + r + r;
     sort_parts(text, &mut p[h..e], r, mark, c);
-    copy_nums(p, h, r, k + h);
-    let f = h + h;
-    sort_parts(text, &mut p[0..f], h, mark, c);
     copy_nums(p, 0, h, k);
-    merge(text, p, k, h, mark, c);
+    let f = k + h + h;
+    sort_parts(text, &mut p[k..f], h, mark, c);
+    if last_after(text, p, k + h, h, mark, c) {
+        merge(text, p, k, h, mark, c);
+    } else {
+        copy_nums(p, k, h, 0);
+    }
 }
 
 // Group d: its first part's start at d, its count at k + d.

@@ -14,7 +14,7 @@ abbrev μ-loop : tie.MeasureT-loop
 μ-loop p₀ from k to i₀ p i = k - i
 
 loop-holds : tie.Need-loop-holds Inv-loop μ-loop
-loop-holds c = copying-start _ _ _ _ (omega arith) (omega arith)
+loop-holds c = copying-start _ _ _ _ (c .pre .0) (omega arith) (omega arith)
 
 add-p : tie.Need-add-p Inv-loop μ-loop
 add-p c = search needs
@@ -25,7 +25,7 @@ mul-p c = search needs
 slice-read-p : tie.Need-slice-read-p Inv-loop μ-loop
 slice-read-p c =
     let h = c .before .before .loop .inv in
-    omega (arith, copying-long h, h .apart, h .room)
+    omega (arith, copying-long h, h .source, h .room)
 
 add-p-2 : tie.Need-add-p-2 Inv-loop μ-loop
 add-p-2 c = search needs
@@ -36,7 +36,7 @@ mul-p-2 c = search needs
 slice-write-p : tie.Need-slice-write-p Inv-loop μ-loop
 slice-write-p c =
     let h = c .before .before .loop .inv in
-    omega (arith, copying-long h, h .apart, h .room)
+    omega (arith, copying-long h, h .source, h .room)
 
 add-i : tie.Need-add-i Inv-loop μ-loop
 add-i c = search needs

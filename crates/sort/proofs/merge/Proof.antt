@@ -11,16 +11,13 @@ use Rattle.sort.proofs.merge.Statement.{statement}
 use Rattle.sort.proofs.merge.Tie as tie
 
 abbrev Inv-loop : tie.InvT-loop
-Inv-loop text p₀ k h mark c m n i₀ j₀ w₀ p i j w = Merging (partLater mark c text) (merged (partLater mark c text) k (slice k (k + h) p₀) (slice (k + h) (k + k) p₀)) p₀ p k m n i j w
+Inv-loop text p₀ k h mark c m i₀ j₀ w₀ p i j w = Merging (partLater mark c text) (merged (partLater mark c text) k (slice k (k + h) p₀) (slice h k p₀)) p₀ p k h m i j w
 
 abbrev μ-loop : tie.MeasureT-loop
-μ-loop text p₀ k h mark c m n i₀ j₀ w₀ p i j w = k - w
+μ-loop text p₀ k h mark c m i₀ j₀ w₀ p i j w = k - w
 
 add-m : tie.Need-add-m Inv-loop μ-loop
 add-m c = search needs
-
-add-n : tie.Need-add-n Inv-loop μ-loop
-add-n c = search needs
 
 loop-holds : tie.Need-loop-holds Inv-loop μ-loop
 loop-holds c = merging-start _ _ _ _ (omega arith) (omega arith)
@@ -85,7 +82,7 @@ loop-again-2 c =
     let l = c .before .before .before .before .before .loop in
     let e = c .before .before .takes-right .ensures in
     let b = c .before .if1 .left in
-    merging-left (l .inv) (c .before .before .before .before .loop-test .taken) (e .1 .1 b) (sym (e .0) ∙ b)
+    merging-left (l .inv) (c .before .before .before .before .loop-test .taken) (sym (e .0) ∙ b)
 
 same-length : tie.Need-same-length Inv-loop μ-loop
 same-length c = search needs
@@ -100,7 +97,6 @@ merge-spec =
     Inv-loop
     μ-loop
     add-m
-    add-n
     loop-holds
     takes-right-requires
     mul-p

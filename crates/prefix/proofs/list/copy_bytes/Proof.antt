@@ -1,5 +1,6 @@
 -- `prefix::list::copy_bytes` meets its contract: its loop is `Copying`, as that of `sort::copy_nums`. The measure is what is left to copy.
 -- Assumes nothing.
+use mathlib.Core.Logic.{inl}
 use Prim.Native.Nat.{_-_}
 use native.Mathlib.Omega.{arith}
 use Rattle.sort.proofs.SortLaws.{Copying, copying-start, copying-next, copying-end, copying-long}
@@ -16,7 +17,7 @@ abbrev μ-loop : tie.MeasureT-loop
 μ-loop area₀ from k to i₀ area i = k - i
 
 loop-holds : tie.Need-loop-holds Inv-loop μ-loop
-loop-holds c = copying-start _ _ _ _ (omega arith) (omega arith)
+loop-holds c = copying-start _ _ _ _ (inl (omega arith)) (omega arith) (omega arith)
 
 add-area : tie.Need-add-area Inv-loop μ-loop
 add-area c = search needs
@@ -24,7 +25,7 @@ add-area c = search needs
 slice-read-area : tie.Need-slice-read-area Inv-loop μ-loop
 slice-read-area c =
     let h = c .before .before .loop .inv in
-    omega (arith, copying-long h, h .apart, h .room)
+    omega (arith, copying-long h, h .source, h .room)
 
 add-area-2 : tie.Need-add-area-2 Inv-loop μ-loop
 add-area-2 c = search needs
@@ -32,7 +33,7 @@ add-area-2 c = search needs
 slice-write-area : tie.Need-slice-write-area Inv-loop μ-loop
 slice-write-area c =
     let h = c .before .before .loop .inv in
-    omega (arith, copying-long h, h .apart, h .room)
+    omega (arith, copying-long h, h .source, h .room)
 
 add-i : tie.Need-add-i Inv-loop μ-loop
 add-i c = search needs
