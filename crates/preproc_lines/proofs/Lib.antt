@@ -1,5 +1,6 @@
 pub mod CountLaws
 pub mod PassLaws
+pub mod SignLaws
 pub mod UrlLaws
 pub mod LineLaws
 pub mod EntryLaws

@@ -3,6 +3,7 @@
 // SPDX-License-Identifier: Apache-2.0), changed. Assumes nothing.
 pub mod line;
 pub mod passes;
+pub mod signs;
 pub mod table;
 pub mod test;
 pub mod urls;

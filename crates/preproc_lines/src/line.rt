@@ -2,32 +2,15 @@
 // From detection/preproc.rs of spdx 0.13.6 (Copyright 2018-2019 Amazon.com, Inc. or its affiliates. All Rights Reserved.
 // SPDX-License-Identifier: Apache-2.0), changed: its vectors of strings are places in one lent area. Assumes nothing.
 ghost use mathlib.Core.Path.{_≡_};
-ghost use mathlib.Core.Bool.{false};
 ghost use Prim.Native.Nat.{_+_, _*_, _≤_};
-ghost use lib.ListN.{length, take};
-ghost use Rattle.lists.specs.Wrote.{Front};
-ghost use Rattle.rules.specs.Bytes.{runs};
-ghost use Rattle.rules.specs.Lines.{gap, signs};
+ghost use lib.ListN.{length};
 ghost use Rattle.slices.specs.Classes.{classTable};
 ghost use Rattle.preproc_lines.specs.Placed.{Filled, Placed};
 use crate::passes::drop_into;
-use crate::passes::join_runs;
+use crate::signs::join_signs;
 use crate::urls::blackbox_urls;
 use slices::ends::Span;
 use slices::ends::bare;
-
-// Line passes 4 and 5, in place, on the first n: six walks.
-pub fn join_signs(class: &[u8; 256], buf: &mut [u8], n: usize) -> usize
-    requires { ⌜ (now class ≡ classTable) × (n ≤ length (now buf)) ⌝ }
-    ensures { λ r. ⌜ Front (signs (runs gap 32 false (take n (now (buf .entry))))) r (now (buf .exit)) ⌝ }
-{
-    let n4 = join_runs(class, 2, 5, 32, buf, n);
-    let quotes = join_runs(class, 12, 12, 39, buf, n4);
-    let dashes = join_runs(class, 13, 13, 45, buf, quotes);
-    let opens = join_runs(class, 14, 14, 40, buf, dashes);
-    let closes = join_runs(class, 15, 15, 41, buf, opens);
-    join_runs(class, 11, 11, 95, buf, closes)
-}
 
 // Line passes 2 to 5 over src, made from `to` on; answers where that ends. A constant number of walks.
 pub fn fill_line(class: &[u8; 256], src: &[u8], area: &mut [u8], to: usize) -> usize

@@ -35,11 +35,17 @@ fn opens_with(class: &[u8; 256], s: &[u8], w: &[u8]) -> bool
     false
 }
 
-// s starts with a URL.
+// s starts with a URL. Most bytes are told by one test.
 pub fn is_url(class: &[u8; 256], s: &[u8]) -> bool
     requires { ⌜ inClass (now class) 5 7 ≡ space ⌝ }
     ensures { λ r. ⌜ r ≡ url (now (s .entry)) ⌝ }
 {
+    if s.len() == 0 {
+        return false;
+    }
+    if s[0] != b'h' {
+        return false;
+    }
     if opens_with(class, s, b"http://") {
         return true;
     }
