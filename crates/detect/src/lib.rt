@@ -15,7 +15,7 @@ use detection::texts::after_text;
 use detection::texts::first_place;
 use detection::texts::next_text;
 use license::views::Viewed;
-use license::views::charge;
+use license::views::charge_exact;
 use license::views::view_table;
 use rules::Value;
 use rules::View;
@@ -89,7 +89,7 @@ pub fn best_of(
         let text = next_text(book, place);
         let start = text.body;
         let end = text.end;
-        let c = charge(area, words, n, t, &book[start..end], left);
+        let c = charge_exact(area, words, n, t, &book[start..end], left);
         left = c.left;
         let value = c.value;
         best = better_of(best, Best { text, value });

@@ -11,7 +11,7 @@ ghost use Rattle.rules.specs.Jobs.{lent, ScoreDone};
 use detection::texts::stored_at;
 use license::notes::clear;
 use license::notes::lay;
-use license::views::charge;
+use license::views::charge_exact;
 use license::views::view_table;
 use refusals::admit_view;
 use rules::Scored;
@@ -37,7 +37,7 @@ pub fn score_laid(
     let found = stored_at(book, k);
     let start = found.body;
     let end = found.end;
-    let charged = charge(area, words, n, t, &book[start..end], 1);
+    let charged = charge_exact(area, words, n, t, &book[start..end], 1);
     charged.value.score
 }
 

@@ -20,6 +20,8 @@ use Rattle.rules.proofs.GrowthLaws.{bigrams-length, aggressive-length, viewed-s
 use Rattle.preproc_lines.specs.Entries.{startAt, endAt, lineAt, linesAt, Apart}
 use Rattle.preproc_lines.proofs.EntryLaws.{lines-same}
 use Rattle.ngram.specs.Tables.{tableAt}
+use Rattle.ngram.specs.declared.scores.Floor.{Floor}
+use Rattle.ngram.specs.Floors.{Judged}
 use Rattle.license.specs.declared.views.Viewed.{Viewed}
 use Rattle.slices.specs.declared.ends.Span.{Span}
 use Rattle.prefix.specs.Listing.{plainLines}
@@ -38,11 +40,11 @@ chargeable area words n t h =
       stands = rw (part-rest (behind n) words, part-slice (t .start) (t .end) area) (h .stands);
     }
 
-pub charged : (area body : List ℕ) (t : Viewed) (r : Value) →
-    r ≡ valueOf (tableOf (bigrams (take (t .end - t .start) (drop (t .start) area)))) (tableIn body (entriesOf body)) →
-    r ≡ valueOf (tableOver area t) (tableOfBody body)
+pub charged : (area body : List ℕ) (t : Viewed) (floor : Floor) (r : Value) →
+    Judged floor (valueOf (tableOf (bigrams (take (t .end - t .start) (drop (t .start) area)))) (tableIn body (entriesOf body))) r →
+    Judged floor (valueOf (tableOver area t) (tableOfBody body)) r
 unfolding tableOver tableOfBody
-charged area body t r e = e ∙ ap (λ (l : List ℕ). valueOf (tableOf (bigrams l)) (tableIn body (entriesOf body))) (part-slice (t .start) (t .end) area)
+charged area body t floor r j = rw (← part-slice (t .start) (t .end) area) j
 
 -- ---- the words behind the line table
 behind-put : (a : ℕ) (xs ys : List ℕ) → a ≤ length xs → drop a (putMid a (length xs - a) xs ys) ≡ ys

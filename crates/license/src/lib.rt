@@ -12,7 +12,7 @@ pub mod notes;
 pub mod views;
 
 use crate::views::Charged;
-use crate::views::charge;
+use crate::views::charge_exact;
 use crate::views::view_of;
 use crate::views::view_table;
 use rules::Bounds;
@@ -59,7 +59,7 @@ fn score_index(
     let v = view_of(task.ends, task.fixed, i);
     let n = task.n;
     let t = view_table(class, area, words, n, task.lines, v);
-    charge(area, words, n, t, body, left)
+    charge_exact(area, words, n, t, body, left)
 }
 
 // The higher of two, ties to the later.

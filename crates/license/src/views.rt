@@ -10,8 +10,11 @@ ghost use Rattle.rules.specs.Book.{soundTable, entriesOf};
 ghost use Rattle.rules.specs.Passes.{aggressive};
 ghost use Rattle.slices.specs.Classes.{classTable};
 ghost use Rattle.preproc_lines.specs.Entries.{linesAt};
+ghost use Rattle.ngram.specs.Floors.{Judged};
 ghost use Rattle.license.specs.Ready.{Laid, Held, Tabled, Processed, tableOver, tableOfBody, viewAt};
 use ngram::meeting::scoring;
+use ngram::scores::Floor;
+use ngram::scores::lowest;
 use ngram::tables::TableSize;
 use ngram::tables::table;
 use prefix::choice::Common;
@@ -84,12 +87,20 @@ pub fn view_table(
     }
 }
 
-// The one place where a scoring is made: it takes one of the scorings left.
-pub fn charge(area: &[u8], words: &[u32], n: usize, t: Viewed, body: &[u8], left: u64) -> Charged
+// The one place where a scoring is made: it takes one of the scorings left, also where it ends early since the floor cannot be beaten.
+pub fn charge(
+    area: &[u8],
+    words: &[u32],
+    n: usize,
+    t: Viewed,
+    body: &[u8],
+    floor: Floor,
+    left: u64,
+) -> Charged
     requires { ⌜ Tabled n (now area) (now words) t ⌝ }
     requires { ⌜ soundTable (now body) (entriesOf (now body)) ≡ true ⌝ }
     requires { ⌜ 0 < left ⌝ }
-    ensures value { λ r. ⌜ r .value ≡ valueOf (tableOver (now (area .entry)) t) (tableOfBody (now (body .entry))) ⌝ }
+    ensures value { λ r. ⌜ Judged floor (valueOf (tableOver (now (area .entry)) t) (tableOfBody (now (body .entry)))) (r .value) ⌝ }
     ensures left { λ r. ⌜ r .left ≡ left - 1 ⌝ }
 {
     let start = t.start;
@@ -99,11 +110,29 @@ pub fn charge(area: &[u8], words: &[u32], n: usize, t: Viewed, body: &[u8], left
         total: t.total,
         distinct: t.distinct,
     };
-    let value = scoring(&area[start..end], &words[from..], size, body);
+    let value = scoring(&area[start..end], &words[from..], size, body, floor);
     Charged {
         value,
         left: left - 1,
     }
+}
+
+// The same with nothing to beat, so the value itself.
+pub fn charge_exact(
+    area: &[u8],
+    words: &[u32],
+    n: usize,
+    t: Viewed,
+    body: &[u8],
+    left: u64,
+) -> Charged
+    requires { ⌜ Tabled n (now area) (now words) t ⌝ }
+    requires { ⌜ soundTable (now body) (entriesOf (now body)) ≡ true ⌝ }
+    requires { ⌜ 0 < left ⌝ }
+    ensures value { λ r. ⌜ r .value ≡ valueOf (tableOver (now (area .entry)) t) (tableOfBody (now (body .entry))) ⌝ }
+    ensures left { λ r. ⌜ r .left ≡ left - 1 ⌝ }
+{
+    charge(area, words, n, t, body, lowest(), left)
 }
 
 // The view whose one bound is fixed, and whose other, the end or the start, is i.

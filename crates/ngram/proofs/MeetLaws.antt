@@ -1,14 +1,15 @@
--- The walk along a view's table and a stored one. `Meeting s p body k d n m i j`: m is summed, and with what the entries from i on share
--- with those from place j on it is n, the whole.
+-- The walk along a view's table and a stored one. `Meeting s p body k d n rest left m i j`: m is summed, and with what the entries from i on
+-- share with those from place j on it is n, the whole; their counts sum to `rest` and `left`.
 --     entry-next, entry-end                                   the stored entry at a place
 --     meeting-before, meeting-same, meeting-after             a turn, by where the view's entry stands to the stored one
 --     meeting-over, meeting-none                              with one of the two walked through
+--     meeting-short                                           what is still to come cannot reach w
 -- Assumes nothing.
 use mathlib.Core.Path.{_≡_, refl, sym, ap, ap₂, _∙_, subst}
 use mathlib.Core.Bool.{Bool, true, false, false≢true}
 use mathlib.Core.List.{List, [], _∷_}
 use mathlib.Core.Option.{Option, none, some}
-use Prim.Native.Nat.{ℕ, _+_, _≤_, _<_, min, Ordering, Ordering·lt, Ordering·eq, Ordering·gt}
+use Prim.Native.Nat.{ℕ, _+_, _-_, _≤_, _<_, min, Ordering, Ordering·lt, Ordering·eq, Ordering·gt}
 use native.Mathlib.Omega.{arith}
 use lib.Dec.{leb}
 use lib.ListN.{length, take, drop, getD, length-drop}
@@ -20,7 +21,7 @@ use Rattle.rules.specs.Bytes.{order}
 use Rattle.rules.specs.Prefix.{Counted}
 use Rattle.rules.specs.declared.Value.{Value}
 use Rattle.rules.specs.Table.{Table, valueOf, score, countIn, meet, tallied, tableOf, bigrams}
-use Rattle.rules.specs.Book.{number, Piece, whole, broken, end, front, entryForm, entryOf, entriesOf, also, goOn, pieces, soundTable, tableIn}
+use Rattle.rules.specs.Book.{number, Piece, whole, broken, end, front, entryForm, entryOf, entriesOf, also, goOn, pieces, soundTable, tableIn, sum}
 use Rattle.rules.proofs.Steps.{pieces-step}
 use Rattle.rules.proofs.OrderLaws.{flip, order-eq, order-flip, rises-is}
 use Rattle.rules.proofs.TableLaws.{Rising, meet-left, meet-right, meet-both, meet-le, tallied-rising, tallied-sum, sound-entries-rising}
@@ -32,6 +33,9 @@ use Rattle.ngram.specs.declared.meeting.Place.{Place}
 use Rattle.ngram.specs.declared.meeting.Place.the-variants.{Before, Same, After}
 use Rattle.ngram.specs.Meeting.{placeOf}
 use Rattle.ngram.specs.Tables.{tableAt}
+use Rattle.ngram.specs.declared.scores.Floor.{Floor}
+use Rattle.ngram.specs.Floors.{Useless, Reached, Judged}
+use Rattle.ngram.proofs.FloorLaws.{judged}
 
 -- ---- the stored entry at a place
 abbrev pub entryEnd : List ℕ → ℕ → ℕ
@@ -114,15 +118,23 @@ module _ (s p : List ℕ) (k d i : ℕ) where
   view-end h = rw (slice-done p i d h)
 
 -- ---- the walk
-pub record Meeting (s p body : List ℕ) (k d n m i j : ℕ) : Type 0 where
+pub record Meeting (s p body : List ℕ) (k d n rest left m i j : ℕ) : Type 0 where
   pub few : d ≤ k
   pub room : k + k ≤ length p
   pub most : n ≤ totalMost
+  pub rest-most : rest ≤ totalMost
+  pub left-most : left ≤ totalMost
   pub stored : List Counted
   pub there : pieces entryForm entryOf (drop j body) ≡ some stored
   pub view-rising : Rising (viewLeft s p k d i)
   pub stored-rising : Rising stored
   pub both : m + meet (viewLeft s p k d i) stored ≡ n
+  pub rest-is : rest ≡ sum (viewLeft s p k d i)
+  pub left-is : left ≡ sum stored
+
+sum-cons : (e : Counted) (es : List Counted) → sum (e ∷ es) ≡ e .count + sum es
+unfolding sum
+sum-cons e es = refl
 
 -- where one stands to the other, by the code's answer
 before-is : (o : Ordering) → placeOf o ≡ Before → o ≡ Ordering·lt
@@ -140,7 +152,7 @@ after-is Ordering·lt e = let z : _≡_ {A = ℕ} 0 1 = cc in absurd (no z)
 after-is Ordering·eq e = let z : _≡_ {A = ℕ} 0 1 = cc in absurd (no z)
 after-is Ordering·gt e = refl
 
-module _ {s p body : List ℕ} {k d n m i j : ℕ} (c : Meeting s p body k d n m i j) (h : i < d) (l : j < length body) where
+module _ {s p body : List ℕ} {k d n rest left m i j : ℕ} (c : Meeting s p body k d n rest left m i j) (h : i < d) (l : j < length body) where
   abbrev nx : Next body j (c .stored)
   nx = entry-next body j (c .stored) (c .there) l
 
@@ -165,41 +177,55 @@ module _ {s p body : List ℕ} {k d n m i j : ℕ} (c : Meeting s p body k d n m
   down : Rising (f ∷ nx .rest)
   down = subst Rising (nx .first) (c .stored-rising)
 
+  pub meeting-rest : rest ≡ e .count + sum es
+  meeting-rest = c .rest-is ∙ ap sum view ∙ sum-cons e es
+
+  pub meeting-left : left ≡ f .count + sum (nx .rest)
+  meeting-left = c .left-is ∙ ap sum (nx .first) ∙ sum-cons f (nx .rest)
+
   sums : m + meet (e ∷ es) (f ∷ nx .rest) ≡ n
   sums = ap₂ (λ (us vs : List Counted). m + meet us vs) (sym view) (sym (nx .first)) ∙ c .both
 
   module _ (r : Place) (q : r ≡ placeOf (order (e .bytes) (f .bytes))) where
-    pub meeting-before : r ≡ Before → Meeting s p body k d n m (i + 1) j
+    pub meeting-before : r ≡ Before → Meeting s p body k d n (rest - e .count) left m (i + 1) j
     meeting-before w =
         let o = before-is (order (e .bytes) (f .bytes)) (sym q ∙ w) in
         record {
           few = c .few;
           room = c .room;
           most = c .most;
+          rest-most = omega (arith, c .rest-most);
+          left-most = c .left-most;
           stored = c .stored;
           there = c .there;
           view-rising = up .2;
           stored-rising = c .stored-rising;
+          rest-is = omega (arith, meeting-rest);
+          left-is = c .left-is;
           both =
               rw (nx .first)
               (ap (λ (x : ℕ). m + x) (sym (meet-left e es (f ∷ nx .rest) (rises-is (e .bytes) (f .bytes) .1 o) down)) ∙ sums);
         }
 
-    pub meeting-same : r ≡ Same → Meeting s p body k d n (m + min (e .count) (f .count)) (i + 1) (entryEnd body j)
+    pub meeting-same : r ≡ Same → Meeting s p body k d n (rest - e .count) (left - f .count) (m + min (e .count) (f .count)) (i + 1) (entryEnd body j)
     meeting-same w =
         let o = same-is (order (e .bytes) (f .bytes)) (sym q ∙ w) in
         record {
           few = c .few;
           room = c .room;
           most = c .most;
+          rest-most = omega (arith, c .rest-most);
+          left-most = omega (arith, c .left-most);
           stored = nx .rest;
           there = nx .there;
           view-rising = up .2;
           stored-rising = down .2;
+          rest-is = omega (arith, meeting-rest);
+          left-is = omega (arith, meeting-left);
           both = omega (arith, sums, meet-both e es f (nx .rest) (order-eq (e .bytes) (f .bytes) .0 o) up down);
         }
 
-    pub meeting-after : r ≡ After → Meeting s p body k d n m i (entryEnd body j)
+    pub meeting-after : r ≡ After → Meeting s p body k d n rest (left - f .count) m i (entryEnd body j)
     meeting-after w =
         let o = after-is (order (e .bytes) (f .bytes)) (sym q ∙ w) in
         let t : order (f .bytes) (e .bytes) ≡ Ordering·lt = order-flip (e .bytes) (f .bytes) ∙ ap flip o in
@@ -207,10 +233,14 @@ module _ {s p body : List ℕ} {k d n m i j : ℕ} (c : Meeting s p body k d n m
           few = c .few;
           room = c .room;
           most = c .most;
+          rest-most = c .rest-most;
+          left-most = omega (arith, c .left-most);
           stored = nx .rest;
           there = nx .there;
           view-rising = c .view-rising;
           stored-rising = down .2;
+          rest-is = c .rest-is;
+          left-is = omega (arith, meeting-left);
           both =
               rw view (ap (λ (x : ℕ). m + x) (sym (meet-right (e ∷ es) f (nx .rest) (rises-is (f .bytes) (e .bytes) .1 t) up)) ∙ sums);
         }
@@ -224,19 +254,29 @@ meet-empty : (fs : List Counted) → meet [] fs ≡ 0
 unfolding meet
 meet-empty fs = refl
 
-module _ {s p body : List ℕ} {k d n m i j : ℕ} (c : Meeting s p body k d n m i j) where
+module _ {s p body : List ℕ} {k d n rest left m i j : ℕ} (c : Meeting s p body k d n rest left m i j) (w : ℕ) where
+  whole-sum : m ≡ n → Reached w n m
+  whole-sum e = record { most = omega arith; whole = λ _. e }
+
   -- the stored table is walked through
-  pub meeting-over : length body ≤ j → m ≡ n
+  pub meeting-over : length body ≤ j → Reached w n m
   meeting-over h =
       let z = entry-end body j (c .stored) (c .there) h in
       let y = rw z at (c .both) in
-      omega (arith, y, meet-nothing (viewLeft s p k d i))
+      whole-sum (omega (arith, y, meet-nothing (viewLeft s p k d i)))
 
   -- the view's is
-  pub meeting-none : d ≤ i → m ≡ n
+  pub meeting-none : d ≤ i → Reached w n m
   meeting-none h =
       let y = rw (view-end s p k d i h) at (c .both) in
-      omega (arith, y, meet-empty (c .stored))
+      whole-sum (omega (arith, y, meet-empty (c .stored)))
+
+  -- what is left to share is at most what is left of each
+  pub meeting-short : m + min rest left < w → Reached w n m
+  meeting-short h =
+      let le = meet-le (viewLeft s p k d i) (c .stored) (c .view-rising) (c .stored-rising) in
+      let below : n < w = omega (arith, h, le .0, le .1, c .both, c .rest-is, c .left-is) in
+      record { most = omega (arith, c .both); whole = λ (u : w ≤ n). absurd (omega (arith, u, below)) }
 
 -- ---- the start
 pub sound-some : (body : List ℕ) (o : Option (List Counted)) → soundTable body o ≡ true → o ≡ some (tableIn body o .entries)
@@ -244,28 +284,6 @@ unfolding soundTable tableIn
 sound-some body none h = absurd (false≢true h)
 sound-some body (some fs) h = refl
 
-pub meeting-start : (s p body : List ℕ) (k d : ℕ) → d ≤ k → k + k ≤ length p → tableAt s p k d ≡ tableOf (bigrams s) →
-    soundTable body (entriesOf body) ≡ true →
-    Meeting s p body k d (meet (tallied (bigrams s)) (tableIn body (entriesOf body) .entries)) 0 0 8
-unfolding tableAt tableOf entriesAt entriesOf
-meeting-start s p body k d l r t h =
-    let es : viewLeft s p k d 0 ≡ tallied (bigrams s) = ap (λ (x : Table). x .entries) t in
-    let fs = tableIn body (entriesOf body) .entries in
-    let sound = table-sound body (entriesOf body) h in
-    let up = tallied-rising (bigrams s) in
-    let stored-up : Rising fs = sound-entries-rising [] fs (sound .0) .1 in
-    record {
-      few = l;
-      room = r;
-      most = omega (arith, meet-le (tallied (bigrams s)) fs up stored-up .1, sound .2);
-      stored = fs;
-      there = sound-some body (entriesOf body) h;
-      view-rising = rw es up;
-      stored-rising = stored-up;
-      both = rw es (omega arith);
-    }
-
--- ---- the value of the two tables
 pub body-total : (body : List ℕ) (o : Option (List Counted)) → soundTable body o ≡ true → tableIn body o .total ≡ number 4 body
 unfolding soundTable tableIn
 body-total body none h = absurd (false≢true h)
@@ -275,10 +293,40 @@ view-total : (s p : List ℕ) (k d : ℕ) → tableAt s p k d ≡ tableOf (bigra
 unfolding tableAt tableOf
 view-total s p k d t = ap (λ (x : Table). x .total) t
 
-module _ (s p body : List ℕ) (k d m b : ℕ) (t : tableAt s p k d ≡ tableOf (bigrams s)) (h : soundTable body (entriesOf body) ≡ true)
-    (e : m ≡ meet (tallied (bigrams s)) (tableIn body (entriesOf body) .entries)) (q : b ≡ number 4 body) where
-  pub value-limits : (m ≤ k) × (m ≤ b) × (b ≤ totalMost)
-  value-limits =
+pub meeting-start : (s p body : List ℕ) (k d left : ℕ) → d ≤ k → k + k ≤ length p → k ≤ totalMost → tableAt s p k d ≡ tableOf (bigrams s) →
+    soundTable body (entriesOf body) ≡ true → left ≡ number 4 body →
+    Meeting s p body k d (meet (tallied (bigrams s)) (tableIn body (entriesOf body) .entries)) k left 0 0 8
+unfolding tableAt tableOf entriesAt entriesOf
+meeting-start s p body k d left l r b t h q =
+    let es : viewLeft s p k d 0 ≡ tallied (bigrams s) = ap (λ (x : Table). x .entries) t in
+    let fs = tableIn body (entriesOf body) .entries in
+    let sound = table-sound body (entriesOf body) h in
+    let up = tallied-rising (bigrams s) in
+    let stored-up : Rising fs = sound-entries-rising [] fs (sound .0) .1 in
+    let left-is : left ≡ sum fs = q ∙ sym (body-total body (entriesOf body) h) ∙ sound .1 in
+    record {
+      few = l;
+      room = r;
+      most = omega (arith, meet-le (tallied (bigrams s)) fs up stored-up .1, sound .2);
+      stored = fs;
+      there = sound-some body (entriesOf body) h;
+      view-rising = rw es up;
+      stored-rising = stored-up;
+      both = rw es (omega arith);
+      rest-most = b;
+      left-most = omega (arith, left-is, sound .2);
+      rest-is = view-total s p k d t ∙ sym (tallied-sum (bigrams s)) ∙ ap sum (sym es);
+      left-is = left-is;
+    }
+
+-- ---- the value of the two tables
+module _ (s p body : List ℕ) (k d b : ℕ) (t : tableAt s p k d ≡ tableOf (bigrams s)) (h : soundTable body (entriesOf body) ≡ true)
+    (q : b ≡ number 4 body) where
+  abbrev pub shared : ℕ
+  shared = meet (tallied (bigrams s)) (tableIn body (entriesOf body) .entries)
+
+  pub shared-limits : (shared ≤ k) × (shared ≤ b) × (b ≤ totalMost)
+  shared-limits =
       let fs = tableIn body (entriesOf body) .entries in
       let sound = table-sound body (entriesOf body) h in
       let up : Rising fs = sound-entries-rising [] fs (sound .0) .1 in
@@ -288,10 +336,15 @@ module _ (s p body : List ℕ) (k d m b : ℕ) (t : tableAt s p k d ≡ tableOf 
       let w = body-total body (entriesOf body) h in
       (omega arith, omega arith, omega arith)
 
-  pub value-is : (v : Value) → v ≡ record { score = score m k b; m = m; t = k + b } →
-      v ≡ valueOf (tableOf (bigrams s)) (tableIn body (entriesOf body))
+  value-is : _≡_ {A = Value} (record { score = score shared k b; m = shared; t = k + b }) (valueOf (tableOf (bigrams s)) (tableIn body (entriesOf body)))
   unfolding valueOf tableOf
-  value-is v z =
+  value-is =
       let a = view-total s p k d t in
       let w = q ∙ sym (body-total body (entriesOf body) h) in
-      z ∙ (λ i. record { score = score (e i) (a i) (w i); m = e i; t = a i + w i })
+      λ i. record { score = score shared (a i) (w i); m = shared; t = a i + w i }
+
+  pub value-judged : (floor : Floor) (w m : ℕ) (v : Value) → k ≤ totalMost → Useless floor k b w → Reached w shared m →
+      v ≡ record { score = score m k b; m = m; t = k + b } → Judged floor (valueOf (tableOf (bigrams s)) (tableIn body (entriesOf body))) v
+  value-judged floor w m v A u r e =
+      let l = shared-limits in
+      rw (e, ← value-is) (judged floor k b A (l .2) w shared m (l .0) (l .1) u r)

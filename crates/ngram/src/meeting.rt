@@ -1,9 +1,9 @@
-// m of a view's table and a stored one, by one walk along both.
+// m of a view's table and a stored one, by one walk along both, which ends where they cannot share what is asked.
 // From detection/ngram.rs of spdx 0.13.6 (Copyright 2018 Amazon.com, Inc. or its affiliates. All Rights Reserved.
 // SPDX-License-Identifier: Apache-2.0), changed: both tables are sorted, so no entry is looked up. Assumes nothing.
 ghost use mathlib.Core.Path.{_≡_};
 ghost use mathlib.Core.Bool.{true};
-ghost use Prim.Native.Nat.{_+_, _≤_, min, compare};
+ghost use Prim.Native.Nat.{_+_, _≤_, compare};
 ghost use lib.ListN.{length, drop};
 ghost use lib.Seq.{slice};
 ghost use Rattle.rules.specs.Sizes.{totalMost};
@@ -13,6 +13,10 @@ ghost use Rattle.rules.specs.Book.{soundTable, entriesOf, tableIn};
 ghost use Rattle.sort.specs.Sort.{partOf};
 ghost use Rattle.ngram.specs.Tables.{tableAt};
 ghost use Rattle.ngram.specs.Meeting.{placeOf};
+ghost use Rattle.ngram.specs.Floors.{Reached, Judged};
+use crate::scores::Floor;
+use crate::scores::smaller;
+use crate::scores::useless;
 use crate::scores::value;
 use crate::tables::TableSize;
 use records::numbers::read_u32;
@@ -72,24 +76,19 @@ pub fn compare_bigram(text: &[u8], a: usize, body: &[u8], from: usize, to: usize
     Place::After
 }
 
-fn smaller(a: u32, b: u32) -> u32
-    ensures { λ r. ⌜ r ≡ min a b ⌝ }
-{
-    if a < b {
-        return a;
-    }
-    b
-}
-
-// The sum of the smaller counts of the bigrams that the table in p, over the text, shares with the stored one.
-pub fn meet(text: &[u8], p: &[u32], size: TableSize, body: &[u8]) -> u32
-    requires { ⌜ (size .distinct ≤ size .total) × (size .total + size .total ≤ length (now p)) ⌝ }
+// The sum of the smaller counts of the bigrams that the table in p, over the text, shares with the stored one; or, where that is less than
+// `least`, something that is no more. `rest` and `stored` are what is still to come of the two tables' counts: the sum gains no more than
+// the smaller of them, so where it cannot reach `least` the walk ends.
+pub fn meet(text: &[u8], p: &[u32], size: TableSize, body: &[u8], least: u32) -> u32
+    requires { ⌜ (size .distinct ≤ size .total) × (size .total + size .total ≤ length (now p)) × (size .total ≤ totalMost) ⌝ }
     requires { ⌜ tableAt (now text) (now p) (size .total) (size .distinct) ≡ words.tableOf (words.bigrams (now text)) ⌝ }
     requires { ⌜ soundTable (now body) (entriesOf (now body)) ≡ true ⌝ }
-    ensures { λ r. ⌜ r ≡ words.meet (words.tallied (words.bigrams (now (text .entry)))) (tableIn (now (body .entry)) (entriesOf (now (body .entry))) .entries) ⌝ }
+    ensures { λ r. ⌜ Reached least (words.meet (words.tallied (words.bigrams (now (text .entry)))) (tableIn (now (body .entry)) (entriesOf (now (body .entry))) .entries)) r ⌝ }
 {
     let total = size.total;
     let distinct = size.distinct;
+    let mut rest = total as u32;
+    let mut stored = read_u32(body, 0);
     let mut m = 0;
     let mut i = 0;
     let mut j = 8;
@@ -97,18 +96,27 @@ pub fn meet(text: &[u8], p: &[u32], size: TableSize, body: &[u8]) -> u32
         if body.len() <= j {
             return m;
         }
+        if m + smaller(rest, stored) < least {
+            return m;
+        }
         let start = j + 8;
         let end = start + wide(read_u32(body, j + 4));
         match compare_bigram(text, wide(p[i]), body, start, end) {
             Place::Before => {
+                rest = rest - p[total + i];
                 i = i + 1;
             }
             Place::Same => {
-                m = m + smaller(p[total + i], read_u32(body, j));
+                let count = p[total + i];
+                let other = read_u32(body, j);
+                m = m + smaller(count, other);
+                rest = rest - count;
+                stored = stored - other;
                 i = i + 1;
                 j = end;
             }
             Place::After => {
+                stored = stored - read_u32(body, j);
                 j = end;
             }
         }
@@ -116,14 +124,16 @@ pub fn meet(text: &[u8], p: &[u32], size: TableSize, body: &[u8]) -> u32
     m
 }
 
-// The value of the table in p, over the text, against the stored one.
-pub fn scoring(text: &[u8], p: &[u32], size: TableSize, body: &[u8]) -> Value
+// The value of the table in p, over the text, against the stored one, if it beats the floor; otherwise a value that does not beat it either.
+pub fn scoring(text: &[u8], p: &[u32], size: TableSize, body: &[u8], floor: Floor) -> Value
     requires { ⌜ (size .distinct ≤ size .total) × (size .total + size .total ≤ length (now p)) × (size .total ≤ totalMost) ⌝ }
     requires { ⌜ tableAt (now text) (now p) (size .total) (size .distinct) ≡ words.tableOf (words.bigrams (now text)) ⌝ }
     requires { ⌜ soundTable (now body) (entriesOf (now body)) ≡ true ⌝ }
-    ensures { λ r. ⌜ r ≡ words.valueOf (words.tableOf (words.bigrams (now (text .entry)))) (tableIn (now (body .entry)) (entriesOf (now (body .entry)))) ⌝ }
+    ensures { λ r. ⌜ Judged floor (words.valueOf (words.tableOf (words.bigrams (now (text .entry)))) (tableIn (now (body .entry)) (entriesOf (now (body .entry))))) r ⌝ }
 {
-    let m = meet(text, p, size, body);
+    let total = size.total as u32;
     let stored = read_u32(body, 0);
-    value(m, size.total as u32, stored)
+    let least = useless(floor, total, stored);
+    let m = meet(text, p, size, body, least);
+    value(m, total, stored)
 }

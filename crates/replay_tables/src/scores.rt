@@ -11,7 +11,7 @@ ghost use Rattle.slices.specs.Classes.{classTable};
 ghost use Rattle.license.specs.Ready.{tableOfBody};
 ghost use Rattle.replay_tables.specs.Told.{bitsTold, scoreOver};
 use license::notes::lay;
-use license::views::charge;
+use license::views::charge_exact;
 use license::views::view_table;
 use questions::hex::put_byte;
 use questions::numbers::put_bits;
@@ -48,6 +48,6 @@ pub fn answer_view(
     let n = text.len();
     let lines = lay(class, text, area, words);
     let t = view_table(class, area, words, n, lines, View { start, end });
-    let charged = charge(area, words, n, t, body, 1);
+    let charged = charge_exact(area, words, n, t, body, 1);
     put_score(charged.value.score, out)
 }

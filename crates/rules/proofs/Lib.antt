@@ -11,6 +11,7 @@ pub mod ScoreRound
 pub mod ScoreLaws
 pub mod Fifths
 pub mod ScoreOrder
+pub mod FloatOrder
 pub mod TableLaws
 pub mod PrefixLaws
 pub mod CountLaws

@@ -121,7 +121,7 @@ module _ (s : Bool) (m : ℕ) (e : ℤ) (t : Bool) (n : ℕ) (d : ℤ) (p : T (f
       (cross (compare A B) A B (2 ^ 149) x y D (pow-pos 149) (mul-pos (down-pos e) (down-pos d)) left right (compared A B)))
 
 -- ---- what lies from 0.0 to 1.0 is finite, and only a zero has the sign set
-data Finite : Float → Type 0 where
+pub data Finite : Float → Type 0 where
   number : (s : Bool) (m : ℕ) (e : ℤ) → (T s → m * up e ≡ 0) → Finite (fin s m e)
 
 neg-zero : (m : ℕ) (e : ℤ) → T (le nought (fin true m e)) → m * up e ≡ 0
@@ -139,7 +139,7 @@ not-nan : T (le nought nan) → ⊥
 unfolding le
 not-nan t = t
 
-finite : (x : Float) → T (unit x) → Finite x
+pub finite : (x : Float) → T (unit x) → Finite x
 unfolding unit
 finite nan t = absurd (not-nan (and-l (le nought nan) (le nan one) t))
 finite (inf s) t = absurd (no-inf s (and-l (le nought (inf s)) (le (inf s) one) t) (and-r (le nought (inf s)) (le (inf s) one) t))

@@ -35,17 +35,17 @@ next-text-requires c κs =
     let start = c .before .before .before .before .before .before .before .before .before in
     (c .before .before .before .loop .inv .before, omega (arith, start .pre .1 .1, c .before .if1 .taken))
 
-sub-charge : tie.Need-sub-charge Inv-loop μ-loop
-sub-charge c = search needs
+sub-charge-exact : tie.Need-sub-charge-exact Inv-loop μ-loop
+sub-charge-exact c = search needs
 
-part-charge-start : tie.Need-part-charge-start Inv-loop μ-loop
-part-charge-start c = search needs
+part-charge-exact-start : tie.Need-part-charge-exact-start Inv-loop μ-loop
+part-charge-exact-start c = search needs
 
-part-charge-end : tie.Need-part-charge-end Inv-loop μ-loop
-part-charge-end c = search needs
+part-charge-exact-end : tie.Need-part-charge-exact-end Inv-loop μ-loop
+part-charge-exact-end c = search needs
 
-charge-requires : tie.Need-charge-requires Inv-loop μ-loop
-charge-requires c κs =
+charge-exact-requires : tie.Need-charge-exact-requires Inv-loop μ-loop
+charge-exact-requires c κs =
     let start = c .before .before .before .before .before .before .before .before .before .before .before in
     (start .pre .0, (c .before .next-text .ensures .is .sound, omega (arith, c .before .before .if2 .left)))
 
@@ -69,7 +69,7 @@ loop-again c =
     let at = c .before .before .before .before .before .before .before .before .before in
     let start = c .before .before .before .before .before .before .before .before .before .before .before .before .before .before .before in
     walk-step (at .loop .inv) (start .args .texts) (start .pre .1 .1) _ _ _ _ _ (found .before .before .if1 .taken) (omega (arith, found .before .if2 .left))
-    (found .next-text .ensures) (charged .charge .ensures .0) (c .before .better-of .ensures) (charged .charge .ensures .1) (c .after-text .ensures)
+    (found .next-text .ensures) (charged .charge-exact .ensures .0) (c .before .better-of .ensures) (charged .charge-exact .ensures .1) (c .after-text .ensures)
 
 returns-2 : tie.Need-returns-2 Inv-loop μ-loop
 returns-2 c =
@@ -87,10 +87,10 @@ best-of-spec =
     loop-holds
     returns
     next-text-requires
-    sub-charge
-    part-charge-start
-    part-charge-end
-    charge-requires
+    sub-charge-exact
+    part-charge-exact-start
+    part-charge-exact-end
+    charge-exact-requires
     better-of-requires
     after-text-requires
     loop-less

@@ -4,7 +4,7 @@ use Rattle.license.proofs.score_index.Statement.{statement}
 use Rattle.license.proofs.score_index.Tie as tie
 use Rattle.license.proofs.score_index.Reads as reads
 use Rattle.license.proofs.score_index.Lts as lts
-use Rattle.license.proofs.views.charge.Reads as charge-reads
+use Rattle.license.proofs.views.charge_exact.Reads as charge-exact-reads
 use Rattle.license.proofs.views.view_of.Reads as view-of-reads
 use Rattle.license.proofs.views.view_table.Reads as view-table-reads
 
@@ -16,8 +16,8 @@ view-table-requires c κs =
     let s = c .before .before .before .before .before .before in
     ((s .pre .0 .classes, s .pre .0 .laid), index-inside _ _ _ _ _ (c .before .before .view-of .ensures) (s .pre .1 .0))
 
-charge-requires : tie.Need-charge-requires
-charge-requires c κs = search needs
+charge-exact-requires : tie.Need-charge-exact-requires
+charge-exact-requires c κs = search needs
 
 same-length : tie.Need-same-length
 same-length c = search needs
@@ -30,8 +30,8 @@ returns c =
     let s = c .before .before .before .before .before .before .before .before .before .before .before .before .before .before in
     let t = c .before .before .before .before .before .before .before .view-table .ensures in
     let o = c .before .before .before .before .before .before .before .before .before .before .view-of .ensures in (
-      λ u e. index-scored _ _ _ _ _ _ _ _ o (t .1 .0) (c .charge .ensures .0) u e,
-      (c .charge .ensures .1, index-kept _ _ _ _ _ _ _ _ (s .pre .0) (t .1 .1)),
+      λ u e. index-scored _ _ _ _ _ _ _ _ o (t .1 .0) (c .charge-exact .ensures .0) u e,
+      (c .charge-exact .ensures .1, index-kept _ _ _ _ _ _ _ _ (s .pre .0) (t .1 .1)),
     )
 
 pub score-index-spec : {M : Type 1} → statement M
@@ -40,7 +40,7 @@ score-index-spec =
     (tie.spec
     view-of-requires
     view-table-requires
-    charge-requires
+    charge-exact-requires
     same-length
     same-length-2
     returns)

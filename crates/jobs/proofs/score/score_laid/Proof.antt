@@ -36,7 +36,7 @@ returns c =
     let found = c .before .before .before .before in
     let tabled = found .before .before .before .before .before in
     let laid = tabled .before .before .before .before .before .before .before .before in
-    score-is _ _ _ _ _ _ _ (laid .lay .ensures .1 .0) (tabled .view-table .ensures .1 .0) (stored-table _ _ _ (found .stored-at .ensures .is)) (c .charge .ensures .0)
+    score-is _ _ _ _ _ _ _ (laid .lay .ensures .1 .0) (tabled .view-table .ensures .1 .0) (stored-table _ _ _ (found .stored-at .ensures .is)) (c .charge-exact .ensures .0)
 
 pub score-laid-spec : {M : Type 1} → statement M
 score-laid-spec =

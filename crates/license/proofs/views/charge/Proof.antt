@@ -1,3 +1,5 @@
+-- `license::views::charge` meets its contract: the scoring is of the view's table, and one is taken off.
+-- Assumes nothing.
 use mathlib.Core.Path.{refl}
 use borrow.Author.Needs.{needs}
 use Rattle.license.proofs.ViewLaws.{chargeable, charged}
@@ -40,13 +42,13 @@ scoring-requires c κs =
     let r = chargeable _ _ _ _ (s .pre .0) in
     (r .sizes, (r .stands, s .pre .1 .0))
 
-sub-t21 : tie.Need-sub-t21
-sub-t21 c = search needs
+sub-t22 : tie.Need-sub-t22
+sub-t22 c = search needs
 
 returns : tie.Need-returns
 returns c =
     let s = c .before .before .before .before .before .before in
-    (charged _ _ (s .args .t) _ (c .scoring .ensures), refl)
+    (charged _ _ (s .args .t) _ _ (c .scoring .ensures), refl)
 
 pub charge-spec : {M : Type 1} → statement M
 charge-spec =
@@ -62,5 +64,5 @@ charge-spec =
     part-scoring-start-2
     part-scoring-end-2
     scoring-requires
-    sub-t21
+    sub-t22
     returns)

@@ -1,21 +1,13 @@
 -- `ngram::scores::score_of` meets its contract. Both whole numbers are at most 2 ^ 24, so each cast is exact, and what is returned is what
 -- the definition has. Assumes nothing.
 use mathlib.Core.Logic.{⊎-elim}
-use Prim.Native.Nat.{ℕ, _≤_}
 use native.Mathlib.Omega.{arith}
-use lib.Dec.{T, le→leb}
-use lib.IntN.{pos}
-use lib.Ieee.{binary32, inFloat, ofBits}
+use lib.Ieee.{ofBits}
 use borrow.Author.Tests.{eq-eqb, ne-eqb}
-use Rattle.ngram.proofs.ScoreCases.{score-first, score-second, score-full}
+use Rattle.ngram.proofs.ScoreCases.{score-first, score-second, score-full, whole-exact}
 use borrow.Author.Needs.{needs}
 use Rattle.ngram.proofs.scores.score_of.Statement.{statement}
 use Rattle.ngram.proofs.scores.score_of.Tie as tie
-
--- whole numbers up to 2 ^ 24 are exact
-exact : (n : ℕ) → n ≤ 16777216 → T (inFloat binary32 (pos n))
-unfolding inFloat
-exact n h = le→leb n 16777216 h
 
 returns : tie.Need-returns
 unfolding ofBits
@@ -28,13 +20,13 @@ mul-result : tie.Need-mul-result
 mul-result c = search needs
 
 int-to-float-result : tie.Need-int-to-float-result
-int-to-float-result c = exact _ (omega arith)
+int-to-float-result c = whole-exact _ (omega arith)
 
 add-result : tie.Need-add-result
 add-result c = search needs
 
 int-to-float-result-2 : tie.Need-int-to-float-result-2
-int-to-float-result-2 c = exact _ (omega arith)
+int-to-float-result-2 c = whole-exact _ (omega arith)
 
 returns-2 : tie.Need-returns-2
 returns-2 c =

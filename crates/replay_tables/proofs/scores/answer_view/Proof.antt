@@ -32,13 +32,13 @@ view-table-requires c κs =
     let l = c .before .before .lay .ensures in
     ((s .pre .0, l .0), (f .order, omega (arith, f .within, l .1 .1)))
 
-charge-requires : tie.Need-charge-requires
-charge-requires c κs = (c .before .before .before .before .view-table .ensures .0, (c .before .before .before .before .before .before .before .before .before .before .before .before .before .before .before .pre .2, omega arith))
+charge-exact-requires : tie.Need-charge-exact-requires
+charge-exact-requires c κs = (c .before .before .before .before .view-table .ensures .0, (c .before .before .before .before .before .before .before .before .before .before .before .before .before .before .before .pre .2, omega arith))
 
 put-score-requires : tie.Need-put-score-requires
 put-score-requires c κs =
     let s = c .before .before .before .before .before .before .before .before .before .before .before .before .before .before .before .before .before in
-    (rw (c .before .charge .ensures .0) (score-unit (now (s .args .body)) (c .before .before .before .before .before .before .view-table .ensures .0) (s .pre .2)), s .pre .3)
+    (rw (c .before .charge-exact .ensures .0) (score-unit (now (s .args .body)) (c .before .before .before .before .before .before .view-table .ensures .0) (s .pre .2)), s .pre .3)
 
 returns-2 : tie.Need-returns-2
 returns-2 c =
@@ -46,7 +46,7 @@ returns-2 c =
     let l = c .before .before .before .before .before .before .before .before .before .before .before .before .lay .ensures in
     let v = c .before .before .before .before .before .before .before .before .before .view-table .ensures in
     let e = right-view (s .start) (s .end) (now (s .text)) (tableOfBody (now (s .body))) (sym (c .before .before .before .before .before .before .before .before .before .before .before .before .before .before .before .before .view-fits .ensures) ∙ not-false _ (c .before .before .before .before .before .before .before .before .before .before .before .before .before .before .before .if1 .left)) in
-    rw (e, ← l .1 .0, ← v .1 .0, ← c .before .before .before .before .charge .ensures .0) (c .before .before .put-score .ensures)
+    rw (e, ← l .1 .0, ← v .1 .0, ← c .before .before .before .before .charge-exact .ensures .0) (c .before .before .put-score .ensures)
 
 pub answer-view-spec : {M : Type 1} → statement M
 answer-view-spec =
@@ -56,7 +56,7 @@ answer-view-spec =
     returns
     lay-requires
     view-table-requires
-    charge-requires
+    charge-exact-requires
     put-score-requires
     (λ c. search needs)
     returns-2)

@@ -1,8 +1,8 @@
--- `ngram::meeting::smaller` meets its contract.
+-- `ngram::scores::smaller` meets its contract.
 -- Assumes nothing.
 use borrow.Author.Needs.{needs}
-use Rattle.ngram.proofs.meeting.smaller.Statement.{statement}
-use Rattle.ngram.proofs.meeting.smaller.Tie as tie
+use Rattle.ngram.proofs.scores.smaller.Statement.{statement}
+use Rattle.ngram.proofs.scores.smaller.Tie as tie
 
 returns : tie.Need-returns
 returns c = search needs

@@ -1,0 +1,13 @@
+-- `ngram::scores::lowest` meets its contract: the literal 0.0 is the definition's.
+-- Assumes nothing.
+use mathlib.Core.Path.{refl}
+use lib.Ieee.{ofBits, ofFields}
+use Rattle.ngram.proofs.scores.lowest.Statement.{statement}
+use Rattle.ngram.proofs.scores.lowest.Tie as tie
+
+returns : tie.Need-returns
+unfolding ofBits ofFields
+returns c = refl
+
+pub lowest-spec : {M : Type 1} → statement M
+lowest-spec = tie.close (tie.spec returns)
