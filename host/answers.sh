@@ -1,6 +1,9 @@
 #!/bin/sh
+# shellcheck disable=SC1091,SC2086,SC2154
 # Builds the archive and the program that answers the oracle's questions by it (x86-64).
 set -eu
-cd "$(dirname "$0")/.."
-rt staticlib chultarvi >/dev/null
-cc -O2 -Wall -Wextra -o target/answers host/answers.c target/staticlib/libchultarvi.a
+. "$(dirname "$0")/build.sh"
+need "$CC"
+need_archive
+cd "$root"
+$CC -O2 -Wall -Wextra $LINK -o target/answers host/answers.c "$archive"

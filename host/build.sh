@@ -1,6 +1,6 @@
 # shellcheck shell=sh disable=SC2034,SC2086,SC2164,SC3013
-# Sourced by run.sh and test.sh: the compiler for x86-64 (the archive's machine), how its programs run here, and what must be built first.
-# On x86-64 that is cc; on another machine Debian's cross compiler and emulator. What is missing is installed by package name, and said.
+# Sourced by the scripts here and by speed/run.sh: the compiler for x86-64 (the archive's machine), how its programs run here, and what must be
+# built first. On x86-64 that is cc; on another machine Debian's cross compiler and emulator. What is missing is installed by package name, and said.
 root=$(cd "$(dirname "$0")/.." && pwd)
 archive=$root/target/staticlib/libchultarvi.a
 flags='-std=c11 -D_GNU_SOURCE -O2 -Wall -Wextra -Wconversion -Wshadow'
@@ -32,14 +32,19 @@ need() {
     done
 }
 
+# The archive, older than nothing that it is made of. Its time becomes that of the start, since rt may leave an unchanged one, and a file may be
+# edited meanwhile.
 need_archive() {
-    [ -e "$archive" ] && return
+    [ -e "$archive" ] && [ -z "$(find "$root/crates" "$root/crates.txt" -newer "$archive" -print -quit)" ] && return
     command -v rt >/dev/null || {
-        echo "host: target/staticlib/libchultarvi.a is missing, and so is rt, which proves and builds it (rt staticlib chultarvi)" >&2
+        echo 'host: target/staticlib/libchultarvi.a is missing or older than crates/, and rt, which proves and builds it, is not here' >&2
         exit 2
     }
     echo 'host: proving and building the archive (rt staticlib chultarvi)' >&2
+    mkdir -p "$root/target"
+    : >"$root/target/archive.began"
     (cd "$root" && rt staticlib chultarvi) >&2
+    touch -r "$root/target/archive.began" "$archive"
 }
 
 sources='host/chultarvi.c host/scan.c host/report.c host/book.c host/files.c host/memory.c host/words.c'

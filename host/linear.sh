@@ -1,7 +1,10 @@
 #!/bin/sh
+# shellcheck disable=SC1091,SC2086,SC2154
 # Builds the archive and the driver, and runs it (x86-64).
 set -eu
-cd "$(dirname "$0")/.."
-rt staticlib chultarvi >/dev/null
-cc -O2 -Wall -o target/linear host/linear.c target/staticlib/libchultarvi.a
-target/linear
+. "$(dirname "$0")/build.sh"
+need "$CC" ${RUN%% *}
+need_archive
+cd "$root"
+$CC -O2 -Wall $LINK -o target/linear host/linear.c "$archive"
+$RUN target/linear

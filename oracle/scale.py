@@ -34,9 +34,9 @@ FILE_MOST = 10000  # bytes; the original takes long for more
 
 class Ours:
     def __init__(self):
+        if subprocess.run([os.path.join(compare.REPOSITORY, "host", "answers.sh")]).returncode != 0:
+            raise Trouble("target/answers is not built")
         program = os.path.join(compare.REPOSITORY, "target", "answers")
-        if not os.path.exists(program):
-            raise Trouble("target/answers is not there: host/answers.sh builds it")
         self.process = subprocess.Popen([program], stdin=subprocess.PIPE, stdout=subprocess.PIPE, text=True)
 
     def ask(self, question):

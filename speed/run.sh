@@ -1,8 +1,10 @@
 #!/bin/sh
+# shellcheck disable=SC1091
 # Builds and runs the benchmark (x86-64): the archive against the unchanged original, in one process. speed/README.md says what it needs.
 set -eu
-cd "$(dirname "$0")"
+. "$(dirname "$0")/../host/build.sh"
+need_archive
+cd "$root/speed"
 (cd ../oracle && sha256sum --quiet -c original.sha256)
-[ -f ../target/staticlib/libchultarvi.a ] || (cd .. && rt staticlib chultarvi >/dev/null)
 cargo build --release --quiet
 exec target/release/speed "$@"
