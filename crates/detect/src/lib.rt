@@ -1,4 +1,4 @@
-// The best stored text of a view: all in book order, a running best, every scoring charged.
+// The best stored text of a view: all in book order, a running best, every scoring charged; each only as far as it can beat the best so far.
 // From detection/detect.rs of spdx 0.13.6 (Copyright 2018 Amazon.com, Inc. or its affiliates. All Rights Reserved.
 // SPDX-License-Identifier: Apache-2.0), changed: the sort in `analyze` is a running best. Assumes nothing.
 ghost use mathlib.Core.Path.{_≡_};
@@ -9,14 +9,15 @@ ghost use Rattle.slices.specs.Classes.{classTable};
 ghost use Rattle.rules.specs.Book.{sound, stored};
 ghost use Rattle.rules.specs.Table.{nought};
 ghost use Rattle.license.specs.Ready.{Laid, Tabled, tableOver};
-ghost use Rattle.detect.specs.Bests.{Betters, BestOf, BestDone};
+ghost use Rattle.detect.specs.Bests.{Betters, toBeat, BestOf, BestAbove, BestDone};
 use detection::texts::Text;
 use detection::texts::after_text;
 use detection::texts::first_place;
 use detection::texts::next_text;
 use license::views::Viewed;
-use license::views::charge_exact;
+use license::views::charge;
 use license::views::view_table;
+use ngram::scores::Floor;
 use rules::Value;
 use rules::View;
 
@@ -65,7 +66,24 @@ pub fn better_of(best: Best, next: Best) -> Best
     best
 }
 
-// The best of the book's texts for the table of a view: each is scored once, in book order.
+// What the next text has to beat: the floor, where ties with it do, as long as no text reaches it; then the best so far.
+pub fn to_beat(floor: f32, best: Best) -> Floor
+    ensures { λ r. ⌜ r ≡ toBeat floor (best .text .kind) (best .value .score) ⌝ }
+{
+    let text = best.text;
+    let score = best.value.score;
+    if text.kind != 0 {
+        if !(score < floor) {
+            return Floor { score, ties: false };
+        }
+    }
+    Floor {
+        score: floor,
+        ties: true,
+    }
+}
+
+// The best of the book's texts for the table of a view, as far as it is not below the floor: each is scored once, in book order.
 pub fn best_of(
     area: &[u8],
     words: &[u32],
@@ -73,11 +91,12 @@ pub fn best_of(
     t: Viewed,
     book: &[u8],
     texts: u32,
+    floor: f32,
     budget: u64,
 ) -> Chosen
     requires { ⌜ Tabled n (now area) (now words) t ⌝ }
     requires { ⌜ (sound (now book) ≡ true) × (texts ≡ length (stored (now book))) ⌝ }
-    ensures { λ r. ⌜ BestOf (now (book .entry)) (tableOver (now (area .entry)) t) budget r ⌝ }
+    ensures { λ r. ⌜ BestOf (now (book .entry)) (tableOver (now (area .entry)) t) floor budget r ⌝ }
 {
     let mut best = no_best();
     let mut left = budget;
@@ -89,7 +108,8 @@ pub fn best_of(
         let text = next_text(book, place);
         let start = text.body;
         let end = text.end;
-        let c = charge_exact(area, words, n, t, &book[start..end], left);
+        let least = to_beat(floor, best);
+        let c = charge(area, words, n, t, &book[start..end], least, left);
         left = c.left;
         let value = c.value;
         best = better_of(best, Best { text, value });
@@ -98,7 +118,29 @@ pub fn best_of(
     Chosen::Found(best, left)
 }
 
-// The best stored text of a view: its table is made once.
+// The best stored text of a view, as far as it is not below the floor: its table is made once.
+pub fn best_above(
+    class: &[u8; 256],
+    area: &mut [u8],
+    words: &mut [u32],
+    n: usize,
+    lines: usize,
+    v: View,
+    book: &[u8],
+    texts: u32,
+    floor: f32,
+    budget: u64,
+) -> Chosen
+    requires { ⌜ (now class ≡ classTable) × Laid n lines (now area) (now words) ⌝ }
+    requires { ⌜ (v .start ≤ v .end) × (v .end ≤ lines) ⌝ }
+    requires { ⌜ (sound (now book) ≡ true) × (texts ≡ length (stored (now book))) ⌝ }
+    ensures { λ r. ⌜ BestAbove n lines (now (area .entry)) (now (words .entry)) (now (area .exit)) (now (words .exit)) v (now (book .entry)) floor budget r ⌝ }
+{
+    let t = view_table(class, area, words, n, lines, v);
+    best_of(area, words, n, t, book, texts, floor, budget)
+}
+
+// The best stored text of a view: no score is below 0.0.
 pub fn best_text(
     class: &[u8; 256],
     area: &mut [u8],
@@ -115,6 +157,5 @@ pub fn best_text(
     requires { ⌜ (sound (now book) ≡ true) × (texts ≡ length (stored (now book))) ⌝ }
     ensures { λ r. ⌜ BestDone n lines (now (area .entry)) (now (words .entry)) (now (area .exit)) (now (words .exit)) v (now (book .entry)) budget r ⌝ }
 {
-    let t = view_table(class, area, words, n, lines, v);
-    best_of(area, words, n, t, book, texts, budget)
+    best_above(class, area, words, n, lines, v, book, texts, 0.0, budget)
 }

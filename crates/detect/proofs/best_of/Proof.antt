@@ -11,10 +11,10 @@ use Rattle.detect.proofs.best_of.Statement.{statement}
 use Rattle.detect.proofs.best_of.Tie as tie
 
 abbrev Inv-loop : tie.InvT-loop
-Inv-loop area words n t book texts budget best₀ left₀ place₀ best left place = Walking book (tableOver area t) budget best left place
+Inv-loop area words n t book texts floor budget best₀ left₀ place₀ best left place = Walking book (tableOver area t) floor budget best left place
 
 abbrev μ-loop : tie.MeasureT-loop
-μ-loop area words n t book texts budget best₀ left₀ place₀ best left place = texts - place .number
+μ-loop area words n t book texts floor budget best₀ left₀ place₀ best left place = texts - place .number
 
 no-best-requires : tie.Need-no-best-requires Inv-loop μ-loop
 no-best-requires c κs = search needs
@@ -23,7 +23,7 @@ first-place-requires : tie.Need-first-place-requires Inv-loop μ-loop
 first-place-requires c κs = search needs
 
 loop-holds : tie.Need-loop-holds Inv-loop μ-loop
-loop-holds c = walk-first _ _ _ _ _ (c .before .before .before .before .before .pre .1 .0) (c .before .no-best .ensures) (c .first-place .ensures)
+loop-holds c = walk-first _ _ _ _ _ _ (c .before .before .before .before .before .pre .1 .0) (c .before .no-best .ensures) (c .first-place .ensures)
 
 returns : tie.Need-returns Inv-loop μ-loop
 returns c =
@@ -35,41 +35,46 @@ next-text-requires c κs =
     let start = c .before .before .before .before .before .before .before .before .before in
     (c .before .before .before .loop .inv .before, omega (arith, start .pre .1 .1, c .before .if1 .taken))
 
-sub-charge-exact : tie.Need-sub-charge-exact Inv-loop μ-loop
-sub-charge-exact c = search needs
+to-beat-requires : tie.Need-to-beat-requires Inv-loop μ-loop
+to-beat-requires c κs = search needs
 
-part-charge-exact-start : tie.Need-part-charge-exact-start Inv-loop μ-loop
-part-charge-exact-start c = search needs
+sub-charge : tie.Need-sub-charge Inv-loop μ-loop
+sub-charge c = search needs
 
-part-charge-exact-end : tie.Need-part-charge-exact-end Inv-loop μ-loop
-part-charge-exact-end c = search needs
+part-charge-start : tie.Need-part-charge-start Inv-loop μ-loop
+part-charge-start c = search needs
 
-charge-exact-requires : tie.Need-charge-exact-requires Inv-loop μ-loop
-charge-exact-requires c κs =
-    let start = c .before .before .before .before .before .before .before .before .before .before .before in
-    (start .pre .0, (c .before .next-text .ensures .is .sound, omega (arith, c .before .before .if2 .left)))
+part-charge-end : tie.Need-part-charge-end Inv-loop μ-loop
+part-charge-end c = search needs
+
+charge-requires : tie.Need-charge-requires Inv-loop μ-loop
+charge-requires c κs =
+    let found = c .before .before in
+    let start = found .before .before .before .before .before .before .before .before .before .before in
+    (start .pre .0, (found .next-text .ensures .is .sound, omega (arith, found .before .if2 .left)))
 
 better-of-requires : tie.Need-better-of-requires Inv-loop μ-loop
 better-of-requires c κs = search needs
 
 after-text-requires : tie.Need-after-text-requires Inv-loop μ-loop
 after-text-requires c κs =
-    let f = c .before .before .before .before .next-text .ensures in
+    let f = c .before .before .before .before .before .next-text .ensures in
     omega (arith, f .numbered, f .below)
 
 loop-less : tie.Need-loop-less Inv-loop μ-loop
 loop-less c =
-    let found = c .before .before .before .before .before .next-text in
-    omega (arith, found .ensures .numbered, c .before .before .before .before .before .before .before .if1 .taken, ap (λ (x : Place). x .number) (c .after-text .ensures))
+    let found = c .before .before .before .before .before .before in
+    omega (arith, found .next-text .ensures .numbered, found .before .before .if1 .taken, ap (λ (x : Place). x .number) (c .after-text .ensures))
 
 loop-again : tie.Need-loop-again Inv-loop μ-loop
 loop-again c =
     let charged = c .before .before .before in
-    let found = c .before .before .before .before .before in
-    let at = c .before .before .before .before .before .before .before .before .before in
-    let start = c .before .before .before .before .before .before .before .before .before .before .before .before .before .before .before in
-    walk-step (at .loop .inv) (start .args .texts) (start .pre .1 .1) _ _ _ _ _ (found .before .before .if1 .taken) (omega (arith, found .before .if2 .left))
-    (found .next-text .ensures) (charged .charge-exact .ensures .0) (c .before .better-of .ensures) (charged .charge-exact .ensures .1) (c .after-text .ensures)
+    let beat = charged .before .before in
+    let found = beat .before in
+    let at = found .before .before .before .before in
+    let start = found .before .before .before .before .before .before .before .before .before .before in
+    walk-step (at .loop .inv) (start .args .texts) (start .pre .1 .1) _ _ _ _ _ _ (found .before .before .if1 .taken) (omega (arith, found .before .if2 .left))
+    (found .next-text .ensures) (beat .to-beat .ensures) (charged .charge .ensures .0) (c .before .better-of .ensures) (charged .charge .ensures .1) (c .after-text .ensures)
 
 returns-2 : tie.Need-returns-2 Inv-loop μ-loop
 returns-2 c =
@@ -87,10 +92,11 @@ best-of-spec =
     loop-holds
     returns
     next-text-requires
-    sub-charge-exact
-    part-charge-exact-start
-    part-charge-exact-end
-    charge-exact-requires
+    to-beat-requires
+    sub-charge
+    part-charge-start
+    part-charge-end
+    charge-requires
     better-of-requires
     after-text-requires
     loop-less

@@ -1,19 +1,14 @@
--- `detect::best_text` meets its contract: the best over the table of the view is the view's best.
+-- `detect::best_text` meets its contract: no score is below the literal 0.0, which is the definition's.
 -- Assumes nothing.
+use mathlib.Core.Path.{refl}
+use lib.Ieee.{ofBits, ofFields}
 use borrow.Author.Needs.{needs}
-use Rattle.detect.proofs.BestLaws.{best-done}
+use Rattle.detect.proofs.BestLaws.{best-exact}
 use Rattle.detect.proofs.best_text.Statement.{statement}
 use Rattle.detect.proofs.best_text.Tie as tie
-use Rattle.detect.proofs.best_text.Reads as reads
-use Rattle.detect.proofs.best_text.Lts as lts
-use Rattle.detect.proofs.best_of.Reads as best-of-reads
-use Rattle.license.proofs.views.view_table.Reads as view-table-reads
 
-view-table-requires : tie.Need-view-table-requires
-view-table-requires c κs = search needs
-
-best-of-requires : tie.Need-best-of-requires
-best-of-requires c κs = search needs
+best-above-requires : tie.Need-best-above-requires
+best-above-requires c κs = search needs
 
 same-length : tie.Need-same-length
 same-length c = search needs
@@ -22,10 +17,8 @@ same-length-2 : tie.Need-same-length-2
 same-length-2 c = search needs
 
 returns : tie.Need-returns
-returns c =
-    let t = c .before .before .before .before .before .before .before .view-table .ensures in
-    best-done _ _ _ _ _ _ _ _ _ _ _ (c .best-of .ensures) (t .1 .0) (t .1 .1)
+unfolding ofBits ofFields
+returns c = best-exact _ _ _ _ _ _ _ _ _ _ _ refl (c .before .before .before .before .best-above .ensures)
 
 pub best-text-spec : {M : Type 1} → statement M
-best-text-spec =
-    tie.close (tie.spec view-table-requires best-of-requires same-length same-length-2 returns)
+best-text-spec = tie.close (tie.spec best-above-requires same-length same-length-2 returns)
