@@ -1,5 +1,4 @@
 -- The passes over one slice, whose two parts change places as source and target.
---     length-part, part-read      the part of k at a place
 --     placing-..                  the loop of `place_starts`
 --     passing-..                  the loop of `spread_all`, two passes a turn
 -- Assumes nothing.
@@ -9,20 +8,11 @@ use mathlib.Core.List.{List}
 use Prim.Native.Nat.{ℕ, _+_, _-_, _≤_, _<_}
 use native.Mathlib.Omega.{arith}
 use lib.ListN.{length, take, drop, set, getD, length-set}
-use lib.Seq.{slice, length-slice, getD-drop, getD-take, drop-set-add, take-set-lt, drop-set-lt}
+use lib.Seq.{slice, drop-set-lt}
 use Rattle.lists.proofs.SliceLaws.{drop-back}
+use Rattle.lists.proofs.StoreLaws.{length-part, part-read, part-set, slice-set-past, slice-set-low}
 use Rattle.sort.specs.Spread.{lower, Counters, Shuffled}
-use Rattle.sort.proofs.SpreadLaws.{slice-set-past, slice-set-low, Spreading, next-place, spreading-start, spreading-next, spreading-end}
-
--- ---- a part of k
-pub length-part : (a k : ℕ) (p : List ℕ) → a + k ≤ length p → length (slice a (a + k) p) ≡ k
-length-part a k p h = omega (arith, length-slice a (a + k) p h)
-
-pub part-read : (a k : ℕ) (p : List ℕ) (i : ℕ) → i < k → getD (slice a (a + k) p) i 0 ≡ getD p (a + i) 0
-part-read a k p i h = getD-drop a (take (a + k) p) i 0 ∙ getD-take (a + k) p (a + i) 0 (omega arith)
-
-part-set : (a k : ℕ) (p : List ℕ) (i x : ℕ) → i < k → slice a (a + k) (set p (a + i) x) ≡ set (slice a (a + k) p) i x
-part-set a k p i x h = ap (drop a) (take-set-lt (a + k) p (a + i) x (omega arith)) ∙ drop-set-add a (take (a + k) p) i x
+use Rattle.sort.proofs.SpreadLaws.{Spreading, next-place, spreading-start, spreading-next, spreading-end}
 
 -- ---- from one part to the other
 abbrev Apart : ℕ → ℕ → ℕ → Type 0

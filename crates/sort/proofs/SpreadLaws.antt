@@ -1,5 +1,4 @@
 -- The loop that places starts by their bytes: the places of each byte fill up from below, each in its own range.
---     slice-set-past, slice-set-low     a store outside a part
 --     spreading-start, spreading-next   with none placed, and with one more
 --     spreading-end                     with all placed: the same elements
 -- Assumes nothing.
@@ -8,33 +7,18 @@ use mathlib.Core.Bool.{Bool, true, false, _&&_, and-true, and-false}
 use mathlib.Core.List.{List, [], _∷_, _++_}
 use Prim.Native.Nat.{ℕ, zero, suc, _+_, _≤_, _<_}
 use native.Mathlib.Omega.{arith}
-use native.Mathlib.Numerals.{add-one}
 use lib.Dec.{ltb, eqb}
 use borrow.Author.Tests.{eq-eqb, lt-ltb, le-ltb, eqb-true, eqb-false}
-use lib.ListN.{length, take, drop, set, getD, length-set}
-use lib.Seq.{slice, slice-empty, take-set-le, take-set-lt, drop-set-lt, take-suc-set, drop-append-le, take-add, take-length, take-all, length-take-le}
+use lib.ListN.{length, take, set, getD, length-set}
+use lib.Seq.{slice, slice-empty, take-add, take-length, take-all}
 use Rattle.lists.proofs.SliceLaws.{part-at}
+use Rattle.lists.proofs.StoreLaws.{slice-set-past, slice-set-low, slice-set-next}
 use Rattle.sort.specs.Sort.{countOf}
 use Rattle.sort.specs.Spread.{keyed, lower, Counters, Shuffled}
 use Rattle.sort.proofs.SortLaws.{either}
 use Rattle.sort.proofs.OrderLaws.{countOf-append}
 use Rattle.sort.proofs.CountLaws.{one, countOf-split, countOf-same, countOf-none, countOf-one, countOf-more, countOf-take, below-next, lower-next, lower-mono, lower-none, lower-all, lower-most, counters-set}
 
--- ---- a store outside a part
-module _ (a e : ℕ) (l : List ℕ) (w x : ℕ) where
-  pub slice-set-past : e ≤ w → slice a e (set l w x) ≡ slice a e l
-  slice-set-past h = ap (drop a) (take-set-le e l w x h)
-
-  pub slice-set-low : w < a → slice a e (set l w x) ≡ slice a e l
-  slice-set-low h = either w e (λ m. ap (drop a) (take-set-lt e l w x m) ∙ drop-set-lt a (take e l) w x h) (λ m. slice-set-past m)
-
--- the part that the store makes longer
-slice-set-next : (a : ℕ) (l : List ℕ) (w x : ℕ) → a ≤ w → w < length l → slice a (w + 1) (set l w x) ≡ slice a w l ++ (x ∷ [])
-slice-set-next a l w x h m =
-    let n : length (take w l) ≡ w = length-take-le w l (omega arith) in
-    rw (add-one, take-suc-set l w x m) (drop-append-le a (take w l) (x ∷ []) (omega arith))
-
--- ---- the loop
 -- of q, those with the key b, and those with a lower one
 abbrev having : (ℕ → Bool) → (ℕ → ℕ) → ℕ → ℕ → Bool
 having q key b x = q x && eqb (key x) b

@@ -5,9 +5,9 @@ use Prim.Native.Nat.{_+_, _-_}
 use native.Mathlib.Omega.{arith}
 use lib.Seq.{slice}
 use borrow.Author.Needs.{needs}
+use Rattle.lists.proofs.StoreLaws.{length-part, part-read}
 use Rattle.sort.specs.Spread.{byteFrom}
 use Rattle.sort.proofs.CountLaws.{Counting, counting-start, counting-most, counting-next, counting-end}
-use Rattle.sort.proofs.PassLaws.{length-part, part-read}
 use Rattle.sort.proofs.spread.count_bytes.Statement.{statement}
 use Rattle.sort.proofs.spread.count_bytes.Tie as tie
 

@@ -4,9 +4,9 @@ use Prim.Native.Nat.{_+_}
 use native.Mathlib.Omega.{arith}
 use lib.Seq.{slice}
 use borrow.Author.Needs.{needs}
+use Rattle.lists.proofs.StoreLaws.{length-part}
 use Rattle.sort.specs.Spread.{byteFrom}
 use Rattle.sort.proofs.CountLaws.{counters-none, added-most, counters-lower}
-use Rattle.sort.proofs.PassLaws.{length-part}
 use Rattle.sort.proofs.spread.spread_by.Statement.{statement}
 use Rattle.sort.proofs.spread.spread_by.Tie as tie
 
