@@ -217,7 +217,10 @@ def numbers(values):
 
 
 class Trial:
-    def __init__(self, keep):
+    """The trial crate. `head` is what stands above its statements, `opened` what each of them unfolds."""
+
+    def __init__(self, keep, head=USES + ROWS, opened=UNFOLDING):
+        self.head, self.opened = head, opened
         self.folder = tempfile.mkdtemp(prefix="compare-")
         self.keep = keep
         wanted = self.needed()
@@ -257,9 +260,9 @@ class Trial:
 
     def failures(self, statements):
         """The statements, by name, that antt refuses, each with its message. A statement is a name, a type and what it unfolds."""
-        out = [USES, ROWS]
+        out = [self.head]
         for name, (before, claim, opened) in statements.items():
-            out.append(f"\n{before}pub {name} : {claim}\nunfolding {opened} {UNFOLDING}\n{name} = refl\n")
+            out.append(f"\n{before}pub {name} : {claim}\nunfolding {opened} {self.opened}\n{name} = refl\n")
         self.write("specs/Rows.antt", "".join(out))
         run = subprocess.run(
             ["rt", "check", "trial"],

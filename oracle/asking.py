@@ -1,0 +1,308 @@
+"""Makes questions for hold.py and rows.py: calls of the five jobs, sound and with faults, each area filled with garbage.
+
+A plan is a question without its areas. For each area it holds by how much it is longer than needed (below 0: shorter), so that a fault of the text
+keeps the others right. `filled` makes the question. A fault is named by the refusal that it should bring; whether it does, the model says.
+"""
+
+import copy
+import dataclasses
+import random
+import struct
+import types
+
+import compare
+import model
+
+WHOLE = 2**64 - 1
+MARKED_TEXT = b"copyright 20xx me irl\n// My First License\nfn hello() {\n ..."
+SCANS = ("eliminate", "down")
+JOBS = tuple(model.REFUSALS)
+
+# ---- books -------------------------------------------------------------------------------------------------------------------------------
+
+
+def record(kind, body):
+    return struct.pack("<IH", len(body), kind) + body
+
+
+def table_body(total, distinct, entries):
+    """A table body as it is told, sound or not: entries are a count and bytes."""
+    return struct.pack("<II", total, distinct) + b"".join(struct.pack("<II", count, len(b)) + b for count, b in entries)
+
+
+MARKED_BOOK = record(1, b"A") + record(2, model.compiled(b"My First License"))
+
+
+def book_records(rng, texts):
+    """The records of a shelf as compare.py makes it, with aliases."""
+    out, name = [], None
+    for stored in texts:
+        if stored.name != name:
+            out += aliases(rng) if name else []
+            name = stored.name
+            out.append((1, name.encode("ascii")))
+        out.append((stored.kind, model.compiled(stored.text.encode("ascii"))))
+    return out + aliases(rng)
+
+
+def aliases(rng):
+    return [(5, rng.choice([b"x", b"A", b"!~", b"n" * 64])) for _ in range(rng.choice([0, 0, 0, 1, 2]))]
+
+
+def book_of(records):
+    return b"".join(record(kind, body) for kind, body in records)
+
+
+BIGRAMS = [b"a b", b"a  b", b" a", b"a ", b"", b" ", b"A b", b"a b c", b"a-b c", b"_ 9", b"a\tb", b"zz zz", b"a b\n", b"\xff a"]
+BODIES = [
+    lambda rng: table_body(0, 0, []),
+    lambda rng: table_body(1, 1, [(1, rng.choice(BIGRAMS))]),
+    lambda rng: table_body(0, 1, [(0, b"a b")]),
+    lambda rng: table_body(rng.choice([2, 3, 4]), rng.choice([1, 2, 3]), [(1, b"a b"), (2, rng.choice([b"a a", b"a b", b"a ba", b"b"]))]),
+    lambda rng: table_body(model.TOTAL_MOST + rng.choice([-1, 0, 1]), 2, [(1, b"a b"), (model.TOTAL_MOST - rng.choice([0, 1, 2]), b"a c")]),
+    lambda rng: table_body(1, 2, [(2**32 - 1, b"a b"), (2, b"a c")]),  # the sum is 1 only modulo 2^32
+    lambda rng: table_body(1, 1, [(1, b"a b")])[: rng.randint(0, 18)],
+    lambda rng: table_body(1, 1, [(1, b"a b")]) + rng.randbytes(rng.randint(1, 9)),
+]
+NAMES = [b"", b"A", b"B", b"n" * 63, b"n" * 64, b"n" * 65, b"a b", b"!", b"~", b"\x7f", b" ", b"\x80", b"a\n", b"A\0"]
+
+
+def other_records(rng, records):
+    """A book's records with one changed: dropped, doubled, exchanged, of another kind, of another body."""
+    records = list(records)
+    i, k = rng.randrange(len(records)), rng.randrange(len(records))
+    kind, body = records[i]
+    how = rng.randrange(6)
+    if how == 0:
+        del records[i]
+    elif how == 1:
+        records.insert(k, records[i])
+    elif how == 2:
+        records[i], records[k] = records[k], records[i]
+    elif how == 3:
+        records[i] = rng.choice([0, 1, 2, 3, 4, 5, 6, 7, 256, 257, 258, 65535]), body
+    else:
+        records[i] = kind, rng.choice(NAMES) if kind in (1, 5) else rng.choice(BODIES)(rng)
+    return records
+
+
+def other_bytes(rng, book):
+    """A book with some bytes changed, cut off, added, or with a length near 2^32."""
+    book = bytearray(book or b"\0")
+    i = rng.randrange(len(book))
+    how = rng.randrange(6)
+    if how == 0:
+        book[i] = rng.randrange(256)
+    elif how == 1:
+        book[i] ^= 1 << rng.randrange(8)
+    elif how == 2:
+        del book[i:]
+    elif how == 3:
+        book += rng.choice([b"\0", bytes(6), rng.randbytes(rng.randint(1, 7)), struct.pack("<IH", 2**32 - 6, rng.randint(1, 5))])
+    elif how == 4:
+        del book[i]
+    else:
+        book[0:4] = struct.pack("<I", rng.choice([2**32 - 6, 2**32 - 1, len(book), len(book) - 6, len(book) - 5, 0]))
+    return bytes(book)
+
+
+def any_book(rng, records):
+    """A book that may or may not be sound."""
+    for _ in range(rng.choice([0, 1, 1, 1, 2])):
+        records = other_records(rng, records) if records else records
+    book = book_of(records)
+    return other_bytes(rng, book) if rng.random() < 0.35 else book
+
+
+def unsound_book(rng, records):
+    while True:
+        book = any_book(rng, records)
+        if model.shelf_or_none(book) is None:
+            return book
+
+
+# ---- plans -------------------------------------------------------------------------------------------------------------------------------
+
+
+def limits(rng, plan):
+    """Two limits, often scores that are met."""
+    whole = dataclasses.replace(question(plan, "eliminate"), optimize=True, passes=3, budget=200, results=bytes(48))
+    first = model.answered(whole)
+    met = [first.score] + list(struct.unpack("<12I", first.results))[3 : 4 * first.records : 4]
+    some = [model.bits_of(x) for x in (0.0, 0.5, 0.5, 0.9, 0.9, 1.0)] + [0x80000000]
+    return rng.choice(some + met * 2), rng.choice(some + [model.bits_of(0.99), model.bits_of(1.0)] + met)
+
+
+def sound_plan(rng, job, lines=9):
+    """A plan that is not refused; its book has 2 to 5 stored texts."""
+    shelf = compare.shelf(rng)
+    plan = types.SimpleNamespace(job=job, records=book_records(rng, shelf), start=0, end=0, number=0, threshold=0, shallow=0)
+    plan.text = compare.note(rng, shelf, lines).encode("ascii") if rng.random() < 0.75 else compare.text(rng).encode("ascii")
+    plan.book = book_of(plan.records)
+    plan.optimize, plan.passes, plan.step = rng.random() < 0.85, rng.choice([0, 1, 2, 2, 3, 4]), rng.choice([1, 1, 2, 2, 3, 4, 5, 7, WHOLE])
+    plan.slack = {area: slack(rng) for area in ("area", "words", "out", "results")}
+    plan.budget, plan.sizes = WHOLE, None
+    if job in SCANS:
+        plan.threshold, plan.shallow = limits(rng, plan)
+    if job in ("score", "bounds"):
+        plan.start, plan.end = compare.any_view(rng, plan.text.count(b"\n") + 1)
+        plan.number = rng.randrange(len(model.shelf_or_none(plan.book)))
+    return plan
+
+
+def slack(rng):
+    return rng.choice([0, 0, 1, 2, 3, 4, rng.randint(0, 40), rng.randint(0, 300)])
+
+
+def question(plan, job=None):
+    """The question with areas just as long as needed, of zeros, and without an output."""
+    q = model.Question(
+        job or plan.job, plan.text, plan.book, start=plan.start, end=plan.end, number=plan.number, threshold=plan.threshold, shallow=plan.shallow,
+        optimize=plan.optimize, passes=plan.passes, step=plan.step, budget=plan.budget,
+    )  # fmt: skip
+    n = len(q.text)
+    return dataclasses.replace(q, area=bytes(8 * n + 64), words=bytes(4 * (12 * n + 64)), results=bytes(4 * model.results_need(q)))
+
+
+def random_elements(rng, count, width):
+    return rng.randbytes(count * width)
+
+
+def filled(rng, plan, garbage=random_elements):
+    """The question, every area garbage and as long as the plan says."""
+    need = plan.sizes or needs(plan)
+    size = {area: max(0, need[area] + more) for area, more in plan.slack.items()}
+    takes = {"check": (), "compile": ("area", "words", "out"), "score": ("area", "words"), "bounds": ("area", "words")}
+    lent = takes.get(plan.job, ("area", "words", "results"))
+    width = {"area": 1, "words": 4, "out": 1, "results": 4}
+    areas = {area: garbage(rng, size[area], width[area]) if area in lent else b"" for area in size}
+    bare = types.SimpleNamespace(**{**vars(plan), "text": b""})  # no zeros for a long text, which are replaced at once
+    return dataclasses.replace(question(bare), text=plan.text, **areas)
+
+
+def needs(plan):
+    """What each area needs, in elements."""
+    n = len(plan.text)
+    bare = model.Question(plan.job, plan.text, optimize=plan.optimize, passes=plan.passes)
+    out = len(model.compiled(plan.text)) if plan.job == "compile" and plan.text.isascii() and n <= model.TEXT_MOST else 99
+    return {"area": 8 * n + 64, "words": 12 * n + 64, "out": out, "results": model.results_need(bare)}
+
+
+# ---- faults, each by the refusal that it should bring --------------------------------------------------------------------------------------
+
+
+def few(rng, plan):
+    """Small areas, where a long text is refused before they count."""
+    plan.sizes = {area: rng.randint(0, 200) for area in plan.slack}
+
+
+def long_text(rng, plan):
+    over = model.TEXT_MOST + rng.choice([1, 1, 2, 100]) - len(plan.text)
+    filler = rng.choice([b" ", b"x", b"a b ", b"\n", b"\xff"])
+    plan.text += (filler * over)[:over]
+    few(rng, plan)
+
+
+def odd_byte(rng, plan):
+    at = rng.choice([0, len(plan.text), rng.randint(0, len(plan.text))])
+    plan.text = plan.text[:at] + bytes([rng.choice([128, 128, 129, 255, rng.randint(128, 255)])]) + plan.text[at:]
+
+
+def many_lines(rng, plan):
+    over = model.LINES_MOST - plan.text.count(b"\n") + rng.choice([0, 0, 1, 500])
+    at = rng.randint(0, len(plan.text))
+    plan.text = plan.text[:at] + b"\n" * over + plan.text[at:]
+    few(rng, plan)
+
+
+def bad_book(rng, plan):
+    plan.book = unsound_book(rng, plan.records)
+
+
+def no_book(rng, plan):
+    if model.shelf_or_none(plan.book) is not None:
+        plan.book = b""
+
+
+OUTSIDE = [0x80000001, 0xBF800000, 0x3F800001, 0x40000000, 0x7F800000, 0xFF800000, 0x7FC00000, 0xFFC00001, 0x7F800001, 0xFFFFFFFF]
+
+
+def bad_limit(rng, plan):
+    which = rng.choice([("threshold",), ("shallow",), ("threshold", "shallow")])
+    for limit in which:
+        setattr(plan, limit, rng.choice(OUTSIDE))
+
+
+def no_step(rng, plan):
+    plan.step = 0
+
+
+def bad_view(rng, plan):
+    lines = plan.text.count(b"\n") + 1
+    within = rng.randint(0, lines)
+    over = rng.choice([lines + 1, lines + 1, lines + 2, 2**32, 2**32 + lines, 2**63, WHOLE])
+    plan.start, plan.end = rng.choice([(within, over), (over, within), (over, over), (within + 1, within), (over, 0)])
+
+
+def bad_number(rng, plan):
+    texts = len(model.shelf_or_none(plan.book) or [])
+    plan.number = rng.choice([texts, texts, texts + 1, texts + rng.randint(0, 99), 2**31, 2**32 - 1])
+
+
+def small_area(rng, plan):
+    lent = ["area", "words"] + ["results"] * (plan.job in SCANS and needs(plan)["results"] > 0)
+    for area in rng.sample(lent, rng.choice([1, 1, 1, len(lent)])):
+        plan.slack[area] = -rng.choice([1, 1, 2, 3, 10**9, rng.randint(1, 99)])
+
+
+def short_output(rng, plan):
+    plan.slack["out"] = -rng.choice([1, 1, 2, 10**9, rng.randint(1, 99)])
+
+
+def low_budget(rng, plan):
+    count = model.answered(question(plan)).count if plan.sizes is None else 1
+    plan.budget = rng.choice([0, 1, max(0, count - 1), rng.randint(0, max(0, count - 1))])
+
+
+FAULT = {
+    1: long_text, 2: odd_byte, 3: many_lines, 4: bad_book, 5: no_book, 6: bad_limit, 7: no_step, 8: bad_view, 9: bad_number, 10: small_area,
+    11: short_output, 12: low_budget,
+}  # fmt: skip
+
+
+def faulty(rng, job, refusal, more=0.3, lines=9, largest=True):
+    """A plan that should be refused so, and often has faults that come later. Without `largest` none that makes a text long."""
+    plan = sound_plan(rng, job, lines)
+    for n in model.REFUSALS[job]:
+        if n == refusal or (n > refusal and rng.random() < more and (largest or n not in (1, 3))):
+            FAULT[n](rng, plan)
+    return plan
+
+
+def two_faults(rng, job, first, second, lines=9):
+    """A plan with exactly these two faults, as far as one does not bring another."""
+    plan = sound_plan(rng, job, lines)
+    for n in (first, second):
+        FAULT[n](rng, plan)
+    return plan
+
+
+def budgeted(rng, job, lines=9):
+    """One scan under several budgets: none, one, around N, just short of its count, its count, one more, all."""
+    plan = sound_plan(rng, job, lines)
+    whole, texts = model.answered(question(plan)), len(model.shelf_or_none(plan.book))
+    budgets = {0, 1, texts - 1, texts, texts + 1, whole.count - 1, whole.count, whole.count + 1, rng.randint(0, whole.count), WHOLE}
+    for budget in sorted(b for b in budgets if b >= 0):
+        yield altered(plan, budget=budget, slack={area: slack(rng) for area in plan.slack})
+
+
+def altered(plan, **fields):
+    """A copy of a plan with other fields."""
+    other = copy.deepcopy(plan)
+    for field, value in fields.items():
+        setattr(other, field, value)
+    return other
+
+
+def stream(seed, kind):
+    return random.Random(f"{seed} {kind}")

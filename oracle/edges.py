@@ -1,0 +1,255 @@
+"""Each limit of document 01 with its neighbours, as plans of asking.py: one below, the limit itself, one above, and the refusal that is due.
+
+`small` has those that the definitions can be computed on; `large` those of long texts, many lines and a large book.
+"""
+
+import collections
+import itertools
+import random
+import types
+
+import model
+from asking import MARKED_BOOK, MARKED_TEXT, WHOLE, record, table_body
+
+Edge = collections.namedtuple("Edge", "what plan refusal")
+NEAR = (-1, 0, 1)
+WITH_TEXT = ("compile", "score", "bounds", "eliminate", "down")
+WITH_BOOK = WITH_TEXT[1:]
+SCANS = WITH_TEXT[3:]
+NINETY, ALMOST = model.bits_of(0.9), model.bits_of(0.99)
+
+
+def marked(job, slack=None, **fields):
+    """The marked text 2 and the marked book: the whole text in view, areas as long as needed."""
+    plan = types.SimpleNamespace(job=job, text=MARKED_TEXT, book=MARKED_BOOK, start=0, end=None, number=0, threshold=NINETY, shallow=ALMOST)
+    plan.optimize, plan.passes, plan.step, plan.budget, plan.sizes = True, 10, 1, WHOLE, None
+    plan.slack = {"area": 0, "words": 0, "out": 0, "results": 0, **(slack or {})}
+    vars(plan).update(fields)
+    if plan.end is None:
+        plan.end = plan.text.count(b"\n") + 1
+    return plan
+
+
+def due(bad, refusal):
+    return refusal if bad else 0
+
+
+# ---- lent areas --------------------------------------------------------------------------------------------------------------------------
+
+
+def areas():
+    for job, text, by in itertools.product(WITH_TEXT, (MARKED_TEXT, b"", b"x", b"a b\n" * 5), NEAR):
+        yield Edge("8n+64", marked(job, {"area": by}, text=text), due(by < 0, 10))
+        yield Edge("12n+64", marked(job, {"words": by}, text=text), due(by < 0, 10))
+        yield Edge("8n+64", marked(job, {"area": by, "words": 9}, text=text), due(by < 0, 10))
+        yield Edge("12n+64", marked(job, {"area": 9, "words": by}, text=text), due(by < 0, 10))
+
+
+def results():
+    for passes, by in itertools.product((0, 1, 2, 10, 65535), NEAR):
+        yield Edge("4P", marked("eliminate", {"results": by}, passes=passes), due(by < 0 and passes > 0, 10))
+        yield Edge("4P", marked("eliminate", {"results": by}, passes=passes, optimize=False), 0)
+        yield Edge("4P", marked("eliminate", {"results": by}, passes=passes, budget=9), due(passes > 0, 10 if by < 0 else 12))
+    for text, step, by in itertools.product((MARKED_TEXT, b"", b"\n", b"my first license\n" * 6), (1, 2, WHOLE), NEAR):
+        yield Edge("4L", marked("down", {"results": by}, text=text, step=step), due(by < 0, 10))
+
+
+def output():
+    for text in (MARKED_TEXT, b"", b"one", b"My First License", b"a b c d e f g\nh i", b"x y " * 40):
+        for by in NEAR:
+            yield Edge("the output's length", marked("compile", {"out": by}, text=text), due(by < 0, 11))
+
+
+# ---- the book ----------------------------------------------------------------------------------------------------------------------------
+
+
+def each(what, book, bad, **fields):
+    """A book asked about by the check and by each job that takes one."""
+    yield Edge(what, marked("check", book=book), due(bad, 4))
+    for job in WITH_BOOK:
+        yield Edge(what, marked(job, book=book, **fields), due(bad, 4))
+
+
+def names():
+    for size in (0, 1, 63, 64, 65):
+        bad, fields = not 1 <= size <= 64, {"text": b"My First License", "optimize": False}
+        yield from each("a name of 64", record(1, b"n" * size) + MARKED_BOOK[7:], bad, **fields)
+        yield from each("an alias of 64", MARKED_BOOK + record(5, b"n" * size), bad, **fields)
+
+
+def totals():
+    for by, parts in itertools.product(NEAR, (1, 2, 3)):
+        total = model.TOTAL_MOST + by
+        counts = [total - parts + 1] + [1] * (parts - 1)
+        entries = [(count, b"a %d" % i) for i, count in enumerate(counts)]
+        book = record(1, b"A") + record(2, table_body(total, parts, entries))
+        yield from each("a total of 8,388,608", book, by > 0, text=b"a 0 a 1\nx", threshold=0)
+
+
+EMPTY = table_body(0, 0, [])
+KINDS = {  # kinds in order, and whether a book may have them
+    (): True, (1,): False, (2,): False, (1, 2): True, (1, 3): False, (1, 2, 2): False, (1, 1, 2): False, (1, 2, 3, 3, 4, 4, 5, 5): True,
+    (1, 2, 4, 3): False, (1, 2, 5, 3): False, (1, 2, 5, 4): False, (1, 2, 5): True, (1, 2, 3, 2): False, (5,): False, (1, 5, 2): False,
+    (1, 2, 0): False, (1, 2, 6): False, (1, 2, 258): False, (1, 258): False, (257, 2): False, (1, 2, 65535): False, (1, 2, 1): False,
+}  # fmt: skip
+TWO_NAMES = {
+    (b"A", b"B"): True, (b"A", b"A"): False, (b"B", b"A"): False, (b"A", b"A-1"): True, (b"A-1", b"A"): False, (b"Z", b"a"): True, (b"a", b"Z"): False,
+}  # fmt: skip
+NAMES = {b"!": True, b"~": True, b" ": False, b"\x7f": False, b"a b": False, b"a\n": False, b"\0": False, b"\x80": False}
+BIGRAMS = {
+    b"a b": True, b"_ 9": True, b"z0_ 0z": True, b"a": False, b"a ": False, b" a": False, b"": False, b" ": False, b"a  b": False, b"a b c": False,
+    b"A b": False, b"a B": False, b"a\tb": False, b"a-b c": False, b"a b\n": False, b"` b": False, b"{ b": False, b"/ b": False, b": b": False,
+}  # fmt: skip
+TWO_ENTRIES = {
+    (b"a b", b"a c"): True, (b"a b", b"a b"): False, (b"a c", b"a b"): False, (b"a b", b"a ba"): True, (b"a ba", b"a b"): False, (b"a b", b"a_ b"): True,
+}  # fmt: skip
+
+
+def table_bodies():
+    """Table bodies, and whether they are sound."""
+    one = table_body(1, 1, [(1, b"a b")])
+    yield from ((table_body(1, 1, [(1, bigram)]), good) for bigram, good in BIGRAMS.items())
+    yield from ((table_body(2, 2, [(1, first), (1, second)]), good) for (first, second), good in TWO_ENTRIES.items())
+    yield from ((table_body(total, distinct, [(2, b"a b")]), (total, distinct) == (2, 1)) for total in (0, 1, 2, 3) for distinct in (0, 1, 2))
+    yield from ((one[:size], size == len(one)) for size in range(len(one) + 1))
+    yield from ((one + more, False) for more in (b"\0", bytes(8), table_body(0, 0, [])))
+    yield table_body(0, 1, [(0, b"a b")]), False
+    yield table_body(1, 2, [(2**32 - 1, b"a b"), (2, b"a c")]), False  # the sum is 1 only modulo 2^32
+    for length in (2**32 - 8, 2**32 - 1, 4, 2):
+        yield one[:12] + length.to_bytes(4, "little") + one[16:], False
+
+
+def forms():
+    """Books, and whether they are sound: each rule of the book's form, kept and broken."""
+    body = {1: b"A", 5: b"x"}
+    yield from ((b"".join(record(kind, body.get(kind, EMPTY)) for kind in kinds), good) for kinds, good in KINDS.items())
+    yield from ((b"".join(record(1, name) + record(2, EMPTY) for name in names), good) for names, good in TWO_NAMES.items())
+    yield from ((record(1, name) + record(2, EMPTY), good) for name, good in NAMES.items())
+    yield from ((record(1, b"A") + record(2, EMPTY) + record(5, name), good) for name, good in NAMES.items())
+    yield from ((record(1, b"A") + record(2, table), good) for table, good in table_bodies())
+    for length in (2**32 - 6, 2**32 - 1, 2**31, 1):
+        yield MARKED_BOOK + length.to_bytes(4, "little") + b"\x03\0", False
+    yield from ((MARKED_BOOK[:size], size in (0, len(MARKED_BOOK))) for size in range(len(MARKED_BOOK) + 1))
+
+
+def book_forms():
+    for book, good in forms():
+        yield Edge("the form of a book", marked("check", book=book), due(not good, 4))
+        if book:
+            yield Edge("the form of a book", marked("score", book=book), due(not good, 4))
+
+
+def many_texts(texts):
+    return record(1, b"A") + record(2, MARKED_BOOK[13:]) + record(3, bytes(8)) * (texts - 1)
+
+
+def stored_texts():
+    for by in NEAR:
+        texts = model.STORED_MOST + by
+        book, bad = many_texts(texts), by > 0
+        yield Edge("1,024 texts", marked("check", book=book), due(bad, 4))
+        for near in NEAR:
+            yield Edge("1,024 texts", marked("score", book=book, number=texts + near), 4 if bad else due(near >= 0, 9))
+            yield Edge("1,024 texts", marked("bounds", book=book, number=texts + near), 4 if bad else due(near >= 0, 9))
+            plan = marked("eliminate", book=book, optimize=False, budget=texts + near)
+            yield Edge("1,024 texts", plan, 4 if bad else due(near < 0, 12))
+            yield Edge("1,024 texts", marked("down", book=book, step=WHOLE, budget=texts + near), 4 if bad else due(near < 0, 12))
+
+
+# ---- texts, settings -----------------------------------------------------------------------------------------------------------------------
+
+
+def bytes_of_texts():
+    for job, byte, at in itertools.product(WITH_TEXT, (126, 127, 128, 129, 255), (0, 9, len(MARKED_TEXT))):
+        text = MARKED_TEXT[:at] + bytes([byte]) + MARKED_TEXT[at:]
+        yield Edge("a byte of 128", marked(job, text=text), due(byte > 127, 2))
+
+
+def views():
+    for job, (start, end) in itertools.product(("score", "bounds"), itertools.product((0, 1, 3, 4, 5, WHOLE), repeat=2)):
+        yield Edge("a view up to L", marked(job, start=start, end=end), due(not start <= end <= 4, 8))
+    for job, texts, by in itertools.product(("score", "bounds"), (1, 2, 5), NEAR):
+        yield Edge("the stored number N", marked(job, book=many_texts(texts), number=texts + by), due(by >= 0, 9))
+
+
+LIMITS = {0: 0, 0x80000000: 0, 1: 0, 0x80000001: 6, 0x3F7FFFFF: 0, 0x3F800000: 0, 0x3F800001: 6, 0x7F800000: 6, 0x7F800001: 6, 0x7FC00000: 6}
+
+
+def settings():
+    for job, (limit, refusal) in itertools.product(SCANS, LIMITS.items()):
+        yield Edge("a limit from 0.0 to 1.0", marked(job, threshold=limit), refusal)
+        yield Edge("a limit from 0.0 to 1.0", marked(job, shallow=limit), refusal)
+    for step in (0, 1, 2, 3, 4, 5, WHOLE - 1, WHOLE):
+        yield Edge("a step of 1", marked("down", step=step), due(step == 0, 7))
+
+
+def budgets():
+    """The counts are reckoned by hand: top-down at step 1 scores 4 views, then 6 for bounds, then 2 views from line 3 on."""
+    for budget in (*range(22), WHOLE - 1, WHOLE):
+        yield Edge("the count as budget", marked("eliminate", budget=budget), due(budget < 20, 12))
+    for step, count in ((1, 12), (2, 10), (3, 3)):
+        for budget in (0, 1, *range(count - 3, count + 3), WHOLE):
+            yield Edge("the count as budget", marked("down", step=step, budget=budget), due(budget < count, 12))
+
+
+def small():
+    for make in (areas, results, output, names, totals, book_forms, stored_texts, bytes_of_texts, views, settings, budgets):
+        yield from make()
+
+
+# ---- large ---------------------------------------------------------------------------------------------------------------------------------
+
+
+def wordy(size, break_each):
+    """So many bytes of words, some of them from the marked licence, with a newline after each so many words."""
+    rng, out, length = random.Random(size), [], 0
+    words = [b"my", b"first", b"license", b"a", b"the", b"2", b"x-y", b"(c)", b"Zeta"]
+    while length < size:
+        out.append(rng.choice(words) + (b"\n" if len(out) % break_each == 1 else b" "))
+        length += len(out[-1])
+    return b"".join(out)[:size]
+
+
+def long_texts():
+    for size in (model.TEXT_MOST + by for by in NEAR):
+        for job, text in itertools.product(WITH_TEXT, (b" " * size, b"x" * size, wordy(size, 70000))):
+            plan = marked(job, text=text, passes=1, step=WHOLE)
+            yield Edge("1,048,576 bytes", plan, due(size > model.TEXT_MOST, 1))
+        odd = wordy(size, 70000)[:-1] + b"\x80"
+        for job in WITH_TEXT:
+            yield Edge("1,048,576 bytes", marked(job, text=odd), 1 if size > model.TEXT_MOST else 2)
+
+
+def many_lines():
+    for lines in (model.LINES_MOST + by for by in NEAR):
+        bad = lines > model.LINES_MOST
+        for text in (b"\n" * (lines - 1), b"a\n" * (lines - 2) + b"my first license\n"):
+            last = {"start": lines - 9, "end": lines}
+            yield Edge("65,536 lines", marked("compile", text=text), due(bad, 3))
+            for job in ("score", "bounds"):
+                yield Edge("65,536 lines", marked(job, text=text, **last), due(bad, 3))
+                yield Edge("65,536 lines", marked(job, text=text, start=lines - 9, end=lines + 1), due(True, 3 if bad else 8))
+            yield Edge("65,536 lines", marked("eliminate", text=text, passes=1), due(bad, 3))
+            for by in NEAR:
+                yield Edge("65,536 lines", marked("down", {"results": by}, text=text, step=WHOLE), 3 if bad else due(by < 0, 10))
+
+
+def large_book(size):
+    """A sound book of so many bytes, but for its size: one text of entries of some thousand bytes, the last as long as it takes."""
+    count = (size - 21) // 2000
+    words = [b"a" * 1000 + b"%06d" % i + b" " for i in range(count)]
+    sizes = [1992] * (count - 1) + [size - 21 - 2000 * (count - 1) - 8]
+    entries = [(1, word + b"z" * (length - len(word))) for word, length in zip(words, sizes)]
+    book = record(1, b"A") + record(2, table_body(count, count, entries))
+    assert len(book) == size
+    return book
+
+
+def large_books():
+    for by in NEAR:
+        yield from each("a book of 16,777,216 bytes", large_book(model.BOOK_MOST + by), by > 0)
+
+
+def large():
+    for make in (long_texts, many_lines, large_books):
+        yield from make()

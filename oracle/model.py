@@ -1,0 +1,450 @@
+"""A second reading of document 01, in plain Python: what each of the five jobs answers, and what each lent area holds at exit.
+
+Written from the document alone, and by other means than the definitions and the code: regular expressions for the passes, dictionaries for the
+tables, exact fractions for the scores, generators for the scans. Slow, and no part of the library. hold.py holds it against the definitions,
+rows.py holds the archive against it.
+"""
+
+import collections
+import dataclasses
+import functools
+import math
+import os
+import re
+import struct
+from fractions import Fraction
+
+TEXT_MOST, LINES_MOST = 1048576, 65536
+BOOK_MOST, STORED_MOST, TOTAL_MOST, NAME_MOST = 16777216, 1024, 8388608, 64
+SPACES = b"\t\n\v\f\r "
+
+# ---- binary32 ----------------------------------------------------------------------------------------------------------------------------
+
+
+def bits_of(x):
+    return struct.unpack("<I", struct.pack("<f", x))[0]
+
+
+def of_bits(bits):
+    return struct.unpack("<f", struct.pack("<I", bits))[0]
+
+
+@functools.cache
+def rounded(x):
+    """A fraction from 0 up, rounded to the nearest binary32, ties to even; as a Python float, which holds it exactly."""
+    if x == 0:
+        return 0.0
+    shift = 0
+    while x * Fraction(2) ** shift < 2**23:
+        shift += 1
+    while x * Fraction(2) ** shift >= 2**24:
+        shift -= 1
+    return math.ldexp(round(x * Fraction(2) ** shift), -shift)  # round() of a fraction takes ties to even
+
+
+# ---- line passes -------------------------------------------------------------------------------------------------------------------------
+
+RUNS = [(rb"[\"']+", b"'"), (rb"-+", b"-"), (rb"[(\[{]+", b"("), (rb"[)\]}]+", b")"), (rb"_+", b"_")]
+
+
+def line(piece):
+    piece = re.sub(rb"[\x00-\x08\x0e-\x1f\x7f$+<=>^|~`]", b"", piece)
+    piece = re.sub(rb"https?://[^\t-\r ]+", b"http://blackboxed/url", piece)
+    piece = re.sub(rb"[ \t\\/|4]+", b" ", piece)
+    for run, one in RUNS:
+        piece = re.sub(run, one, piece)
+    return piece.strip(SPACES)
+
+
+def lines_of(text):
+    return [line(piece) for piece in text.split(b"\n")]
+
+
+# ---- aggressive passes -------------------------------------------------------------------------------------------------------------------
+
+
+def share(lines):
+    """0.8f32 times the line count, truncated: the product in binary32, not the document's 4L/5."""
+    return int(rounded(Fraction(of_bits(bits_of(0.8))) * lines))
+
+
+def without_prefix(lines):
+    seen = {}  # in the order of first sight
+    for above, below in zip(lines, lines[1:]):
+        prefix = os.path.commonprefix([above, below]).strip(SPACES)
+        if len(prefix) > 3:
+            seen[prefix] = seen.get(prefix, 1) + 1
+    if not seen:
+        return lines
+    winner = max(seen, key=seen.get)  # of equals the first
+    if sum(count for prefix, count in seen.items() if prefix.startswith(winner)) < share(len(lines)):
+        return lines
+    return [(one[len(winner) :] if one.startswith(winner) else one).strip(SPACES) for one in lines]
+
+
+TITLE = re.compile(rb"\A[^\n]*license(?: version [^\t-\r ]+)?(?: copyright[^\n]*)?\n\n")
+COPYRIGHT = re.compile(
+    rb"(?:\A\n*|\n\n) *copyright[^\n]*\n\n"  # A
+    rb"|\A[^\n]*copyright[^\n]*"  # B
+    rb"|^copyright(?:[\t-\r ]+(?:c|[0-9]+))+[^\n]*",  # C
+    re.MULTILINE,
+)
+
+
+def processed(lines):
+    text = b"\n".join(without_prefix(lines))
+    text = re.sub(rb"\n{3,}", b"\n\n", re.sub(rb"[\n-\r]", b"\n", text))
+    text = re.sub(rb"[^A-Za-z0-9_\t-\r ]", b"", text).lower()
+    text = TITLE.sub(b"", text)
+    text = COPYRIGHT.sub(b"\n\n", text)
+    return re.sub(rb"[\t-\r ]+", b" ", text).strip(SPACES)
+
+
+# ---- tables and scores -------------------------------------------------------------------------------------------------------------------
+
+
+def table(lines):
+    words = processed(lines).split(b" ")
+    return collections.Counter(a + b" " + b for a, b in zip(words, words[1:]))
+
+
+def score(one, other):
+    if not one or not other:
+        return 0.0
+    shared = sum(min(count, other[bigram]) for bigram, count in one.items() if bigram in other)
+    return rounded(Fraction(2 * shared, sum(one.values()) + sum(other.values())))
+
+
+def body_of(counts):
+    """A table body."""
+    out = struct.pack("<II", sum(counts.values()), len(counts))
+    return out + b"".join(struct.pack("<II", counts[bigram], len(bigram)) + bigram for bigram in sorted(counts))
+
+
+def compiled(text):
+    return body_of(table(lines_of(text)))
+
+
+class Note:
+    """The lines of a text; the table of each view is made once."""
+
+    def __init__(self, lines):
+        self.lines, self.tables = lines, {}
+
+    def table(self, start, end):
+        if (start, end) not in self.tables:
+            self.tables[start, end] = table(self.lines[start:end])
+        return self.tables[start, end]
+
+    def blanked(self, first, after):
+        return Note([b"" if first <= i < after else one for i, one in enumerate(self.lines)])
+
+
+# ---- the book ----------------------------------------------------------------------------------------------------------------------------
+
+Stored = collections.namedtuple("Stored", "number name kind table")
+
+
+class Unsound(Exception):
+    """A book breaks a rule."""
+
+
+def need(good):
+    if not good:
+        raise Unsound
+
+
+def taken(book, place, size):
+    """So many bytes from a place on, and the place after them."""
+    need(place + size <= len(book))
+    return book[place : place + size], place + size
+
+
+def records_in(book):
+    place, out = 0, []
+    while place < len(book):
+        head, place = taken(book, place, 6)
+        length, kind = struct.unpack("<IH", head)
+        body, place = taken(book, place, length)
+        out.append((kind, body))
+    return out
+
+
+def table_in(body):
+    head, place = taken(body, 0, 8)
+    total, distinct = struct.unpack("<II", head)
+    counts, last = {}, b""
+    while place < len(body):
+        head, place = taken(body, place, 8)
+        count, length = struct.unpack("<II", head)
+        bigram, place = taken(body, place, length)
+        need(count >= 1 and bigram > last and re.fullmatch(rb"[a-z0-9_]+ [a-z0-9_]+", bigram))
+        counts[bigram] = count
+        last = bigram
+    need(distinct == len(counts) and total == sum(counts.values()) and total <= TOTAL_MOST)
+    return counts
+
+
+def shelf_of(book):
+    """The stored texts of a sound book."""
+    need(len(book) <= BOOK_MOST)
+    records = records_in(book)
+    need(all(1 <= kind <= 5 for kind, _ in records))
+    need(re.fullmatch("(123*4*5*)*", "".join(str(kind) for kind, _ in records)))
+    names, shelf = [], []
+    for kind, body in records:
+        if kind in (1, 5):
+            need(re.fullmatch(rb"[!-~]{1,64}", body))
+        if kind == 1:
+            names.append(body)
+        if kind in (2, 3, 4):
+            shelf.append(Stored(len(shelf), names[-1], kind, table_in(body)))
+    need(all(a < b for a, b in zip(names, names[1:])))
+    need(len(shelf) <= STORED_MOST)
+    return shelf
+
+
+@functools.lru_cache(maxsize=64)
+def shelf_or_none(book):
+    try:
+        return shelf_of(book)
+    except Unsound:
+        return None
+
+
+# ---- search and scans: generators of events, a scoring before it is made; what they find is what they return ---------------------------------
+
+SCORING = "scoring"
+Overall = collections.namedtuple("Overall", "text score")
+Found = collections.namedtuple("Found", "number first after score")
+
+
+def scored(note, start, end, text):
+    yield SCORING
+    return score(note.table(start, end), text.table)
+
+
+def search(score_at, left, right):
+    while right - left > 3:
+        low, high = (2 * left + right) // 3, (left + 2 * right) // 3
+        at_low = yield from score_at(low)
+        at_high = yield from score_at(high)
+        if at_low > at_high:
+            right = high - 1
+        else:
+            left = low + 1
+    best = left, -1.0
+    for i in range(left, right + 1):
+        here = yield from score_at(i)
+        if here >= best[1]:
+            best = i, here
+    return best
+
+
+def bounds(note, start, end, text):
+    after, _ = yield from search(lambda i: scored(note, start, i, text), start, end)
+    first, value = yield from search(lambda i: scored(note, i, after, text), start, after)
+    return first, after, value
+
+
+def best(note, start, end, shelf):
+    found = None
+    for text in shelf:
+        value = yield from scored(note, start, end, text)
+        if found is None or value > found[1]:
+            found = text, value
+    return found
+
+
+def elimination(note, shelf, q):
+    threshold, shallow, whole = of_bits(q.threshold), of_bits(q.shallow), len(note.lines)
+    text, value = yield from best(note, 0, whole, shelf)
+    yield Overall(text, value)
+    if (value > threshold and value > shallow) or not q.optimize:
+        return
+    for _ in range(q.passes):
+        first, after, value = yield from bounds(note, 0, whole, text)
+        if value < threshold:
+            return
+        yield Found(text.number, first, after, value)
+        note = note.blanked(first, after)
+        text, _ = yield from best(note, 0, whole, shelf)
+
+
+def pair(note, shelf, threshold, step, line):
+    """From a line on: the latest view that reaches the threshold before the first below it, with its best text."""
+    latest, most = None, len(note.lines)
+    for start in range(line, most, step):
+        for end in range(start, most + 1, step):
+            text, value = yield from best(note, start, end, shelf)
+            if value >= threshold:
+                latest = start, end, text
+            elif latest:
+                return latest
+    return latest
+
+
+def top_down(note, shelf, q):
+    threshold, line = of_bits(q.threshold), 0
+    while line < len(note.lines):
+        latest = yield from pair(note, shelf, threshold, q.step, line)
+        if not latest:
+            return
+        first, after, value = yield from bounds(note, *latest)
+        if value < threshold:
+            return
+        yield Found(latest[2].number, first, after, value)
+        line = after + 1
+
+
+# ---- questions and answers ---------------------------------------------------------------------------------------------------------------
+
+
+@dataclasses.dataclass(frozen=True)
+class Question:
+    """A call of a job: `check`, `compile`, `score`, `bounds`, `eliminate` or `down`. What a job does not take it does not look at. Areas are
+    given by what they hold before; words and results as the bytes of their numbers, four each."""
+
+    job: str
+    text: bytes = b""
+    book: bytes = b""
+    area: bytes = b""
+    words: bytes = b""
+    out: bytes = b""
+    results: bytes = b""
+    start: int = 0
+    end: int = 0
+    number: int = 0
+    threshold: int = 0  # bits
+    shallow: int = 0  # bits
+    optimize: bool = False
+    passes: int = 0
+    step: int = 0
+    budget: int = 0
+
+
+@dataclasses.dataclass
+class Answer:
+    """Every field of every job's answer, zero where the job has none or is refused; and the lent areas at exit."""
+
+    refusal: int = 0
+    texts: int = 0
+    len: int = 0
+    first: int = 0
+    after: int = 0
+    score: int = 0  # bits
+    count: int = 0
+    records: int = 0
+    kind: int = 0
+    name_len: int = 0
+    name: bytes = bytes(NAME_MOST)
+    area: bytes = b""
+    words: bytes = b""
+    out: bytes = b""
+    results: bytes = b""
+
+
+def line_count(q):
+    return q.text.count(b"\n") + 1
+
+
+def results_need(q):
+    if q.job == "down":
+        return 4 * line_count(q)
+    return 4 * q.passes if q.job == "eliminate" and q.optimize else 0
+
+
+def in_unit(bits):
+    return 0.0 <= of_bits(bits) <= 1.0
+
+
+def small(q):
+    n = len(q.text)
+    return len(q.area) < 8 * n + 64 or len(q.words) < 4 * (12 * n + 64) or len(q.results) < 4 * results_need(q)
+
+
+APPLIES = {
+    1: lambda q: len(q.text) > TEXT_MOST,
+    2: lambda q: not q.text.isascii(),
+    3: lambda q: line_count(q) > LINES_MOST,
+    4: lambda q: shelf_or_none(q.book) is None,
+    5: lambda q: not shelf_or_none(q.book),
+    6: lambda q: not in_unit(q.threshold) or not in_unit(q.shallow),
+    7: lambda q: q.step == 0,
+    8: lambda q: not 0 <= q.start <= q.end <= line_count(q),
+    9: lambda q: q.number >= len(shelf_or_none(q.book)),
+    10: small,
+}
+REFUSALS = {
+    "check": [4],
+    "compile": [1, 2, 3, 10, 11],
+    "score": [1, 2, 3, 4, 5, 8, 9, 10],
+    "bounds": [1, 2, 3, 4, 5, 8, 9, 10],
+    "eliminate": [1, 2, 3, 4, 5, 6, 10, 12],
+    "down": [1, 2, 3, 4, 5, 6, 7, 10, 12],
+}
+
+
+def written(new, old):
+    return new + old[len(new) :]
+
+
+def compile_job(q, a):
+    body = compiled(q.text)
+    if len(q.out) < len(body):
+        a.refusal = 11
+    else:
+        a.len, a.out = len(body), written(body, q.out)
+
+
+def score_job(q, a):
+    note, text = Note(lines_of(q.text)), shelf_or_none(q.book)[q.number]
+    a.score = bits_of(score(note.table(q.start, q.end), text.table))
+
+
+def bounds_job(q, a):
+    events = bounds(Note(lines_of(q.text)), q.start, q.end, shelf_or_none(q.book)[q.number])
+    while True:
+        try:
+            next(events)
+            a.count += 1
+        except StopIteration as stop:
+            a.first, a.after, value = stop.value
+            a.score = bits_of(value)
+            return
+
+
+def scan_job(q, a):
+    scan = elimination if q.job == "eliminate" else top_down
+    numbers = b""
+    for event in scan(Note(lines_of(q.text)), shelf_or_none(q.book), q):
+        if event is SCORING:
+            if a.count == q.budget:
+                a.refusal = 12
+                break
+            a.count += 1
+        elif isinstance(event, Overall):
+            a.score = bits_of(event.score)
+            if event.score > of_bits(q.threshold):
+                a.kind, a.name_len, a.name = event.text.kind, len(event.text.name), event.text.name.ljust(NAME_MOST, b"\0")
+        else:
+            a.records += 1
+            numbers += struct.pack("<IIII", event.number, event.first, event.after, bits_of(event.score))
+    a.results = written(numbers, q.results)
+
+
+WORK = {"compile": compile_job, "score": score_job, "bounds": bounds_job, "eliminate": scan_job, "down": scan_job}
+
+
+def answered(q):
+    """The answer, and every lent area at exit."""
+    a = Answer(area=q.area, words=q.words, out=q.out, results=q.results)
+    a.refusal = next((n for n in REFUSALS[q.job] if n <= 10 and APPLIES[n](q)), 0)
+    if a.refusal:
+        return a
+    if q.job == "check":
+        a.texts = len(shelf_or_none(q.book))
+        return a
+    WORK[q.job](q, a)
+    a.area, a.words = bytes(len(q.area)), bytes(len(q.words))
+    return a
