@@ -1,6 +1,7 @@
 #!/bin/sh
 # shellcheck disable=SC1091,SC2086,SC2154
-# Passes all tests of the host: builds what is missing, runs host/test_face.c compiled as C and as C++, and host/test_line.sh over the command line.
+# Passes all tests of the host: builds what is missing, runs host/test_face.c compiled as C and as C++, oracle/rows.py --quick, and
+# host/test_line.sh over the command line.
 # The last line is 'N passed, M failed', the sum; the exit status is 0 only where M is 0.
 set -eu
 . "$(dirname "$0")/build.sh"
@@ -38,6 +39,11 @@ part() {
 part 'the header from C' $RUN target/test_face_c
 part 'the header from C++' $RUN target/test_face_cxx
 export RUN
+if command -v python3 >/dev/null; then
+    part 'answers and areas against a second reading' python3 oracle/rows.py --quick
+else
+    echo 'not run here: answers and areas against a second reading (no python3)'
+fi
 part 'the command line' sh host/test_line.sh target/chultarvi target/chultarvi-faults books/debian.book examples/note.txt
 echo "$passed passed, $failed failed"
 [ "$failed" = 0 ]

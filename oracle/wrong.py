@@ -1,0 +1,127 @@
+#!/usr/bin/env python3
+"""Tries whether the rows of rows.py can fail: each wrong reading of document 01 below must answer some row otherwise than model.py does.
+
+    oracle/wrong.py [--seed N]
+
+A wrong reading is model.py with one place changed. It is asked the questions of `rows.py --quick`; the archive is not needed, since there it and
+the model agree. Prints by how many rows each is found. Exit status: 0 all are found, 1 some are not.
+"""
+
+import argparse
+import os
+import sys
+import types
+
+import compare
+import model
+import rows
+
+# what it is, what stands in model.py, what stands there instead
+WRONG = [
+    ("areas of 8n+63", "8 * n + 64", "8 * n + 63"),
+    ("areas of 8n+65", "8 * n + 64", "8 * n + 65"),
+    ("areas of 12n+63", "12 * n + 64", "12 * n + 63"),
+    ("areas of 12n+65", "12 * n + 64", "12 * n + 65"),
+    ("results of 3P", "4 * q.passes if", "3 * q.passes if"),
+    ("results of 4P without optimize", 'q.job == "eliminate" and q.optimize', 'q.job == "eliminate"'),
+    ("results of 4L-4", "4 * line_count(q)", "4 * line_count(q) - 4"),
+    ("a text of 1,048,577 bytes", "len(q.text) > TEXT_MOST", "len(q.text) > TEXT_MOST + 1"),
+    ("a byte of 128", "not q.text.isascii()", "max(q.text, default=0) > 128"),
+    ("65,537 lines", "line_count(q) > LINES_MOST", "line_count(q) > LINES_MOST + 1"),
+    ("an empty book unsound", "place, out = 0, []", "place, out = 0 if book else need(False), []"),
+    ("a limit above 0.0 only", "0.0 <= of_bits", "0.0 < of_bits"),
+    ("a limit below 1.0 only", "of_bits(bits) <= 1.0", "of_bits(bits) < 1.0"),
+    ("the shallow limit not tested", "not in_unit(q.threshold) or not in_unit(q.shallow)", "not in_unit(q.threshold)"),
+    ("a view that ends before L", "q.end <= line_count(q)", "q.end < line_count(q)"),
+    ("an empty view refused", "q.start <= q.end <=", "q.start < q.end <="),
+    ("stored number N", "q.number >= len", "q.number > len"),
+    ("8 before 4", '"score": [1, 2, 3, 4, 5, 8, 9, 10]', '"score": [1, 2, 3, 8, 4, 5, 9, 10]'),
+    ("10 before 8", '"bounds": [1, 2, 3, 4, 5, 8, 9, 10]', '"bounds": [1, 2, 3, 4, 5, 10, 8, 9]'),
+    ("9 before 8", '"score": [1, 2, 3, 4, 5, 8, 9, 10]', '"score": [1, 2, 3, 4, 5, 9, 8, 10]'),
+    ("6 before 4", '"eliminate": [1, 2, 3, 4, 5, 6, 10, 12]', '"eliminate": [1, 2, 3, 6, 4, 5, 10, 12]'),
+    ("7 before 6", '"down": [1, 2, 3, 4, 5, 6, 7, 10, 12]', '"down": [1, 2, 3, 4, 5, 7, 6, 10, 12]'),
+    ("2 before 1", '"compile": [1, 2, 3, 10, 11]', '"compile": [2, 1, 3, 10, 11]'),
+    ("3 before 2", '"compile": [1, 2, 3, 10, 11]', '"compile": [1, 3, 2, 10, 11]'),
+    ("10 before 2", '"compile": [1, 2, 3, 10, 11]', '"compile": [1, 10, 2, 3, 11]'),
+    ("an output one too short", "len(q.out) < len(body)", "len(q.out) < len(body) - 1"),
+    ("11 at the body's length", "len(q.out) < len(body)", "len(q.out) <= len(body)"),
+    ("11 writes what fits", "        a.refusal = 11\n", "        a.refusal, a.out = 11, body[: len(q.out)]\n"),
+    ("area cleared only where needed", "bytes(len(q.area)), bytes", "written(bytes(8 * len(q.text) + 64), q.area), bytes"),
+    ("words cleared only where needed", "bytes(len(q.words))", "written(bytes(4 * (12 * len(q.text) + 64)), q.words)"),
+    ("areas cleared after a refusal", "    if a.refusal:\n", "    if a.refusal:\n        a.area = bytes(len(q.area))\n"),
+    ("results cleared behind the records", "written(numbers, q.results)", "numbers.ljust(len(q.results), b'\\0')"),
+    ("one scoring more than paid", "a.count == q.budget", "a.count > q.budget"),
+    ("12 where the count is the budget", "    a.results = written", "    a.refusal = 12 * (a.count == q.budget)\n    a.results = written"),
+    ("no records with 12", "    a.results = written(numbers", "    numbers = b'' if a.refusal == 12 else numbers\n    a.results = written(numbers"),
+    ("no overall score with 12", "                a.refusal = 12\n", "                a.refusal, a.score = 12, 0\n"),
+    ("named at the threshold", "event.score > of_bits", "event.score >= of_bits"),
+    ("stopped at the shallow limit", "value > shallow", "value >= shallow"),
+    ("stopped without a name", "(value > threshold and value > shallow)", "value > shallow"),
+    ("the first of equals in the search", "here >= best[1]", "here > best[1]"),
+    ("left where both are equal", "at_low > at_high", "at_low >= at_high"),
+    ("a search of width 2", "right - left > 3", "right - left > 2"),
+    ("high-1 taken as high", "right = high - 1", "right = high"),
+    ("the later of equal texts", "value > found[1]", "value >= found[1]"),
+    ("no best after the last pass", "        text, _ = yield from best", "        if _ == q.passes - 1:\n            return\n        text, _ = yield from best"),
+    ("the first line of a range not blanked", "first <= i < after", "first < i < after"),
+    ("resumed at the range end", "line = after + 1", "line = max(after, line + 1)"),
+    ("above the threshold in top-down", "value >= threshold", "value > threshold"),
+    ("ends below L", "range(start, most + 1, step)", "range(start, most, step)"),
+    ("starts up to L", "range(line, most, step)", "range(line, most + 1, step)"),
+    ("a name of 65", "{1,64}", "{1,65}"),
+    ("a name of 63", "{1,64}", "{1,63}"),
+    ("an empty name", "{1,64}", "{0,64}"),
+    ("a total of 8,388,607", "total <= TOTAL_MOST", "total < TOTAL_MOST"),
+    ("totals modulo 2^32", "total == sum(counts.values())", "total == sum(counts.values()) % 2**32"),
+    ("entries that do not rise", "bigram > last and", ""),
+    ("1,023 texts", "len(shelf) <= STORED_MOST", "len(shelf) < STORED_MOST"),
+    ("1,025 texts", "len(shelf) <= STORED_MOST", "len(shelf) <= STORED_MOST + 1"),
+    ("names that do not rise", "all(a < b for", "all(a <= b for"),
+    ("two originals", "(123*4*5*)*", "(12+3*4*5*)*"),
+    ("one alias", "(123*4*5*)*", "(123*4*5?)*"),
+    ("a record that breaks off", "need(place + size <= len(book))", "need(place + min(size, 6) <= len(book))"),
+    ("kinds modulo 256", "length, kind = struct.unpack(\"<IH\", head)", "length, kind, _ = struct.unpack(\"<IBB\", head)"),
+    ("a count of 0", "count >= 1 and", "count >= 0 and"),
+    ("a name with a space", "[!-~]{1,64}", "[ -~]{1,64}"),
+    ("a word in capitals", "[a-z0-9_]+ [a-z0-9_]+", "[A-Za-z0-9_]+ [a-z0-9_]+"),
+    ("distinct not looked at", "distinct == len(counts) and", ""),
+    ("a score rounded down", "math.ldexp(round(", "math.ldexp(int("),
+]  # fmt: skip
+
+
+def reading(old, new):
+    """model.py with one place changed."""
+    with open(os.path.join(compare.HERE, "model.py")) as source:
+        text = source.read()
+    if text.count(old) != 1:
+        raise SystemExit(f"wrong: {old!r} stands {text.count(old)} times in model.py")
+    module = types.ModuleType("wrong")
+    sys.modules["wrong"] = module  # where the dataclasses look for their own
+    exec(compile(text.replace(old, new), "wrong", "exec"), vars(module))
+    return module
+
+
+def answered(module, q):
+    try:
+        return vars(module.answered(q))
+    except Exception as broken:  # a wrong reading may well break
+        return repr(broken)
+
+
+def main():
+    options = argparse.ArgumentParser(description="Tries whether the rows can fail.")
+    options.add_argument("--seed", default="1", help="another seed gives other questions (default 1)")
+    asked = [q for _, q, _ in rows.rows(options.parse_args().seed, rows.QUICK, False)]
+    right = [answered(model, q) for q in asked]
+    lost = 0
+    for what, old, new in WRONG:
+        module = reading(old, new)
+        found = sum(answered(module, q) != want for q, want in zip(asked, right))
+        lost += not found
+        print(f"{found:6} rows find: {what}", flush=True)
+    print(f"{len(WRONG)} wrong readings, {lost} not found, by {len(asked)} rows")
+    return 1 if lost else 0
+
+
+if __name__ == "__main__":
+    sys.exit(main())
