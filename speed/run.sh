@@ -1,5 +1,5 @@
 #!/bin/sh
-# shellcheck disable=SC1091
+# shellcheck disable=SC1091,SC2154
 # Builds and runs the benchmark (x86-64): the archive against the unchanged original, in one process. speed/README.md says what it needs.
 set -eu
 . "$(dirname "$0")/../host/build.sh"
