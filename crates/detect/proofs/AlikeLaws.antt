@@ -7,16 +7,16 @@
 use mathlib.Core.Path.{_≡_, refl, sym, ap, _∙_}
 use mathlib.Core.Bool.{Bool, true, false, not, _||_, cond, true≢false, false≢true}
 use lib.Dec.{T, eqb}
-use lib.Ieee.{Float, lt, le}
-use lib.Ieee.Fits.{and-l}
+use lib.Ieee.{Float, lt}
+use borrow.Author.Tests.{not-true}
 use Rattle.rules.specs.declared.Value.{Value}
-use Rattle.rules.specs.Table.{nought, one}
+use Rattle.rules.specs.Table.{nought}
 use Rattle.rules.specs.Search.{Stored, Best, better}
 use Rattle.rules.specs.Refusal.{unit}
 use Rattle.rules.proofs.BoolLaws.{cond-of}
-use Rattle.rules.proofs.FloatOrder.{le-not, lt-between}
-use Rattle.ngram.specs.declared.scores.Floor.{Floor}
+use Rattle.rules.proofs.FloatOrder.{lt-between}
 use Rattle.ngram.specs.Floors.{beats, Judged}
+use Rattle.ngram.proofs.FloorLaws.{beats-lowest}
 use Rattle.detect.specs.Bests.{toBeat, Alike, same, both-below}
 
 -- ---- the better of two, by its cases
@@ -128,9 +128,9 @@ alike-high floor b x (same e) h = e
 alike-high floor b x (both-below p q u) h = absurd (true≢false (sym p ∙ h))
 
 -- ---- the floor at 0.0
-pub not-below-nought : (y : Float) → T (unit y) → lt y nought ≡ false
-unfolding unit
-not-below-nought y u = le-not nought y (and-l (le nought y) (le y one) u)
+not-below-nought : (y : Float) → T (unit y) → lt y nought ≡ false
+unfolding beats
+not-below-nought y u = not-true (lt y nought) (beats-lowest y u)
 
 pub alike-lowest : (floor : Float) (b x : Best) → floor ≡ nought → Alike floor b x → b ≡ x
 alike-lowest floor b x e (same p) = p

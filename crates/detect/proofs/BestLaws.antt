@@ -40,7 +40,7 @@ use Rattle.license.proofs.PayLaws.{pay-done, pay-one, pay-none}
 use Rattle.detect.specs.declared.Best.{Best}
 use Rattle.detect.specs.declared.Chosen.{Chosen}
 use Rattle.detect.specs.declared.Chosen.the-variants as chosen
-use Rattle.detect.specs.Bests.{textIn, bestIn, chosenIn, Stands, ChosenStands, Betters, toBeat, Alike, same, both-below, ChosenFor, BestOf, BestAbove, BestDone}
+use Rattle.detect.specs.Bests.{textIn, bestIn, chosenIn, Stands, ChosenStands, Betters, toBeat, Alike, same, ChosenFor, BestOf, BestAbove, BestDone}
 use Rattle.detect.proofs.AlikeLaws.{better-unit, alike-next, alike-lowest}
 
 -- the text found is the definition's

@@ -12,7 +12,7 @@ use Prim.Native.Nat.{ℕ, suc, _+_, _≤_, _<_, min}
 use native.Mathlib.Nat.{min-eq-left, min-eq-right}
 use native.Mathlib.Omega.{arith}
 use lib.Dec.{leb}
-use lib.Ieee.{lt}
+use lib.Ieee.{Float, lt}
 use lib.ListN.{length}
 use borrow.Author.Tests.{leb-true, leb-false}
 use Rattle.rules.specs.declared.Limits.{Limits}
@@ -29,7 +29,8 @@ use Rattle.license.proofs.PayLaws.{andThen, pay-bind, pay-done}
 use Rattle.detect.specs.declared.Best.{Best}
 use Rattle.detect.specs.declared.Chosen.{Chosen}
 use Rattle.detect.specs.declared.Chosen.the-variants as chosen
-use Rattle.detect.specs.Bests.{textIn, bestIn, chosenIn, Stands, ChosenStands, BestDone}
+use Rattle.detect.specs.Bests.{textIn, bestIn, ChosenStands, Alike, ChosenFor, BestAbove, BestDone}
+use Rattle.detect.proofs.AlikeLaws.{alike-low, alike-high}
 use Rattle.scan.specs.declared.ranges.Scope.{Scope}
 use Rattle.scan.specs.declared.views.Latest.{Latest}
 use Rattle.scan.specs.declared.views.Latest.the-variants as recent
@@ -45,6 +46,11 @@ pub done-as : {n lines : ℕ} {area₀ words₀ area words : List ℕ} {v : View
     BestDone n lines area₀ words₀ area words v book budget r → BestDone n lines area₀ words₀ area words v book budget x
 done-as {n} {lines} {area₀} {words₀} {area} {words} {v} {book} {budget} {r} {x} e d =
     subst (λ (y : Chosen). BestDone n lines area₀ words₀ area words v book budget y) e d
+
+pub above-as : {n lines : ℕ} {area₀ words₀ area words : List ℕ} {v : View} {book : List ℕ} {floor : Float} {budget : ℕ} {r x : Chosen} → r ≡ x →
+    BestAbove n lines area₀ words₀ area words v book floor budget r → BestAbove n lines area₀ words₀ area words v book floor budget x
+above-as {n} {lines} {area₀} {words₀} {area} {words} {v} {book} {floor} {budget} {r} {x} e d =
+    subst (λ (y : Chosen). BestAbove n lines area₀ words₀ area words v book floor budget y) e d
 
 pub walks-as : {scope : Scope} {area₀ words₀ area words book : List ℕ} {run : List Stored → List (List ℕ) → Made Seen} {budget : ℕ} {r x : Walked} → r ≡ x →
     Walks scope area₀ words₀ area words book run budget r → Walks scope area₀ words₀ area words book run budget x
@@ -77,34 +83,44 @@ module _ (scope : Scope) (area₀ words₀ book : List ℕ) (v : View) (budget :
       ap (λ (m : Made Seen). pay m budget) (walk-one (scope .limits) (stored book) all-lines (latestIn book l) v) ∙
       pay-bind (rules.best (stored book) all-lines v) (λ b. seen b) budget
 
-  pub see-out : {area words : List ℕ} → BestDone (scope .n) (scope .lines) area₀ words₀ area words v book budget chosen.Out →
+  abbrev floor : Float
+  floor = scope .limits .threshold
+
+  pub see-out : {area words : List ℕ} → BestAbove (scope .n) (scope .lines) area₀ words₀ area words v book floor budget chosen.Out →
       Walks scope area₀ words₀ area words book (λ ss ls. one ss ls) budget walked.Out
-  unfolding chosenIn walkedIn WalkedStands andThen
+  unfolding ChosenFor walkedIn WalkedStands andThen
   see-out d = record {
-    is = sym (one-paid ∙ ap (λ (o : Option (Paid rules.Best)). andThen o (λ b n. pay (seen b) n)) (sym (d .is)));
+    is = sym (one-paid ∙ ap (λ (o : Option (Paid rules.Best)). andThen o (λ b n. pay (seen b) n)) (d .is));
     stands = tt;
     held = d .held;
   }
 
-  module _ {area words : List ℕ} (b : Best) (left : ℕ) (d : BestDone (scope .n) (scope .lines) area₀ words₀ area words v book budget (chosen.Found b left)) where
-    found-paid : pay (one (stored book) all-lines) budget ≡ pay (seen (bestIn book b)) left
-    unfolding chosenIn andThen
-    found-paid = one-paid ∙ ap (λ (o : Option (Paid rules.Best)). andThen o (λ x n. pay (seen x) n)) (sym (d .is))
+  module _ {area words : List ℕ} (b : Best) (left : ℕ) (d : BestAbove (scope .n) (scope .lines) area₀ words₀ area words v book floor budget (chosen.Found b left)) where
+    -- the definition's best, which b is unless both are below the threshold
+    real : (x : rules.Best) × ((pay (rules.best (stored book) all-lines v) budget ≡ some (record { value = x; left = left })) × Alike floor (bestIn book b) x)
+    unfolding ChosenFor
+    real = d .is
 
-    pub see-low : (r : Walked) → lt (b .value .score) (scope .limits .threshold) ≡ true → LatestStands book (scope .lines) l → r ≡ lowerIn l left →
+    found-paid : pay (one (stored book) all-lines) budget ≡ pay (seen (real .0)) left
+    unfolding andThen
+    found-paid = one-paid ∙ ap (λ (o : Option (Paid rules.Best)). andThen o (λ x n. pay (seen x) n)) (real .1 .0)
+
+    pub see-low : (r : Walked) → lt (b .value .score) floor ≡ true → LatestStands book (scope .lines) l → r ≡ lowerIn l left →
         Walks scope area₀ words₀ area words book (λ ss ls. one ss ls) budget r
     unfolding bestIn
     see-low r t h e = rw e (record {
-      is = lower-is book l left ∙ sym (found-paid ∙ ap (λ (q : Bool). pay (cond q (done (lowered (latestIn book l))) (done (record { pair = some (record { view = v; text = textIn book (b .text) }); ended = false }))) left) t);
+      is = lower-is book l left ∙ sym (found-paid ∙ ap (λ (q : Bool). pay (cond q (done (lowered (latestIn book l))) (done (record { pair = some (record { view = v; text = real .0 .text }); ended = false }))) left)
+          (alike-low floor (bestIn book b) (real .0) (real .1 .1) t));
       stands = lower-stands book (scope .lines) l left h;
       held = d .held;
     })
 
-    pub see-high : lt (b .value .score) (scope .limits .threshold) ≡ false → (v .start ≤ v .end) × (v .end ≤ scope .lines) → 0 < length (stored book) →
+    pub see-high : lt (b .value .score) floor ≡ false → (v .start ≤ v .end) × (v .end ≤ scope .lines) → 0 < length (stored book) →
         Walks scope area₀ words₀ area words book (λ ss ls. one ss ls) budget (walked.On (recent.Pair v (b .text)) left)
     unfolding bestIn walkedIn latestIn WalkedStands LatestStands ChosenStands
     see-high t h u = record {
-      is = sym (found-paid ∙ ap (λ (q : Bool). pay (cond q (done (lowered (latestIn book l))) (done (record { pair = some (record { view = v; text = textIn book (b .text) }); ended = false }))) left) t ∙
+      is = sym (found-paid ∙ ap (λ (x : rules.Best). pay (seen x) left) (sym (alike-high floor (bestIn book b) (real .0) (real .1 .1) t)) ∙
+          ap (λ (q : Bool). pay (cond q (done (lowered (latestIn book l))) (done (record { pair = some (record { view = v; text = textIn book (b .text) }); ended = false }))) left) t ∙
           pay-done (record { pair = some (record { view = v; text = textIn book (b .text) }); ended = false }) left);
       stands = (d .stands u, h .0, h .1);
       held = d .held;

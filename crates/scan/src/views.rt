@@ -11,7 +11,7 @@ ghost use Rattle.scan.specs.Run.{Scanning};
 ghost use Rattle.scan.specs.Down.{walk, latestIn, LatestStands, Walks, Pairs, lowerIn};
 use crate::ranges::Scope;
 use detect::Chosen;
-use detect::best_text;
+use detect::best_above;
 use detection::texts::Text;
 use rules::View;
 
@@ -49,7 +49,7 @@ fn lower(latest: Latest, left: u64) -> Walked
     }
 }
 
-// One view more.
+// One view more: below the threshold, which text is the best does not matter.
 fn see(
     class: &[u8; 256],
     area: &mut [u8],
@@ -68,11 +68,22 @@ fn see(
     let n = scope.n;
     let lines = scope.lines;
     let texts = scope.texts;
-    let Chosen::Found(best, left) = best_text(class, area, words, n, lines, v, book, texts, budget)
-    else {
+    let floor = scope.limits.threshold;
+    let Chosen::Found(best, left) = best_above(
+        class,
+        area,
+        words,
+        n,
+        lines,
+        v,
+        book,
+        texts,
+        floor,
+        budget,
+    ) else {
         return Walked::Out;
     };
-    if best.value.score < scope.limits.threshold {
+    if best.value.score < floor {
         return lower(latest, left);
     }
     let text = best.text;

@@ -2,12 +2,12 @@
 -- Assumes nothing.
 use mathlib.Core.Path.{sym, _∙_}
 use borrow.Author.Needs.{needs}
-use Rattle.scan.proofs.RoundLaws.{done-as, see-out, see-low, see-high}
+use Rattle.scan.proofs.RoundLaws.{above-as, see-out, see-low, see-high}
 use Rattle.scan.proofs.views.see.Statement.{statement}
 use Rattle.scan.proofs.views.see.Tie as tie
 
-best-text-requires : tie.Need-best-text-requires
-best-text-requires c κs =
+best-above-requires : tie.Need-best-above-requires
+best-above-requires c κs =
     let pre = c .before .before .before .before .before .pre in
     let s = pre .0 in
     ((s .classes, s .laid), (pre .1 .0, (s .sound, s .texts)))
@@ -25,7 +25,7 @@ same-length-2 : tie.Need-same-length-2
 same-length-2 c = search needs
 
 returns : tie.Need-returns
-returns c = see-out _ _ _ _ _ _ _ (done-as (c .enum-told .given .1) (c .before .before .before .before .before .before .best-text .ensures))
+returns c = see-out _ _ _ _ _ _ _ (above-as (c .enum-told .given .1) (c .before .before .before .before .before .before .best-above .ensures))
 
 lower-requires : tie.Need-lower-requires
 lower-requires c κs = search needs
@@ -38,8 +38,8 @@ same-length-4 c = search needs
 
 returns-2 : tie.Need-returns-2
 returns-2 c =
-    let pre = c .before .before .before .before .before .before .before .before .before .before .before .before .before .before .before .before .before .pre in
-    see-low _ _ _ _ _ _ _ _ _ (done-as (c .before .before .before .before .before .best .given .1) (c .before .before .before .before .before .before .before .before .before .before .before .best-text .ensures)) _ (c .before .if1 .taken) (pre .1 .1) (c .lower .ensures)
+    let pre = c .before .before .before .before .before .before .before .before .before .before .before .before .before .before .before .before .pre in
+    see-low _ _ _ _ _ _ _ _ _ (above-as (c .before .before .before .before .best .given .1) (c .before .before .before .before .before .before .before .before .before .before .best-above .ensures)) _ (c .before .if1 .taken) (pre .1 .1) (c .lower .ensures)
 
 same-length-5 : tie.Need-same-length-5
 same-length-5 c = search needs
@@ -49,14 +49,14 @@ same-length-6 c = search needs
 
 returns-3 : tie.Need-returns-3
 returns-3 c =
-    let pre = c .before .before .before .before .before .before .before .before .before .before .before .before .before .before .before .before .before .pre in
-    see-high _ _ _ _ _ _ _ _ _ (done-as (c .before .before .before .before .before .best .given .1) (c .before .before .before .before .before .before .before .before .before .before .before .best-text .ensures)) (c .before .if1 .left) (pre .1 .0) (pre .0 .some-text)
+    let pre = c .before .before .before .before .before .before .before .before .before .before .before .before .before .before .before .before .pre in
+    see-high _ _ _ _ _ _ _ _ _ (above-as (c .before .before .before .before .best .given .1) (c .before .before .before .before .before .before .before .before .before .before .best-above .ensures)) (c .before .if1 .left) (pre .1 .0) (pre .0 .some-text)
 
 pub see-spec : {M : Type 1} → statement M
 see-spec =
     tie.close
     (tie.spec
-    best-text-requires
+    best-above-requires
     enum-known-best
     enum-told
     same-length
