@@ -62,10 +62,6 @@ static int run_check(int count, char **words) {
     return DONE;
 }
 
-/* Enough for any text of n bytes: a URL's replacement makes a line at most three times as long; of these 3n bytes each stands in at most two
-   bigrams, and each of the at most 3n/2 entries has 8 bytes of its own. */
-static size_t table_most(size_t n) { return 18 * n + 64; }
-
 static int give_table(const char *text, const char *out, const uint8_t *table, size_t len) {
     if (out && strcmp(out, "-") == 0) {
         fwrite(table, 1, len, stdout);
@@ -81,8 +77,8 @@ static int compile_to(const char *path, const char *out, const memory *m) {
     size_t len;
     const char *why = read_file(path, m->text, CHULTARVI_TEXT_MOST, &len);
     if (why) return unreadable(path, why);
-    uint8_t *table = take(table_most(len));
-    chultarvi_text_compiled c = compile_text(m, len, table, table_most(len));
+    uint8_t *table = take(chultarvi_table_bytes(len));
+    chultarvi_text_compiled c = compile_text(m, len, table, chultarvi_table_bytes(len));
     int status = REFUSED;
     if (c.refusal) {
         char message[MESSAGE_MOST];

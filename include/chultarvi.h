@@ -40,9 +40,11 @@ extern "C" {
 enum { CHULTARVI_NONE = 0, CHULTARVI_ORIGINAL = 2, CHULTARVI_ALTERNATE = 3, CHULTARVI_HEADER = 4 };
 
 /* How much to lend, in elements. `area` and `words`, for a text of n bytes; areas for CHULTARVI_TEXT_MOST serve every text, since a longer one is
-   refused by its length. `results`, for elimination by its passes (none without optimize), for top-down by the text's lines. */
+   refused by its length. `out`, for the table of a text of n bytes: more is never needed (proved: compiled-fits, crates/compile/proofs). `results`,
+   for elimination by its passes (none without optimize), for top-down by the text's lines. */
 static inline size_t chultarvi_area_bytes(size_t n) { return 8 * n + 64; }
 static inline size_t chultarvi_area_words(size_t n) { return 12 * n + 64; }
+static inline size_t chultarvi_table_bytes(size_t n) { return 24 * n + 64; }
 static inline size_t chultarvi_elimination_results(bool optimize, uint16_t passes) { return optimize ? CHULTARVI_RECORD_WIDTH * (size_t)passes : 0; }
 static inline size_t chultarvi_top_down_results(size_t lines) { return CHULTARVI_RECORD_WIDTH * lines; }
 
@@ -52,7 +54,7 @@ typedef struct { uint32_t refusal, texts; } chultarvi_book_checked;
 chultarvi_book_checked chultarvi_check_book(const uint8_t *book, size_t book_len);
 
 /* Compiles a text to its table, which is the body of a record of kind 2, 3 or 4 in a book. It is written at the front of out; len: its length in
-   bytes. For a text of n bytes 18n + 64 are enough (counted by hand, not proved; a miscount would be refusal 11). Refusals 1 to 3, 10, 11. */
+   bytes, at most chultarvi_table_bytes. Refusals 1 to 3, 10, 11. */
 typedef struct { uint32_t refusal; size_t len; } chultarvi_text_compiled;
 chultarvi_text_compiled chultarvi_compile(const uint8_t *text, size_t text_len, uint8_t *area, size_t area_len, uint32_t *words, size_t words_len,
                                           uint8_t *out, size_t out_len);

@@ -1,3 +1,4 @@
 pub mod BodyLaws
 pub mod DoneLaws
+pub mod FitLaws
 pub mod SoundCompiled

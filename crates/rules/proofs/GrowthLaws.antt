@@ -166,7 +166,7 @@ passes-length s =
     omega (arith, trim-length seven)
 
 -- ---- lines, with a newline each
-pub size : List (List ℕ) → ℕ
+unfoldable pub size : List (List ℕ) → ℕ
 size [] = 0
 size (l ∷ ls) = suc (length l) + size ls
 
@@ -237,7 +237,7 @@ split-some c (x ∷ xs) =
     at [] = omega arith
     at (l ∷ ls) = omega arith
 
-split-size : (c : ℕ) (s : List ℕ) → size (split c s) ≡ suc (length s)
+pub split-size : (c : ℕ) (s : List ℕ) → size (split c s) ≡ suc (length s)
 unfolding split size
 split-size c [] = refl
 split-size c (x ∷ xs) =
