@@ -11,8 +11,10 @@ cd "$root"
 warn='-O2 -Wall -Wextra -Wconversion -Wshadow -Werror'
 wraps='-Wl,--wrap=read,--wrap=write,--wrap=fsync,--wrap=close,--wrap=rename,--wrap=malloc'
 echo 'host: building the tests' >&2
-$CC -std=c11 -D_GNU_SOURCE $warn $LINK -o target/test_face_c host/test_face.c "$archive" -lm
-$CXX -x c++ -std=c++17 $warn $LINK -o target/test_face_cxx host/test_face.c -x none "$archive" -lm
+# Linked by the C compiler and without libm: the static one of Debian's cross packages names files that are not there.
+$CC -std=c11 -D_GNU_SOURCE $warn $LINK -o target/test_face_c host/test_face.c "$archive"
+$CXX -x c++ -std=c++17 -fno-exceptions $warn -c -o target/test_face_cxx.o host/test_face.c
+$CC $LINK -o target/test_face_cxx target/test_face_cxx.o "$archive"
 $CC -std=c11 -D_GNU_SOURCE $warn $LINK $wraps -o target/chultarvi-faults $sources host/test_faults.c "$archive"
 
 passed=0 failed=0

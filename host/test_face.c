@@ -282,7 +282,7 @@ static void test_long_name(void) {
 static void test_limits(void) {
     lent l = marked();
     l.results_len = 16;
-    const float good[] = {0.0f, -0.0f, 1.0f, FLT_MIN, 0.5f}, bad[] = {-FLT_MIN, nextafterf(1.0f, 2.0f), 2.0f, INFINITY, -INFINITY, NAN};
+    const float good[] = {0.0f, -0.0f, 1.0f, FLT_MIN, 0.5f}, bad[] = {-FLT_MIN, 1.0f + FLT_EPSILON, 2.0f, INFINITY, -INFINITY, NAN};
     for (size_t i = 0; i < sizeof good / sizeof *good; i++) {
         check(eliminate(&l, good[i], 0.5f, false, 0, 1, "a good threshold").refusal == 0, "a good threshold");
         check(eliminate(&l, 0.5f, good[i], false, 0, 1, "a good shallow limit").refusal == 0, "a good shallow limit");
