@@ -139,8 +139,11 @@ def book_forms():
             yield Edge("the form of a book", marked("score", book=book), due(not good, 4))
 
 
+NO_TABLE = record(3, bytes(8))
+
+
 def many_texts(texts):
-    return record(1, b"A") + record(2, MARKED_BOOK[13:]) + record(3, bytes(8)) * (texts - 1)
+    return record(1, b"A") + record(2, MARKED_BOOK[13:]) + NO_TABLE * (texts - 1)
 
 
 def stored_texts():
