@@ -1,8 +1,8 @@
 """A second reading of document 01, in plain Python: what each of the five jobs answers, and what each lent area holds at exit.
 
-Written from the document, with the definitions known, and by other means than they and the code: regular expressions for the passes, dictionaries for the
-tables, exact fractions for the scores, generators for the scans. Slow, and no part of the library. hold.py holds it against the definitions,
-rows.py holds the archive against it.
+Written from the document, with the definitions known, but by other means: regular expressions for the passes, dictionaries for the tables, exact
+fractions for the scores, generators for the scans. Slow, and no part of the library. hold.py holds it against the definitions, rows.py holds
+the archive against it.
 """
 
 import collections
