@@ -362,6 +362,24 @@ static void test_output(void) {
     check(compile(&l, "areas, 10 before 11").refusal == 10, "a small area comes before a short output");
 }
 
+/* Words of two letters, all their bigrams distinct, and URLs of one letter, each of which grows to three words. */
+static void test_table_bytes(void) {
+    enum { N = 2025 };
+    static uint8_t pairs[N], urls[N];
+    for (size_t i = 0; i < N; i++) {
+        size_t word = i / 3;
+        pairs[i] = i % 3 == 0 ? (uint8_t)('a' + word % 26) : i % 3 == 1 ? (uint8_t)('a' + word / 26) : (uint8_t)' ';
+        urls[i] = (uint8_t)"http://a "[i % 9];
+    }
+    check(chultarvi_table_bytes(0) == 64 && chultarvi_table_bytes(1) == 88, "24n + 64");
+    for (size_t len = 0; len <= N; len += 81) {
+        lent l = lend(pairs, len, book_a, BOOK_A), u = lend(urls, len, book_a, BOOK_A);
+        l.out_len = u.out_len = chultarvi_table_bytes(len);
+        check(compile(&l, "areas, words of two letters").refusal == 0, "chultarvi_table_bytes, words of two letters");
+        check(compile(&u, "areas, short URLs").refusal == 0, "chultarvi_table_bytes, short URLs");
+    }
+}
+
 static void test_budget(void) {
     lent l = marked();
     l.results_len = 40;
@@ -389,6 +407,7 @@ int main(void) {
     test_views();
     test_areas();
     test_output();
+    test_table_bytes();
     test_budget();
     printf("%d passed, %d failed\n", passed, failed);
     return failed != 0;
