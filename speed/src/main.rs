@@ -21,7 +21,7 @@ const DRAWS: usize = 8;
 /// stored texts of a grown book: with five of each it stays below the limit of 1,024
 const GROWN: usize = 204;
 
-const HEAD: &str = "| job | note | ours us | check taken off | original us | ratio | ratio, check taken off | answers |\n|---|---|---|---|---|---|---|---|";
+const HEAD: &str = "| job | note | ours | check taken off | original | ratio | ratio, check taken off | answers |\n|---|---|---|---|---|---|---|---|";
 
 /// The same texts as a book for us and as the original's store, both made before any clock starts.
 struct Library {
@@ -155,7 +155,7 @@ fn library_table(library: &Library, notes: &[(&str, String)]) {
     race(&mut sides);
     let (check, bytes) = (sides[0].best, library.book.len());
     println!("\n## {}: {} stored texts, a book of {bytes} bytes\n", library.name, library.stored.len());
-    println!("The book check alone: {} us, {:.2} ns a byte; the original has none (its store is prebuilt).\n", micros(check), 1e9 * check / bytes as f64);
+    println!("The book check alone: {}; {:.2} {} a byte; the original has none (its store is prebuilt).\n", micros(check), 1e9 * check / bytes as f64, clock::small());
     println!("{HEAD}");
     for (note, text) in notes {
         view_rows(library, note, text);
@@ -175,13 +175,14 @@ fn own_table(shelf: &Shelf, notes: &[(&str, String)]) {
 }
 
 fn compile_table(title: &str, notes: &[(&str, String)]) {
-    println!("\n## {title}\n\n| job | note | ours us | original us | ratio |\n|---|---|---|---|---|");
+    println!("\n## {title}\n\n| job | note | ours | original | ratio |\n|---|---|---|---|---|");
     for (note, text) in notes {
         compile_row(note, text);
     }
 }
 
 fn main() {
+    println!("In {}.", clock::unit());
     let quick = std::env::args().nth(1).is_some_and(|a| a == "quick");
     let shelf = texts::debian();
     let mut notes = texts::notes(&shelf);
