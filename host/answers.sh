@@ -3,7 +3,4 @@
 # Builds the archive and the program that answers the oracle's questions by it (x86-64).
 set -eu
 . "$(dirname "$0")/build.sh"
-need "$CC"
-need_archive
-cd "$root"
-$CC -O2 -Wall -Wextra $LINK -o target/answers host/answers.c "$archive"
+need_driver answers

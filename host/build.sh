@@ -58,6 +58,17 @@ stale() {
     return 1
 }
 
+# need_driver NAME FLAG...: target/NAME, made of host/NAME.c over the archive
+need_driver() {
+    driver=$1
+    shift
+    need "$CC" ${RUN%% *}
+    need_archive
+    cd "$root"
+    stale "target/$driver" "$archive" "host/$driver.c" include/chultarvi.h || return 0
+    $CC $flags "$@" $LINK -o "target/$driver" "host/$driver.c" "$archive"
+}
+
 need_program() {
     need "$CC" ${RUN%% *}
     need_archive

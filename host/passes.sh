@@ -3,8 +3,5 @@
 # Builds the archive and the driver, and runs it (x86-64).
 set -eu
 . "$(dirname "$0")/build.sh"
-need "$CC" ${RUN%% *}
-need_archive
-cd "$root"
-$CC -O2 -Wall $LINK -o target/passes host/passes.c "$archive"
+need_driver passes
 $RUN target/passes

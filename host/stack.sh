@@ -3,9 +3,6 @@
 # Builds the archive and the driver, and runs it (x86-64).
 set -eu
 . "$(dirname "$0")/build.sh"
-need "$CC" ${RUN%% *}
-need_archive
-cd "$root"
 # all names bound at the start, or the first call of memcpy would run the loader on the measured stack
-$CC -O2 -Wall -Wextra -pthread -Wl,-z,now $LINK -o target/stack host/stack.c "$archive"
+need_driver stack -pthread -Wl,-z,now
 $RUN target/stack

@@ -1,19 +1,16 @@
 #!/bin/sh
-# shellcheck disable=SC1091,SC2154
-# The tables of run.sh in executed instructions instead of time, both sides under qemu's user emulator with the plugin insn.c: what an Arm
-# machine can compare, where the archive runs only so, and what other work on the machine does not change.
+# The tables of run.sh in executed instructions instead of time (x86-64): both sides under qemu's user emulator, with the plugin insn.c. Other work on
+# the machine does not change them, and an Arm machine, where the archive runs only so, would count the same.
 set -eu
-. "$(dirname "$0")/../host/build.sh"
+cd "$(dirname "$0")"
 command -v qemu-x86_64 >/dev/null || {
     echo 'speed: qemu-x86_64 is not here (Debian: qemu-user)' >&2
     exit 2
 }
-need_archive
-cd "$root/speed"
-(cd ../oracle && sha256sum --quiet -c original.sha256)
-cargo build --release --quiet
+mkdir -p target
 cc -O2 -Wall -Wextra -shared -fPIC -o target/insn.so insn.c
 INSN=$(mktemp)
-export INSN
+UNDER='qemu-x86_64 -plugin target/insn.so'
+export INSN UNDER
 trap 'rm -f "$INSN"' EXIT
-qemu-x86_64 -plugin target/insn.so target/release/speed "$@"
+./run.sh "$@"
