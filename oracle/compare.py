@@ -712,9 +712,14 @@ def told(message):
     return part[0] if part else said
 
 
+def all_differing(trial, rows, size, at_once):
+    """The rows that differ, with antt's messages; so many at once go to antt."""
+    return [pair for i in range(0, len(rows), at_once) for pair in differing(trial, rows[i : i + at_once], size)]
+
+
 def compared(trial, rows, size):
     """Prints the rows that differ, and gives their number."""
-    found = [pair for i in range(0, len(rows), ROWS_A_RUN) for pair in differing(trial, rows[i : i + ROWS_A_RUN], size)]
+    found = all_differing(trial, rows, size, ROWS_A_RUN)
     for i, (row, message) in enumerate(found[:SHOWN]):
         print(f"\nDIFFERS: {row.told}\n  the oracle's answer: {row.want}")
         if isinstance(row.want, list) and i < TAKEN_APART:

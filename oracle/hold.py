@@ -291,7 +291,7 @@ def held(trial, questions, met):
         a = model.answered(q)
         met[q.job, a.refusal] += 1
         rows.append(row(q, a))
-    found = [pair for i in range(0, len(rows), ROWS_A_RUN) for pair in compare.differing(trial, rows[i : i + ROWS_A_RUN], 1)]
+    found = compare.all_differing(trial, rows, 1, ROWS_A_RUN)
     lost = [pair for pair in found if re.search("step limit|deep recursion", pair[1])]
     for one, message in found[:10]:
         print(f"\nDIFFERS, or is not computed: {one.told[:3000]}\n  antt: {compare.told(message)[:1000]}")
