@@ -75,13 +75,23 @@ chultarvi_bounds_found chultarvi_bounds(const uint8_t *text, size_t text_len, co
      score      the overall score: that of the best stored text over the whole text (0.0 in top-down, which has none)
      kind       CHULTARVI_ORIGINAL, _ALTERNATE or _HEADER where that score is above the threshold; else CHULTARVI_NONE, and len and name are 0
      len, name  the licence's name. It is zero-filled, so no zero ends it where len is 64
+     second, name_at  where the same bytes stand: in the second book where `second` is true, else in the first, from byte name_at on, and all of
+                them lie in that book (proved: part-lies, part-named, crates/scan_job/proofs). No name: false and 0. See chultarvi_name
      records    how many ranges were found. Each is four numbers at the front of results: the stored text's number, first line, line after
                 last, and the bits of the score (memcpy them into a float). The rest of results is as it was
      count      how many scorings were made
    A scan stops, with refusal 12, at the first scoring that `budget` does not pay. Then count is the budget, finished records stay, and elimination
    has score, kind and name once each stored text has been scored once. UINT64_MAX is a budget that no scan reaches.
    Both limits are from 0.0 to 1.0. Refusals 1 to 6, 10, 12, and 7 of top-down. */
-typedef struct { uint32_t refusal, records; uint64_t count; float score; uint32_t kind, len; uint8_t name[64]; } chultarvi_note_scanned;
+typedef struct {
+    uint32_t refusal, records;
+    uint64_t count;
+    float score;
+    uint32_t kind, len;
+    uint8_t name[64];
+    bool second;
+    size_t name_at;
+} chultarvi_note_scanned;
 
 /* Elimination: the best stored text over the whole text. Unless it is named with a score above `shallow`, and if `optimize` is true: up to `passes`
    times, the range of the best stored text, which is recorded and blanked where its score reaches the threshold. */
@@ -94,6 +104,33 @@ chultarvi_note_scanned chultarvi_eliminate(const uint8_t *text, size_t text_len,
 chultarvi_note_scanned chultarvi_top_down(const uint8_t *text, size_t text_len, const uint8_t *book, size_t book_len, float threshold, float shallow,
                                           uint64_t step, uint64_t budget, uint8_t *area, size_t area_len, uint32_t *words, size_t words_len,
                                           uint32_t *results, size_t results_len);
+
+/* The same four over two books: their stored texts count on from the first into the second, and N is the sum, also in the budget's "each stored
+   text". Refusal 4 if either is unsound, 5 if neither has a text; an empty book, of length 0, may stand on either side. Each book has its own limits
+   of bytes and texts. Both are only read, and may be the same memory. Names rise in each book for itself, and equal ones may stand in both: among
+   equal scores the lower number wins, so the first book. */
+chultarvi_view_scored chultarvi_score_both(const uint8_t *text, size_t text_len, const uint8_t *book, size_t book_len, const uint8_t *second,
+                                           size_t second_len, size_t start, size_t end, uint32_t number, uint8_t *area, size_t area_len,
+                                           uint32_t *words, size_t words_len);
+chultarvi_bounds_found chultarvi_bounds_both(const uint8_t *text, size_t text_len, const uint8_t *book, size_t book_len, const uint8_t *second,
+                                             size_t second_len, size_t start, size_t end, uint32_t number, uint8_t *area, size_t area_len,
+                                             uint32_t *words, size_t words_len);
+
+chultarvi_note_scanned chultarvi_eliminate_both(const uint8_t *text, size_t text_len, const uint8_t *book, size_t book_len, const uint8_t *second,
+                                                size_t second_len, float threshold, float shallow, bool optimize, uint16_t passes, uint64_t budget,
+                                                uint8_t *area, size_t area_len, uint32_t *words, size_t words_len, uint32_t *results,
+                                                size_t results_len);
+chultarvi_note_scanned chultarvi_top_down_both(const uint8_t *text, size_t text_len, const uint8_t *book, size_t book_len, const uint8_t *second,
+                                               size_t second_len, float threshold, float shallow, uint64_t step, uint64_t budget, uint8_t *area,
+                                               size_t area_len, uint32_t *words, size_t words_len, uint32_t *results, size_t results_len);
+
+/* The name without a copy: its first byte in the book that holds it, of those that the scan was lent; `len` bytes follow from there. With one book
+   `second` is not looked at and may be null. Where there is no name it is the first book's start, so null where that is null. */
+static inline const uint8_t *chultarvi_name(const uint8_t *book, const uint8_t *second, const chultarvi_note_scanned *answer)
+{
+    const uint8_t *holder = answer->second ? second : book;
+    return answer->name_at ? holder + answer->name_at : holder;
+}
 
 #ifdef __cplusplus
 }

@@ -37,9 +37,9 @@ recordsOf (suc n) r =
 
 line : List ℕ → Limits → Mode → ℕ → List ℕ
 line t lim mode budget =
-    let a = scan t book lim mode budget areas 80 in
+    let a = scan t (book ∷ []) lim mode budget areas 80 in
     decimal (a .refusal) ++ text " " ++ decimal (a .count) ++ text " " ++ decimal (a .records) ++
-    recordsOf (a .records) (resultsAfter t book lim mode budget areas (replicate 80 0)) ++ 10 ∷ []
+    recordsOf (a .records) (resultsAfter t (book ∷ []) lim mode budget areas (replicate 80 0)) ++ 10 ∷ []
 
 pub second : ℕ → List ℕ
 second budget =

@@ -8,7 +8,7 @@ use Rattle.rules.specs.declared.Mode.{Mode}
 use Rattle.rules.specs.declared.Scanned.{Scanned}
 use Rattle.rules.specs.Jobs.{ScanDone}
 
-pub scan-as : {t book : List ℕ} {lim : Limits} {mode : Mode} {budget : ℕ} {b₀ b w₀ w r₀ r : List ℕ} {x y : Scanned} → x ≡ y →
-    ScanDone t book lim mode budget b₀ b w₀ w r₀ r x → ScanDone t book lim mode budget b₀ b w₀ w r₀ r y
-scan-as {t} {book} {lim} {mode} {budget} {b₀} {b} {w₀} {w} {r₀} {r} {x} {y} e d =
-    subst (λ (z : Scanned). ScanDone t book lim mode budget b₀ b w₀ w r₀ r z) e d
+pub scan-as : {t : List ℕ} {bs : List (List ℕ)} {lim : Limits} {mode : Mode} {budget : ℕ} {b₀ b w₀ w r₀ r : List ℕ} {x y : Scanned} → x ≡ y →
+    ScanDone t bs lim mode budget b₀ b w₀ w r₀ r x → ScanDone t bs lim mode budget b₀ b w₀ w r₀ r y
+scan-as {t} {bs} {lim} {mode} {budget} {b₀} {b} {w₀} {w} {r₀} {r} {x} {y} e d =
+    subst (λ (z : Scanned). ScanDone t bs lim mode budget b₀ b w₀ w r₀ r z) e d

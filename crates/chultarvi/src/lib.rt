@@ -1,19 +1,23 @@
 // The library's face for C: the five jobs with plain types, the scan as two calls, since an enum does not cross. include/chultarvi.h describes
 // them. Assumes of a C caller that no slice that it lends to be written overlaps another of the same call.
 ghost use mathlib.Core.Path.{_≡_};
+ghost use mathlib.Core.List.{[], _∷_};
 ghost use Rattle.rules.specs.Search.{view};
 ghost use Rattle.rules.specs.declared.Mode.the-variants.{Elimination, TopDown};
 ghost use Rattle.chultarvi.specs.Answers.{answerOf};
 ghost use Rattle.rules.specs.Jobs.{ScoreDone, BoundsDone, ScanDone, check, CompileDone};
 use compile::compile;
 use detection::check::check_book;
+use jobs::bounds::bounds_both;
 use jobs::bounds::bounds_of;
+use jobs::score::score_both;
 use jobs::score::score_view;
 use rules::Limits;
 use rules::Mode;
 use rules::Scanned;
 use rules::View;
 use scan_job::scan;
+use scan_job::scan_both;
 
 // Document 01's number of the refusal, 0 for none; and N.
 #[repr(C)]
@@ -73,7 +77,7 @@ pub extern "C" fn chultarvi_score(
     area: &mut [u8],
     words: &mut [u32],
 ) -> ViewScored
-    ensures { λ r. ⌜ ScoreDone (now (text .entry)) (now (book .entry)) (view start end) number (now (area .entry)) (now (area .exit)) (now (words .entry)) (now (words .exit)) (record { refusal = r .refusal; score = r .score }) ⌝ }
+    ensures { λ r. ⌜ ScoreDone (now (text .entry)) (now (book .entry) ∷ []) (view start end) number (now (area .entry)) (now (area .exit)) (now (words .entry)) (now (words .exit)) (record { refusal = r .refusal; score = r .score }) ⌝ }
 {
     let v = View { start, end };
     let s = score_view(text, book, v, number, area, words);
@@ -102,7 +106,7 @@ pub extern "C" fn chultarvi_bounds(
     area: &mut [u8],
     words: &mut [u32],
 ) -> BoundsFound
-    ensures { λ r. ⌜ BoundsDone (now (text .entry)) (now (book .entry)) (view start end) number (now (area .entry)) (now (area .exit)) (now (words .entry)) (now (words .exit)) (record { refusal = r .refusal; first = r .first; after = r .after; score = r .score; count = r .count }) ⌝ }
+    ensures { λ r. ⌜ BoundsDone (now (text .entry)) (now (book .entry) ∷ []) (view start end) number (now (area .entry)) (now (area .exit)) (now (words .entry)) (now (words .exit)) (record { refusal = r .refusal; first = r .first; after = r .after; score = r .score; count = r .count }) ⌝ }
 {
     let v = View { start, end };
     let b = bounds_of(text, book, v, number, area, words);
@@ -115,7 +119,8 @@ pub extern "C" fn chultarvi_bounds(
     }
 }
 
-// The answer of both scans: the name that won, zero-filled, and its length; its kind, 0 where none is named.
+// The answer of every scan: the name that won, zero-filled, and its length; its kind, 0 where none is named; and where the same bytes stand, in the
+// second book or the first, from `at` on.
 #[repr(C)]
 pub struct NoteScanned {
     pub refusal: u32,
@@ -125,12 +130,17 @@ pub struct NoteScanned {
     pub kind: u32,
     pub len: u32,
     pub name: [u8; 64],
+    pub second: bool,
+    pub at: usize,
 }
 
+// The part is as long as the name, so one length says both.
 fn for_c(s: Scanned) -> NoteScanned
+    requires { ⌜ s .part .len ≡ s .len ⌝ }
     ensures { λ r. ⌜ s ≡ answerOf r ⌝ }
 {
     let name = s.name;
+    let part = s.part;
     NoteScanned {
         refusal: s.refusal,
         records: s.records,
@@ -139,6 +149,8 @@ fn for_c(s: Scanned) -> NoteScanned
         kind: s.kind,
         len: s.len,
         name,
+        second: part.second,
+        at: part.at,
     }
 }
 
@@ -155,7 +167,7 @@ pub extern "C" fn chultarvi_eliminate(
     words: &mut [u32],
     results: &mut [u32],
 ) -> NoteScanned
-    ensures { λ r. ⌜ ScanDone (now (text .entry)) (now (book .entry)) (record { threshold = threshold; shallow = shallow }) (Elimination optimize passes) budget (now (area .entry)) (now (area .exit)) (now (words .entry)) (now (words .exit)) (now (results .entry)) (now (results .exit)) (answerOf r) ⌝ }
+    ensures { λ r. ⌜ ScanDone (now (text .entry)) (now (book .entry) ∷ []) (record { threshold = threshold; shallow = shallow }) (Elimination optimize passes) budget (now (area .entry)) (now (area .exit)) (now (words .entry)) (now (words .exit)) (now (results .entry)) (now (results .exit)) (answerOf r) ⌝ }
 {
     let limits = Limits { threshold, shallow };
     let mode = Mode::Elimination(optimize, passes);
@@ -175,10 +187,119 @@ pub extern "C" fn chultarvi_top_down(
     words: &mut [u32],
     results: &mut [u32],
 ) -> NoteScanned
-    ensures { λ r. ⌜ ScanDone (now (text .entry)) (now (book .entry)) (record { threshold = threshold; shallow = shallow }) (TopDown step) budget (now (area .entry)) (now (area .exit)) (now (words .entry)) (now (words .exit)) (now (results .entry)) (now (results .exit)) (answerOf r) ⌝ }
+    ensures { λ r. ⌜ ScanDone (now (text .entry)) (now (book .entry) ∷ []) (record { threshold = threshold; shallow = shallow }) (TopDown step) budget (now (area .entry)) (now (area .exit)) (now (words .entry)) (now (words .exit)) (now (results .entry)) (now (results .exit)) (answerOf r) ⌝ }
 {
     let limits = Limits { threshold, shallow };
     let mode = Mode::TopDown(step);
     let s = scan(text, book, limits, mode, budget, area, words, results);
+    for_c(s)
+}
+
+// The same four over two books, whose texts count on from the first into the second.
+#[no_mangle]
+pub extern "C" fn chultarvi_score_both<'a>(
+    text: &[u8],
+    book: &'a [u8],
+    second: &'a [u8],
+    start: usize,
+    end: usize,
+    number: u32,
+    area: &mut [u8],
+    words: &mut [u32],
+) -> ViewScored
+    ensures { λ r. ⌜ ScoreDone (now (text .entry)) (now (book .entry) ∷ now (second .entry) ∷ []) (view start end) number (now (area .entry)) (now (area .exit)) (now (words .entry)) (now (words .exit)) (record { refusal = r .refusal; score = r .score }) ⌝ }
+{
+    let v = View { start, end };
+    let s = score_both(text, book, second, v, number, area, words);
+    ViewScored {
+        refusal: s.refusal,
+        score: s.score,
+    }
+}
+
+#[no_mangle]
+pub extern "C" fn chultarvi_bounds_both<'a>(
+    text: &[u8],
+    book: &'a [u8],
+    second: &'a [u8],
+    start: usize,
+    end: usize,
+    number: u32,
+    area: &mut [u8],
+    words: &mut [u32],
+) -> BoundsFound
+    ensures { λ r. ⌜ BoundsDone (now (text .entry)) (now (book .entry) ∷ now (second .entry) ∷ []) (view start end) number (now (area .entry)) (now (area .exit)) (now (words .entry)) (now (words .exit)) (record { refusal = r .refusal; first = r .first; after = r .after; score = r .score; count = r .count }) ⌝ }
+{
+    let v = View { start, end };
+    let b = bounds_both(text, book, second, v, number, area, words);
+    BoundsFound {
+        refusal: b.refusal,
+        first: b.first,
+        after: b.after,
+        score: b.score,
+        count: b.count,
+    }
+}
+
+#[no_mangle]
+pub extern "C" fn chultarvi_eliminate_both<'a>(
+    text: &[u8],
+    book: &'a [u8],
+    second: &'a [u8],
+    threshold: f32,
+    shallow: f32,
+    optimize: bool,
+    passes: u16,
+    budget: u64,
+    area: &mut [u8],
+    words: &mut [u32],
+    results: &mut [u32],
+) -> NoteScanned
+    ensures { λ r. ⌜ ScanDone (now (text .entry)) (now (book .entry) ∷ now (second .entry) ∷ []) (record { threshold = threshold; shallow = shallow }) (Elimination optimize passes) budget (now (area .entry)) (now (area .exit)) (now (words .entry)) (now (words .exit)) (now (results .entry)) (now (results .exit)) (answerOf r) ⌝ }
+{
+    let limits = Limits { threshold, shallow };
+    let mode = Mode::Elimination(optimize, passes);
+    let s = scan_both(
+        text,
+        book,
+        second,
+        limits,
+        mode,
+        budget,
+        area,
+        words,
+        results,
+    );
+    for_c(s)
+}
+
+#[no_mangle]
+pub extern "C" fn chultarvi_top_down_both<'a>(
+    text: &[u8],
+    book: &'a [u8],
+    second: &'a [u8],
+    threshold: f32,
+    shallow: f32,
+    step: u64,
+    budget: u64,
+    area: &mut [u8],
+    words: &mut [u32],
+    results: &mut [u32],
+) -> NoteScanned
+    ensures { λ r. ⌜ ScanDone (now (text .entry)) (now (book .entry) ∷ now (second .entry) ∷ []) (record { threshold = threshold; shallow = shallow }) (TopDown step) budget (now (area .entry)) (now (area .exit)) (now (words .entry)) (now (words .exit)) (now (results .entry)) (now (results .exit)) (answerOf r) ⌝ }
+{
+    let limits = Limits { threshold, shallow };
+    let mode = Mode::TopDown(step);
+    let s = scan_both(
+        text,
+        book,
+        second,
+        limits,
+        mode,
+        budget,
+        area,
+        words,
+        results,
+    );
     for_c(s)
 }

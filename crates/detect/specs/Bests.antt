@@ -1,4 +1,4 @@
--- The code's best text read as the definition's, over the book that it stands in; and what the code's answers say.
+-- The code's best text read as the definition's, over the books that it stands in; and what the code's answers say.
 -- Assumes nothing.
 use mathlib.Core.Path.{_≡_}
 use mathlib.Core.List.{List}
@@ -13,10 +13,8 @@ use Rattle.rules.specs.Refusal.{unit}
 use Rattle.rules.specs.Table.{Table}
 use Rattle.rules.specs.Search as rules
 use Rattle.rules.specs.Search.{Stored, better, noBest, bestFrom}
-use Rattle.rules.specs.Book.{tableIn, entriesOf, stored}
 use Rattle.preproc_lines.specs.Entries.{linesAt}
-use Rattle.detection.specs.declared.texts.Text.{Text}
-use Rattle.detection.specs.Texts.{part, Found as FoundAt}
+use Rattle.detection.specs.Shelves.{Shelf, texts, Stands, textIn}
 use Rattle.ngram.specs.declared.scores.Floor.{Floor}
 use Rattle.license.specs.Ready.{Held}
 use Rattle.license.specs.Pay.{Paid, pay}
@@ -24,32 +22,23 @@ use Rattle.detect.specs.declared.Best.{Best}
 use Rattle.detect.specs.declared.Chosen.{Chosen}
 use Rattle.detect.specs.declared.Chosen.the-variants.{Out, Found}
 
-unfoldable pub textIn : List ℕ → Text → Stored
-textIn book t =
-    let body = part book (t .body) (t .end) in
-    record { number = t .number; name = part book (t .name) (t .past); kind = t .kind; table = tableIn body (entriesOf body) }
-
-unfoldable pub bestIn : List ℕ → Best → rules.Best
-bestIn book b = record { text = textIn book (b .text); value = b .value }
+unfoldable pub bestIn : Shelf → Best → rules.Best
+bestIn books b = record { text = textIn books (b .text); value = b .value }
 
 -- out, or the best and what is left
-unfoldable pub chosenIn : List ℕ → Chosen → Option (Paid rules.Best)
-chosenIn book Out = none
-chosenIn book (Found b left) = some (record { value = bestIn book b; left = left })
+unfoldable pub chosenIn : Shelf → Chosen → Option (Paid rules.Best)
+chosenIn books Out = none
+chosenIn books (Found b left) = some (record { value = bestIn books b; left = left })
 
--- it is one of the book's stored texts
-pub record Stands (book : List ℕ) (t : Text) : Type 0 where
-  pub found : FoundAt book (t .number) t
-  pub inside : t .number < length (stored book)
+-- it is one of the books' stored texts
+unfoldable pub ChosenStands : Shelf → Chosen → Type 0
+ChosenStands books Out = Unit {0}
+ChosenStands books (Found b left) = Stands books (b .text)
 
-unfoldable pub ChosenStands : List ℕ → Chosen → Type 0
-ChosenStands book Out = Unit {0}
-ChosenStands book (Found b left) = Stands book (b .text)
-
--- over any book; and a stored text where next is one, and where best, if it is a text, is one
+-- over any books; and a stored text where next is one, and where best, if it is a text, is one
 pub record Betters (best next r : Best) : Type 0 where
-  pub is : (book : List ℕ) → bestIn book r ≡ better (bestIn book best) (bestIn book next)
-  pub stands : (book : List ℕ) → Stands book (next .text) → ((best .text .kind ≡ 0 → ⊥) → Stands book (best .text)) → Stands book (r .text)
+  pub is : (books : Shelf) → bestIn books r ≡ better (bestIn books best) (bestIn books next)
+  pub stands : (books : Shelf) → Stands books (next .text) → ((best .text .text .kind ≡ 0 → ⊥) → Stands books (best .text)) → Stands books (r .text)
 
 -- what the next text has to beat, by the best's kind and score: the floor, where ties with it do, as long as none reaches it; then the best
 unfoldable pub toBeat : Float → ℕ → Float → Floor
@@ -61,23 +50,23 @@ pub data Alike (floor : Float) (b x : rules.Best) : Type 0 where
   both-below : lt (b .value .score) floor ≡ true → lt (x .value .score) floor ≡ true → T (unit (x .value .score)) → Alike floor b x
 
 -- out where it is not paid; otherwise the best, if it is not below the floor, and what is left
-unfoldable pub ChosenFor : List ℕ → Float → Chosen → Option (Paid rules.Best) → Type 0
-ChosenFor book floor Out o = o ≡ none
-ChosenFor book floor (Found b left) o = (x : rules.Best) × ((o ≡ some (record { value = x; left = left })) × Alike floor (bestIn book b) x)
+unfoldable pub ChosenFor : Shelf → Float → Chosen → Option (Paid rules.Best) → Type 0
+ChosenFor books floor Out o = o ≡ none
+ChosenFor books floor (Found b left) o = (x : rules.Best) × ((o ≡ some (record { value = x; left = left })) × Alike floor (bestIn books b) x)
 
 -- of a view with this table, as far as it is not below the floor
-pub record BestOf (book : List ℕ) (table : Table) (floor : Float) (budget : ℕ) (r : Chosen) : Type 0 where
-  pub is : (v : View) → ChosenFor book floor r (pay (bestFrom table v (stored book) noBest) budget)
-  pub stands : 0 < length (stored book) → ChosenStands book r
+pub record BestOf (books : Shelf) (table : Table) (floor : Float) (budget : ℕ) (r : Chosen) : Type 0 where
+  pub is : (v : View) → ChosenFor books floor r (pay (bestFrom table v (texts books) noBest) budget)
+  pub stands : 0 < length (texts books) → ChosenStands books r
 
 -- of a view, as far as it is not below the floor
-pub record BestAbove (n lines : ℕ) (area₀ words₀ area words : List ℕ) (v : View) (book : List ℕ) (floor : Float) (budget : ℕ) (r : Chosen) : Type 0 where
-  pub is : ChosenFor book floor r (pay (rules.best (stored book) (linesAt area₀ words₀ lines) v) budget)
-  pub stands : 0 < length (stored book) → ChosenStands book r
+pub record BestAbove (n lines : ℕ) (area₀ words₀ area words : List ℕ) (v : View) (books : Shelf) (floor : Float) (budget : ℕ) (r : Chosen) : Type 0 where
+  pub is : ChosenFor books floor r (pay (rules.best (texts books) (linesAt area₀ words₀ lines) v) budget)
+  pub stands : 0 < length (texts books) → ChosenStands books r
   pub held : Held n lines area₀ words₀ area words
 
 -- of a view
-pub record BestDone (n lines : ℕ) (area₀ words₀ area words : List ℕ) (v : View) (book : List ℕ) (budget : ℕ) (r : Chosen) : Type 0 where
-  pub is : chosenIn book r ≡ pay (rules.best (stored book) (linesAt area₀ words₀ lines) v) budget
-  pub stands : 0 < length (stored book) → ChosenStands book r
+pub record BestDone (n lines : ℕ) (area₀ words₀ area words : List ℕ) (v : View) (books : Shelf) (budget : ℕ) (r : Chosen) : Type 0 where
+  pub is : chosenIn books r ≡ pay (rules.best (texts books) (linesAt area₀ words₀ lines) v) budget
+  pub stands : 0 < length (texts books) → ChosenStands books r
   pub held : Held n lines area₀ words₀ area words

@@ -1,19 +1,21 @@
-// The best stored text of a view: all in book order, a running best, every scoring charged; each only as far as it can beat the best so far.
+// The best stored text of a view: all of two books in order, a running best, every scoring charged; each only as far as it can beat the best so far.
 // From detection/detect.rs of spdx 0.13.6 (Copyright 2018 Amazon.com, Inc. or its affiliates. All Rights Reserved.
 // SPDX-License-Identifier: Apache-2.0), changed: the sort in `analyze` is a running best. Assumes nothing.
 ghost use mathlib.Core.Path.{_≡_};
-ghost use mathlib.Core.Bool.{true};
+ghost use mathlib.Core.Bool.{false};
 ghost use Prim.Native.Nat.{_≤_};
-ghost use lib.ListN.{length};
 ghost use Rattle.slices.specs.Classes.{classTable};
-ghost use Rattle.rules.specs.Book.{sound, stored};
 ghost use Rattle.rules.specs.Table.{nought};
+ghost use Rattle.detection.specs.Shelves.{shelf, Counted};
 ghost use Rattle.license.specs.Ready.{Laid, Tabled, tableOver};
 ghost use Rattle.detect.specs.Bests.{Betters, toBeat, BestOf, BestAbove, BestDone};
+use detection::shelf::Counts;
+use detection::shelf::Shelved;
+use detection::shelf::after_on;
+use detection::shelf::body_of;
+use detection::shelf::first_spot;
+use detection::shelf::next_on;
 use detection::texts::Text;
-use detection::texts::after_text;
-use detection::texts::first_place;
-use detection::texts::next_text;
 use license::views::Viewed;
 use license::views::charge;
 use license::views::view_table;
@@ -23,7 +25,7 @@ use rules::View;
 
 // A stored text and what it scores. Kind 0 is no text yet, which any text beats.
 pub struct Best {
-    pub text: Text,
+    pub text: Shelved,
     pub value: Value,
 }
 
@@ -34,7 +36,7 @@ pub enum Chosen {
 }
 
 pub fn no_best() -> Best
-    ensures { λ r. ⌜ r ≡ record { text = record { number = 0; kind = 0; name = 0; past = 0; body = 0; end = 0 }; value = record { score = nought; m = 0; t = 0 } } ⌝ }
+    ensures { λ r. ⌜ r ≡ record { text = record { second = false; number = 0; text = record { number = 0; kind = 0; name = 0; past = 0; body = 0; end = 0 } }; value = record { score = nought; m = 0; t = 0 } } ⌝ }
 {
     let text = Text {
         number: 0,
@@ -43,6 +45,11 @@ pub fn no_best() -> Best
         past: 0,
         body: 0,
         end: 0,
+    };
+    let text = Shelved {
+        second: false,
+        number: 0,
+        text,
     };
     let value = Value {
         score: 0.0,
@@ -56,7 +63,8 @@ pub fn no_best() -> Best
 pub fn better_of(best: Best, next: Best) -> Best
     ensures { λ r. ⌜ Betters best next r ⌝ }
 {
-    let text = best.text;
+    let held = best.text;
+    let text = held.text;
     if text.kind == 0 {
         return next;
     }
@@ -68,9 +76,10 @@ pub fn better_of(best: Best, next: Best) -> Best
 
 // What the next text has to beat: the floor, where ties with it do, as long as no text reaches it; then the best so far.
 pub fn to_beat(floor: f32, best: Best) -> Floor
-    ensures { λ r. ⌜ r ≡ toBeat floor (best .text .kind) (best .value .score) ⌝ }
+    ensures { λ r. ⌜ r ≡ toBeat floor (best .text .text .kind) (best .value .score) ⌝ }
 {
-    let text = best.text;
+    let held = best.text;
+    let text = held.text;
     let score = best.value.score;
     if text.kind != 0 {
         if !(score < floor) {
@@ -83,79 +92,93 @@ pub fn to_beat(floor: f32, best: Best) -> Floor
     }
 }
 
-// The best of the book's texts for the table of a view, as far as it is not below the floor: each is scored once, in book order.
-pub fn best_of(
+// The best of the books' texts for the table of a view, as far as it is not below the floor: each is scored once, in order.
+pub fn best_of<'a>(
     area: &[u8],
     words: &[u32],
     n: usize,
     t: Viewed,
-    book: &[u8],
-    texts: u32,
+    book: &'a [u8],
+    second: &'a [u8],
+    texts: Counts,
     floor: f32,
     budget: u64,
 ) -> Chosen
     requires { ⌜ Tabled n (now area) (now words) t ⌝ }
-    requires { ⌜ (sound (now book) ≡ true) × (texts ≡ length (stored (now book))) ⌝ }
-    ensures { λ r. ⌜ BestOf (now (book .entry)) (tableOver (now (area .entry)) t) floor budget r ⌝ }
+    requires { ⌜ Counted (shelf (now book) (now second)) texts ⌝ }
+    ensures { λ r. ⌜ BestOf (shelf (now (book .entry)) (now (second .entry))) (tableOver (now (area .entry)) t) floor budget r ⌝ }
 {
     let mut best = no_best();
     let mut left = budget;
-    let mut place = first_place();
-    while place.number < texts {
+    let mut spot = first_spot();
+    while spot.number < texts.all {
         if left == 0 {
             return Chosen::Out;
         }
-        let text = next_text(book, place);
-        let start = text.body;
-        let end = text.end;
+        let text = next_on(book, second, texts, spot);
+        let body = body_of(book, second, text);
         let least = to_beat(floor, best);
-        let c = charge(area, words, n, t, &book[start..end], least, left);
+        let c = charge(area, words, n, t, body, least, left);
         left = c.left;
         let value = c.value;
         best = better_of(best, Best { text, value });
-        place = after_text(text);
+        spot = after_on(text);
     }
     Chosen::Found(best, left)
 }
 
 // The best stored text of a view, as far as it is not below the floor: its table is made once.
-pub fn best_above(
+pub fn best_above<'a>(
     class: &[u8; 256],
     area: &mut [u8],
     words: &mut [u32],
     n: usize,
     lines: usize,
     v: View,
-    book: &[u8],
-    texts: u32,
+    book: &'a [u8],
+    second: &'a [u8],
+    texts: Counts,
     floor: f32,
     budget: u64,
 ) -> Chosen
     requires { ⌜ (now class ≡ classTable) × Laid n lines (now area) (now words) ⌝ }
     requires { ⌜ (v .start ≤ v .end) × (v .end ≤ lines) ⌝ }
-    requires { ⌜ (sound (now book) ≡ true) × (texts ≡ length (stored (now book))) ⌝ }
-    ensures { λ r. ⌜ BestAbove n lines (now (area .entry)) (now (words .entry)) (now (area .exit)) (now (words .exit)) v (now (book .entry)) floor budget r ⌝ }
+    requires { ⌜ Counted (shelf (now book) (now second)) texts ⌝ }
+    ensures { λ r. ⌜ BestAbove n lines (now (area .entry)) (now (words .entry)) (now (area .exit)) (now (words .exit)) v (shelf (now (book .entry)) (now (second .entry))) floor budget r ⌝ }
 {
     let t = view_table(class, area, words, n, lines, v);
-    best_of(area, words, n, t, book, texts, floor, budget)
+    best_of(area, words, n, t, book, second, texts, floor, budget)
 }
 
 // The best stored text of a view: no score is below 0.0.
-pub fn best_text(
+pub fn best_text<'a>(
     class: &[u8; 256],
     area: &mut [u8],
     words: &mut [u32],
     n: usize,
     lines: usize,
     v: View,
-    book: &[u8],
-    texts: u32,
+    book: &'a [u8],
+    second: &'a [u8],
+    texts: Counts,
     budget: u64,
 ) -> Chosen
     requires { ⌜ (now class ≡ classTable) × Laid n lines (now area) (now words) ⌝ }
     requires { ⌜ (v .start ≤ v .end) × (v .end ≤ lines) ⌝ }
-    requires { ⌜ (sound (now book) ≡ true) × (texts ≡ length (stored (now book))) ⌝ }
-    ensures { λ r. ⌜ BestDone n lines (now (area .entry)) (now (words .entry)) (now (area .exit)) (now (words .exit)) v (now (book .entry)) budget r ⌝ }
+    requires { ⌜ Counted (shelf (now book) (now second)) texts ⌝ }
+    ensures { λ r. ⌜ BestDone n lines (now (area .entry)) (now (words .entry)) (now (area .exit)) (now (words .exit)) v (shelf (now (book .entry)) (now (second .entry))) budget r ⌝ }
 {
-    best_above(class, area, words, n, lines, v, book, texts, 0.0, budget)
+    best_above(
+        class,
+        area,
+        words,
+        n,
+        lines,
+        v,
+        book,
+        second,
+        texts,
+        0.0,
+        budget,
+    )
 }

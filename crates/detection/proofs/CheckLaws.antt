@@ -17,7 +17,7 @@ use borrow.Author.Tests.{le-leb, lt-leb, eq-eqb, ne-eqb}
 use Rattle.rules.specs.declared.Checked.{Checked}
 use Rattle.rules.specs.Sizes.{bookMost, storedMost}
 use Rattle.rules.specs.Search.{Stored}
-use Rattle.rules.specs.Book.{Record, recordsOf, also, storedKind, follows, soundBody, soundRecords, storedIn, storedOf, stored, filled, sound}
+use Rattle.rules.specs.Book.{Record, recordsOf, also, storedKind, follows, soundBody, soundRecords, storedIn, storedOf, storedFrom, stored, filled, sound}
 use Rattle.rules.specs.Refusal.{refusal, ofCheck}
 use Rattle.rules.specs.Jobs.{check}
 use Rattle.rules.proofs.SoundLaws.{book-too-long}
@@ -104,10 +104,10 @@ unfolding answer
 verdict-long book h = check-is book ∙ rw (book-too-long book h)
 
 pub verdict-start : (book : List ℕ) → length book ≤ bookMost → check book ≡ verdict 0 [] 0 (recordsOf book)
-unfolding sound stored filled storedOf verdict
+unfolding sound stored storedFrom filled storedOf verdict
 verdict-start book h = check-is book ∙ rw (le-leb (length book) bookMost h) (at (recordsOf book))
   where
-    at : (o : Option (List Record)) → answer (true && filled o && leb (length (storedOf o)) storedMost) (length (storedOf o)) ≡ verdict 0 [] 0 o
+    at : (o : Option (List Record)) → answer (true && filled o && leb (length (storedOf 0 o)) storedMost) (length (storedOf 0 o)) ≡ verdict 0 [] 0 o
     at none = answer-is false 0
     at (some rs) =
         let all = length (storedIn 0 [] rs) in

@@ -2,3 +2,4 @@ pub mod ByteLaws
 pub mod EntryLaws
 pub mod CheckLaws
 pub mod TextLaws
+pub mod ShelfLaws

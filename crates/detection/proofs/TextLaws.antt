@@ -9,7 +9,7 @@ use mathlib.Core.Bool.{Bool, true, false, not, _&&_, _||_, cond, false≢true}
 use mathlib.Core.List.{List, [], _∷_, _++_}
 use mathlib.Core.Option.{Option, none, some}
 use Prim.Native.Nat.{ℕ, zero, suc, _+_, _-_, _≤_, _<_}
-use native.Mathlib.Nat.{add-zero, not-suc-le-zero, le-of-suc-le-suc}
+use native.Mathlib.Nat.{add-zero}
 use native.Mathlib.Numerals.{add-one}
 use native.Mathlib.Omega.{arith}
 use lib.Dec.{leb, eqb}
@@ -20,12 +20,13 @@ use Rattle.rules.specs.Sizes.{bookMost, storedMost, nameMost}
 use Rattle.rules.specs.Prefix.{Counted}
 use Rattle.rules.specs.Search.{Stored, noText}
 use Rattle.rules.specs.Bytes.{within, rises}
-use Rattle.rules.specs.Book.{number, Record, recordsOf, also, entriesOf, sum, soundEntries, soundTable, soundBody, storedKind, follows, soundRecords, tableIn, storedIn, storedOf, stored, filled, sound}
+use Rattle.rules.specs.Book.{number, Record, recordsOf, also, entriesOf, sum, soundEntries, soundTable, soundBody, storedKind, follows, soundRecords, tableIn, storedIn, storedOf, storedFrom as numberedFrom, stored, namesIn, noPart, namesOf, filled, sound}
+use Rattle.rules.specs.declared.Named.{Named}
 use Rattle.rules.proofs.BoolLaws.{and-left, and-right}
-use Rattle.rules.proofs.DownLaws.{Each}
+use Rattle.rules.proofs.DownLaws.{each-at}
 use Rattle.rules.proofs.SoundLaws.{StoredSound, sound-stored}
 use Rattle.records.proofs.StepLaws.{RecordHere}
-use Rattle.detection.specs.Texts.{part, storedFrom, allSound, soundBodies, Before, TextIs, firstPlace, afterText, passedBy, Found}
+use Rattle.detection.specs.Texts.{part, storedFrom, nameAt, namesFrom, allSound, soundBodies, Before, TextIs, firstPlace, afterText, passedBy, Found}
 use Rattle.detection.specs.declared.texts.Place.{Place}
 use Rattle.detection.specs.declared.texts.Text.{Text}
 
@@ -42,7 +43,7 @@ all-sound (r ∷ rs) a name h =
     rw b (all-sound rs (r .kind) under (and-right (f && soundBody r && n) more h))
 
 pub before-first : (book : List ℕ) → sound book ≡ true → Before book firstPlace
-unfolding sound stored soundBodies filled storedOf storedFrom
+unfolding sound stored numberedFrom soundBodies filled storedOf storedFrom namesOf namesFrom
 before-first book h =
     let l = leb (length book) bookMost in
     let f = filled (recordsOf book) in
@@ -54,15 +55,20 @@ before-first book h =
       few = leb-true (length (stored book)) storedMost (and-right (l && f) m h);
       bodies = bodies (recordsOf book) (and-right l f (and-left (l && f) m h));
       texts = texts (recordsOf book);
+      names = λ second. names second (recordsOf book);
     }
   where
     bodies : (o : Option (List Record)) → filled o ≡ true → soundBodies o ≡ true
     bodies none h = h
     bodies (some rs) h = all-sound rs 0 [] h
 
-    texts : (o : Option (List Record)) → storedFrom 0 [] o ≡ storedOf o
+    texts : (o : Option (List Record)) → storedFrom 0 [] o ≡ storedOf 0 o
     texts none = refl
     texts (some rs) = refl
+
+    names : (second : Bool) (o : Option (List Record)) → namesFrom second 0 (nameAt second 0 0) o ≡ namesOf second o
+    names second none = refl
+    names second (some rs) = refl
 
 -- ---- one record, and what is left
 bodies-cons : (r : Record) (o : Option (List Record)) → soundBodies (also r o) ≡ true → (soundBody r ≡ true) × (soundBodies o ≡ true)
@@ -80,6 +86,14 @@ stored-cons : (n : ℕ) (name : List ℕ) (r : Record) (o : Option (List Record)
 unfolding storedFrom also storedIn soundBodies
 stored-cons n name r none h = absurd (false≢true h)
 stored-cons n name r (some rs) h = refl
+
+names-cons : (second : Bool) (place : ℕ) (p : Named) (r : Record) (o : Option (List Record)) → soundBodies o ≡ true →
+    namesFrom second place p (also r o) ≡
+    cond (storedKind (r .kind)) (p ∷ []) [] ++
+    namesFrom second (place + 6 + length (r .body)) (cond (eqb (r .kind) 1) (record { second = second; at = place + 6; len = length (r .body) }) p) o
+unfolding namesFrom also namesIn soundBodies
+names-cons second place p r none h = absurd (false≢true h)
+names-cons second place p r (some rs) h = refl
 
 table-known : (body : List ℕ) (o : Option (List Counted)) → soundTable body o ≡ true →
     (o ≡ some (tableIn body o .entries)) × (number 4 body ≡ tableIn body o .total) × (8 ≤ length body)
@@ -123,12 +137,35 @@ module _ (book : List ℕ) (p : Place) (b : Before book p) where
         sym (b .texts) ∙ ap (storedFrom (p .number) (part book (p .name) (p .past))) (h .is) ∙
         stored-cons (p .number) (part book (p .name) (p .past)) this left (sounds .1)
 
+    long : length (take len (drop start book)) ≡ len
+    long = length-take-le len (drop start book) (omega (arith, length-drop start book, h .fits))
+
+    -- where the names of the texts from here on stand
+    after-names : (second : Bool) → drop (p .number) (namesOf second (recordsOf book)) ≡
+        cond (storedKind kind) (nameAt second (p .name) (p .past) ∷ []) [] ++
+        namesFrom second (start + len) (cond (eqb kind 1) (nameAt second start (start + len)) (nameAt second (p .name) (p .past))) left
+    after-names second =
+        let name = nameAt second (p .name) (p .past) in
+        let n = length (take len (drop start book)) in
+        let k : len ≡ start + len - start = omega arith in
+        sym (b .names second) ∙ ap (namesFrom second (p .at) name) (h .is) ∙ names-cons second (p .at) name this left (sounds .1) ∙
+        ap (λ (s : ℕ). stands s n n) (h .begins) ∙ ap (λ (m : ℕ). stands start m m) long ∙ ap (stands start len) k
+      where
+        stands : ℕ → ℕ → ℕ → List Named
+        stands s l m =
+            cond (storedKind kind) (nameAt second (p .name) (p .past) ∷ []) [] ++
+            namesFrom second (s + l) (cond (eqb kind 1) (record { second = second; at = s; len = m }) (nameAt second (p .name) (p .past))) left
+
     pub before-next : storedKind kind ≡ false → Before book (passedBy p kind start (start + len))
     unfolding passedBy
     before-next q = at (eqb kind 1) refl
       where
         texts : storedFrom (p .number) (cond (eqb kind 1) (take len (drop start book)) (part book (p .name) (p .past))) left ≡ drop (p .number) (stored book)
         texts = sym (rw q at after)
+
+        names : (second : Bool) → namesFrom second (start + len) (cond (eqb kind 1) (nameAt second start (start + len)) (nameAt second (p .name) (p .past))) left ≡
+            drop (p .number) (namesOf second (recordsOf book))
+        names second = sym (rw q at (after-names second))
 
         at : (t : Bool) → eqb kind 1 ≡ t →
             Before book (cond t (record { number = p .number; at = start + len; name = start; past = start + len })
@@ -141,9 +178,18 @@ module _ (book : List ℕ) (p : Place) (b : Before book p) where
               few = b .few;
               bodies = sounds .1;
               texts = rw lent (rw e at texts);
+              names = λ second. rw e at (names second);
             }
         at false e =
-            record { at = h .fits; name = b .name; past = b .past; few = b .few; bodies = sounds .1; texts = rw e at texts }
+            record {
+              at = h .fits;
+              name = b .name;
+              past = b .past;
+              few = b .few;
+              bodies = sounds .1;
+              texts = rw e at texts;
+              names = λ second. rw e at (names second);
+            }
 
     module _ (q : storedKind kind ≡ true) (l : p .number < length (stored book)) where
       other : eqb kind 1 ≡ false
@@ -162,6 +208,19 @@ module _ (book : List ℕ) (p : Place) (b : Before book p) where
       rest =
           ap (λ (k : ℕ). storedFrom k (part book (p .name) (p .past)) left) (add-one (p .number)) ∙ sym (ap (drop 1) cons) ∙ drop-drop 1 (p .number) (stored book)
 
+      cons-names : (second : Bool) → drop (p .number) (namesOf second (recordsOf book)) ≡
+          nameAt second (p .name) (p .past) ∷ namesFrom second (start + len) (nameAt second (p .name) (p .past)) left
+      cons-names second = rw (q, other) at (after-names second)
+
+      first-name : (second : Bool) → getD (namesOf second (recordsOf book)) (p .number) noPart ≡ nameAt second (p .name) (p .past)
+      first-name second =
+          let all = namesOf second (recordsOf book) in
+          ap (λ (k : ℕ). getD all k noPart) (sym (add-zero (p .number))) ∙ sym (getD-drop (p .number) all 0 noPart) ∙
+          ap (λ (l : List Named). getD l 0 noPart) (cons-names second)
+
+      rest-names : (second : Bool) → namesFrom second (start + len) (nameAt second (p .name) (p .past)) left ≡ drop (p .number + 1) (namesOf second (recordsOf book))
+      rest-names second = sym (ap (drop 1) (cons-names second)) ∙ drop-drop 1 (p .number) (namesOf second (recordsOf book))
+
       abbrev here : Text
       here = record { number = p .number; kind = kind; name = p .name; past = p .past; body = start; end = start + len }
 
@@ -170,7 +229,7 @@ module _ (book : List ℕ) (p : Place) (b : Before book p) where
       found-here =
           let body = take len (drop start book) in
           let t = table-known body (entriesOf body) (rw q at (sounds .0)) in
-          let m : length body ≡ len = length-take-le len (drop start book) (omega (arith, length-drop start book, h .fits)) in
+          let m : length body ≡ len = long in
           record {
             is = rw first
                 (record {
@@ -187,7 +246,8 @@ module _ (book : List ℕ) (p : Place) (b : Before book p) where
                 });
             numbered = refl;
             below = omega (arith, b .few);
-            on = record { at = h .fits; name = b .name; past = b .past; few = b .few; bodies = sounds .1; texts = rest };
+            named = first-name;
+            on = record { at = h .fits; name = b .name; past = b .past; few = b .few; bodies = sounds .1; texts = rest; names = rest-names };
           }
 
       pub found-as : (k : ℕ) → p .number ≡ k → Found book k here
@@ -217,12 +277,7 @@ module _ (p : Place) (kind start end : ℕ) where
 pub found-at : {book : List ℕ} {k n : ℕ} {r : Text} → k ≡ n → Found book k r → Found book n r
 found-at {book} {k} {n} {r} e f = subst (λ (m : ℕ). Found book m r) e f
 
--- ---- what holds of each text; its name's length, in a sound book
-pub each-at : {A : Type 0} (P : A → Type 0) (l : List A) (k : ℕ) (d : A) → k < length l → Each P l → P (getD l k d)
-each-at P [] k d h e = absurd (not-suc-le-zero h)
-each-at P (x ∷ xs) zero d h e = e .0
-each-at P (x ∷ xs) (suc k) d h e = each-at P xs k d (le-of-suc-le-suc h) (e .1)
-
+-- ---- its name's length, in a sound book
 pub found-name : (book : List ℕ) (k : ℕ) (r : Text) → sound book ≡ true → k < length (stored book) → Found book k r →
     (1 ≤ r .past - r .name) × (r .past - r .name ≤ nameMost)
 found-name book k r h l f =

@@ -9,7 +9,8 @@ use lib.Dec.{eqb}
 use lib.ListN.{length, getD, take, drop}
 use Rattle.rules.specs.Sizes.{storedMost}
 use Rattle.rules.specs.Search.{Stored, noText}
-use Rattle.rules.specs.Book.{number, Record, recordsOf, entriesOf, soundTable, soundBody, storedIn, stored}
+use Rattle.rules.specs.Book.{number, Record, recordsOf, entriesOf, soundTable, soundBody, storedIn, stored, namesIn, noPart, namesOf}
+use Rattle.rules.specs.declared.Named.{Named}
 use Rattle.detection.specs.declared.texts.Place.{Place}
 use Rattle.detection.specs.declared.texts.Text.{Text}
 
@@ -21,6 +22,14 @@ part book from to = take (to - from) (drop from book)
 unfoldable pub storedFrom : ℕ → List ℕ → Option (List Record) → List Stored
 storedFrom n name none = []
 storedFrom n name (some rs) = storedIn n name rs
+
+-- the name book[from..to] of one of two books, and where the names of those texts stand, the next record at `place`
+abbrev pub nameAt : Bool → ℕ → ℕ → Named
+nameAt second from to = record { second = second; at = from; len = to - from }
+
+unfoldable pub namesFrom : Bool → ℕ → Named → Option (List Record) → List Named
+namesFrom second place p none = []
+namesFrom second place p (some rs) = namesIn second place p rs
 
 -- each of them has a sound body
 unfoldable pub allSound : List Record → Bool
@@ -39,6 +48,7 @@ pub record Before (book : List ℕ) (p : Place) : Type 0 where
   pub few : length (stored book) ≤ storedMost
   pub bodies : soundBodies (recordsOf (drop (p .at) book)) ≡ true
   pub texts : storedFrom (p .number) (part book (p .name) (p .past)) (recordsOf (drop (p .at) book)) ≡ drop (p .number) (stored book)
+  pub names : (second : Bool) → namesFrom second (p .at) (nameAt second (p .name) (p .past)) (recordsOf (drop (p .at) book)) ≡ drop (p .number) (namesOf second (recordsOf book))
 
 -- r is the stored text t: its table's body lent as a part gives t's table
 pub record TextIs (book : List ℕ) (t : Stored) (r : Text) : Type 0 where
@@ -64,9 +74,10 @@ passedBy p kind start end =
     cond (eqb kind 1) (record { number = p .number; at = end; name = start; past = end })
     (record { number = p .number; at = end; name = p .name; past = p .past })
 
--- r is stored text k, and the walk goes on after it
+-- r is stored text k, its name stands where the definition has it, and the walk goes on after it
 pub record Found (book : List ℕ) (k : ℕ) (r : Text) : Type 0 where
   pub is : TextIs book (getD (stored book) k noText) r
   pub numbered : r .number ≡ k
   pub below : k < storedMost
+  pub named : (second : Bool) → getD (namesOf second (recordsOf book)) k noPart ≡ nameAt second (r .name) (r .past)
   pub on : Before book (afterText r)

@@ -4,4 +4,5 @@
 pub mod bodies;
 pub mod check;
 pub mod names;
+pub mod shelf;
 pub mod texts;

@@ -14,10 +14,10 @@ use Rattle.rules.specs.declared.Bounded.{Bounded}
 use Rattle.rules.specs.Sizes.{linesMost}
 use Rattle.rules.specs.Lines.{lines}
 use Rattle.rules.specs.Search.{Stored, noText, bounds}
-use Rattle.rules.specs.Book.{stored}
 use Rattle.rules.specs.Count.{mostFor}
+use Rattle.rules.specs.Book.{shelved}
 use Rattle.rules.specs.Refusal.{refusal, ofView}
-use Rattle.rules.specs.Jobs.{lent, boundsJob, BoundsDone}
+use Rattle.rules.specs.Jobs.{lent, boundsFound, boundsJob, BoundsDone}
 use Rattle.rules.proofs.CountLaws.{rounds-least, bounds-count}
 use Rattle.rules.proofs.DownLaws.{bounds-in}
 use Rattle.license.specs.declared.Ranged.{Ranged}
@@ -63,29 +63,26 @@ module _ (ls : List (List ℕ)) (v : View) (s : Stored) (order : v .start ≤ v 
         paid : count ≤ 104 → 104 - (104 - count) ≡ count
         paid h = omega arith
 
--- ---- the two ends of the job
-module _ (t book : List ℕ) (v : View) (k : ℕ) (b₀ w₀ : List ℕ) where
-  abbrev number : ℕ
-  number = refusal (ofView t book v k (lent b₀ w₀))
+pub bounds-found : (t : List ℕ) (ss : List Stored) (ls : List (List ℕ)) (v : View) (k : ℕ) (x : Bounded) (order : v .start ≤ v .end) (inside : v .end ≤ linesMost) → ls ≡ lines t →
+    x ≡ answer ls v (getD ss k noText) order inside → x ≡ boundsFound t ss v k
+unfolding boundsFound
+bounds-found t ss ls v k x order inside l e = e ∙ rw l
 
-  pub bounds-refused : (n : ℕ) (x : Bounded) → n ≡ number → (n ≡ 0 → ⊥) → x ≡ refusedBy n → BoundsDone t book v k b₀ b₀ w₀ w₀ x
+-- ---- the two ends of the job
+module _ (t : List ℕ) (bs : List (List ℕ)) (v : View) (k : ℕ) (b₀ w₀ : List ℕ) where
+  abbrev number : ℕ
+  number = refusal (ofView t bs v k (lent b₀ w₀))
+
+  pub bounds-refused : (n : ℕ) (x : Bounded) → n ≡ number → (n ≡ 0 → ⊥) → x ≡ refusedBy n → BoundsDone t bs v k b₀ b₀ w₀ w₀ x
   unfolding boundsJob
   bounds-refused n x e q r =
-      let h : n ≤ 10 = omega (arith, view-most t book v k (lent b₀ w₀)) in
+      let h : n ≤ 10 = omega (arith, view-most t bs v k (lent b₀ w₀)) in
       rw r (record { answer = rw (← e, ne-eqb n 0 q); bytes = kept n b₀ q h; words = kept n w₀ q h })
 
-  pub bounds-found : (ls : List (List ℕ)) (x : Bounded) (order : v .start ≤ v .end) (inside : v .end ≤ linesMost) → number ≡ 0 → ls ≡ lines t →
-      x ≡ answer ls v (getD (stored book) k noText) order inside → x ≡ boundsJob t book v k (lent b₀ w₀)
-  unfolding boundsJob
-  bounds-found ls x order inside z l e = rw z (e ∙ rw l)
-
-  pub bounds-done : (b₁ b w₁ w : List ℕ) (x : Bounded) → number ≡ 0 → x ≡ boundsJob t book v k (lent b₀ w₀) →
+  pub bounds-done : (ss : List Stored) → shelved 0 bs ≡ ss → (b₁ b w₁ w : List ℕ) (x : Bounded) → number ≡ 0 → x ≡ boundsFound t ss v k →
       length b₁ ≡ length b₀ → b ≡ replicate (length b₁) 0 → length w₁ ≡ length w₀ → w ≡ replicate (length w₁) 0 →
-      BoundsDone t book v k b₀ b w₀ w x
-  unfolding boundsJob
-  bounds-done b₁ b w₁ w x z e l p m q =
-      let n = none in
-      record { answer = e; bytes = rw n (zeroed b₀ b₁ b l p); words = rw n (zeroed w₀ w₁ w m q) }
-    where
-      none : x .refusal ≡ 0
-      none = ap (λ (y : Bounded). y .refusal) e ∙ rw z
+      BoundsDone t bs v k b₀ b w₀ w x
+  unfolding boundsJob boundsFound
+  bounds-done ss s b₁ b w₁ w x z e l p m q =
+      let n : x .refusal ≡ 0 = ap (λ (y : Bounded). y .refusal) e in
+      record { answer = rw (z, s) e; bytes = rw n (zeroed b₀ b₁ b l p); words = rw n (zeroed w₀ w₁ w m q) }

@@ -15,20 +15,20 @@ use Rattle.rules.specs.declared.Value.{Value}
 use Rattle.rules.specs.Lines.{lines}
 use Rattle.rules.specs.Table.{Table, nought, viewTable, valueOf}
 use Rattle.rules.specs.Search.{Stored, noText, viewed, scored, scoreView}
-use Rattle.rules.specs.Book.{stored}
+use Rattle.rules.specs.Book.{shelved}
 use Rattle.rules.specs.Refusal.{refusal, ofView}
-use Rattle.rules.specs.Jobs.{lent, areaAfter, scoreJob, ScoreDone}
-use Rattle.detection.specs.declared.texts.Text.{Text}
-use Rattle.detection.specs.Texts.{part, TextIs}
+use Rattle.rules.specs.Jobs.{lent, scoreJob, ScoreDone}
+use Rattle.detection.specs.declared.shelf.Shelved.{Shelved}
+use Rattle.detection.specs.Shelves.{Shelf, texts, Stands, bodyIn, textIn}
+use Rattle.detection.proofs.ShelfLaws.{stands-text}
 use Rattle.license.specs.Ready.{tableOfBody}
-use Rattle.detect.specs.Bests.{textIn}
-use Rattle.detect.proofs.BestLaws.{text-is}
 use Rattle.refusals.proofs.AdmitLaws.{view-most}
 use Rattle.refusals.proofs.AreaLaws.{kept, zeroed}
 
-pub stored-table : (book : List ℕ) (s : Stored) (r : Text) → TextIs book s r → s .table ≡ tableOfBody (part book (r .body) (r .end))
+pub stored-table : (books : Shelf) (t : Shelved) (k : ℕ) → Stands books t → t .number ≡ k → getD (texts books) k noText .table ≡ tableOfBody (bodyIn books t)
 unfolding textIn tableOfBody
-stored-table book s r h = sym (ap (λ (x : Stored). x .table) (text-is book s r h))
+stored-table books t k h e =
+    ap (λ (n : ℕ). getD (texts books) n noText .table) (sym e) ∙ ap (λ (x : Stored). x .table) (stands-text books t h)
 
 -- ---- score
 pub score-is : (ls laid : List (List ℕ)) (v : View) (s : Stored) (t : Table) (body : List ℕ) (x : Value) → laid ≡ ls → t ≡ viewTable (viewed laid v) →
@@ -38,18 +38,18 @@ score-is ls laid v s t body x a b c d =
     ap (λ (y : Value). y .score)
     (d ∙ ap₂ (λ (f g : Table). valueOf f g) (b ∙ ap (λ (l : List (List ℕ)). viewTable (viewed l v)) a) (sym c))
 
-module _ (t book : List ℕ) (v : View) (k : ℕ) (b₀ w₀ : List ℕ) where
+module _ (t : List ℕ) (bs : List (List ℕ)) (v : View) (k : ℕ) (b₀ w₀ : List ℕ) where
   abbrev number : ℕ
-  number = refusal (ofView t book v k (lent b₀ w₀))
+  number = refusal (ofView t bs v k (lent b₀ w₀))
 
-  pub score-refused : (n : ℕ) → n ≡ number → (n ≡ 0 → ⊥) → ScoreDone t book v k b₀ b₀ w₀ w₀ (record { refusal = n; score = nought })
+  pub score-refused : (n : ℕ) → n ≡ number → (n ≡ 0 → ⊥) → ScoreDone t bs v k b₀ b₀ w₀ w₀ (record { refusal = n; score = nought })
   unfolding scoreJob
   score-refused n e q =
-      let h : n ≤ 10 = omega (arith, view-most t book v k (lent b₀ w₀)) in
+      let h : n ≤ 10 = omega (arith, view-most t bs v k (lent b₀ w₀)) in
       record { answer = rw (← e, ne-eqb n 0 q); bytes = kept n b₀ q h; words = kept n w₀ q h }
 
-  pub score-done : (b₁ b w₁ w : List ℕ) (x : Float) → number ≡ 0 → x ≡ scoreView (lines t) (getD (stored book) k noText) v .value .score →
+  pub score-done : (ss : List Stored) → shelved 0 bs ≡ ss → (b₁ b w₁ w : List ℕ) (x : Float) → number ≡ 0 → x ≡ scoreView (lines t) (getD ss k noText) v .value .score →
       length b₁ ≡ length b₀ → b ≡ replicate (length b₁) 0 → length w₁ ≡ length w₀ → w ≡ replicate (length w₁) 0 →
-      ScoreDone t book v k b₀ b w₀ w (record { refusal = 0; score = x })
+      ScoreDone t bs v k b₀ b w₀ w (record { refusal = 0; score = x })
   unfolding scoreJob
-  score-done b₁ b w₁ w x z e l p m q = record { answer = rw (z, e); bytes = zeroed b₀ b₁ b l p; words = zeroed w₀ w₁ w m q }
+  score-done ss s b₁ b w₁ w x z e l p m q = record { answer = rw (z, e, s); bytes = zeroed b₀ b₁ b l p; words = zeroed w₀ w₁ w m q }

@@ -2,10 +2,14 @@
 // From detection/license.rs of spdx 0.13.6 (Copyright 2018 Amazon.com, Inc. or its affiliates. All Rights Reserved.
 // SPDX-License-Identifier: Apache-2.0), changed: `optimize_bounds`, with refusals. Assumes nothing.
 ghost use mathlib.Core.Path.{_≡_};
-ghost use Rattle.rules.specs.Refusal.{refusal, ofView};
-ghost use Rattle.rules.specs.Jobs.{lent, boundsJob, BoundsDone};
+ghost use Rattle.detection.specs.Shelves.{shelf, texts, booksOf, Lends, Counted};
+ghost use Rattle.refusals.specs.Admits.{ViewThrough};
+ghost use mathlib.Core.List.{[], _∷_};
+ghost use Rattle.rules.specs.Jobs.{lent, boundsFound, BoundsDone};
 ghost use Rattle.jobs.specs.Answers.{refusedBy, answerFor, FitsAnswer};
-use detection::texts::stored_at;
+use detection::shelf::Counts;
+use detection::shelf::body_of;
+use detection::shelf::stored_on;
 use license::Ranged;
 use license::find_bounds;
 use license::notes::clear;
@@ -45,29 +49,71 @@ fn answer(ranged: Ranged, budget: u64) -> Bounded
 }
 
 // The work, of what is let through: the areas hold what it leaves. No note of 65,536 lines takes more than 104 scorings.
-pub fn bounds_laid(
+pub fn bounds_laid<'a>(
     text: &[u8],
-    book: &[u8],
+    book: &'a [u8],
+    second: &'a [u8],
+    counts: Counts,
     v: View,
     k: u32,
     area: &mut [u8],
     words: &mut [u32],
 ) -> Bounded
-    requires { ⌜ refusal (ofView (now text) (now book) v k (lent (now area) (now words))) ≡ 0 ⌝ }
-    ensures { λ r. ⌜ r ≡ boundsJob (now (text .entry)) (now (book .entry)) v k (lent (now (area .entry)) (now (words .entry))) ⌝ }
+    requires { ⌜ ViewThrough (now text) (shelf (now book) (now second)) v k (lent (now area) (now words)) ⌝ }
+    requires { ⌜ Counted (shelf (now book) (now second)) counts ⌝ }
+    ensures { λ r. ⌜ r ≡ boundsFound (now (text .entry)) (texts (shelf (now (book .entry)) (now (second .entry)))) v k ⌝ }
 {
     let class = class_table();
     let n = text.len();
     let lines = lay(&class, text, area, words);
-    let found = stored_at(book, k);
-    let start = found.body;
-    let end = found.end;
+    let found = stored_on(book, second, counts, k);
+    let body = body_of(book, second, found);
     let budget = 104;
-    let ranged = find_bounds(&class, area, words, n, lines, v, &book[start..end], budget);
+    let ranged = find_bounds(&class, area, words, n, lines, v, body, budget);
     answer(ranged, budget)
 }
 
-// Refusals 1 to 5 and 8 to 10, or the bounds. The areas are zero after an answer, and as they were after a refusal.
+// Over lent books, two or one: refusals 1 to 5 and 8 to 10, or the bounds. The areas are zero after an answer, and as they were after a refusal.
+fn bounds_lent<'a>(
+    text: &[u8],
+    book: &'a [u8],
+    second: &'a [u8],
+    two: bool,
+    v: View,
+    k: u32,
+    area: &mut [u8],
+    words: &mut [u32],
+) -> Bounded
+    requires { ⌜ Lends (shelf (now book) (now second)) two ⌝ }
+    ensures { λ r. ⌜ BoundsDone (now (text .entry)) (booksOf (shelf (now (book .entry)) (now (second .entry))) two) v k (now (area .entry)) (now (area .exit)) (now (words .entry)) (now (words .exit)) r ⌝ }
+{
+    let admitted = admit_view(text, book, second, two, v, k, area.len(), words.len());
+    let refusal = admitted.refusal;
+    if refusal != 0 {
+        return refused(refusal);
+    }
+    let counts = admitted.texts;
+    let bounded = bounds_laid(text, book, second, counts, v, k, area, words);
+    clear(area, words);
+    bounded
+}
+
+// Two books, whose texts count on from the first into the second.
+pub fn bounds_both<'a>(
+    text: &[u8],
+    book: &'a [u8],
+    second: &'a [u8],
+    v: View,
+    k: u32,
+    area: &mut [u8],
+    words: &mut [u32],
+) -> Bounded
+    ensures { λ r. ⌜ BoundsDone (now (text .entry)) (now (book .entry) ∷ now (second .entry) ∷ []) v k (now (area .entry)) (now (area .exit)) (now (words .entry)) (now (words .exit)) r ⌝ }
+{
+    bounds_lent(text, book, second, true, v, k, area, words)
+}
+
+// One book, refused by its own rows; below them nothing stands beside it.
 pub fn bounds_of(
     text: &[u8],
     book: &[u8],
@@ -76,14 +122,7 @@ pub fn bounds_of(
     area: &mut [u8],
     words: &mut [u32],
 ) -> Bounded
-    ensures { λ r. ⌜ BoundsDone (now (text .entry)) (now (book .entry)) v k (now (area .entry)) (now (area .exit)) (now (words .entry)) (now (words .exit)) r ⌝ }
+    ensures { λ r. ⌜ BoundsDone (now (text .entry)) (now (book .entry) ∷ []) v k (now (area .entry)) (now (area .exit)) (now (words .entry)) (now (words .exit)) r ⌝ }
 {
-    let admitted = admit_view(text, book, v, k, area.len(), words.len());
-    let refusal = admitted.refusal;
-    if refusal != 0 {
-        return refused(refusal);
-    }
-    let bounded = bounds_laid(text, book, v, k, area, words);
-    clear(area, words);
-    bounded
+    bounds_lent(text, book, &book[..0], false, v, k, area, words)
 }

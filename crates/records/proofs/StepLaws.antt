@@ -38,6 +38,7 @@ module _ {A : Type 0} (f : Form) (read : Piece → A) (s : List ℕ) (at : ℕ) 
 -- a whole record at `at`
 pub record RecordHere (s : List ℕ) (at kind start len : ℕ) : Type 0 where
   pub later : at < start + len
+  pub begins : at + 6 ≡ start
   pub fits : start + len ≤ length s
   pub is : recordsOf (drop at s) ≡ also (record { kind = kind; body = take len (drop start s) }) (recordsOf (drop (start + len) s))
 
@@ -56,6 +57,7 @@ record-here s at kind start len found = go (front recordForm (drop at s)) refl f
         let body = take len (drop start s) in
         record {
           later = omega (arith, h .begins);
+          begins = a;
           fits = h .fits;
           is = pieces-next recordForm recordOf s at (omega arith) start len h ∙
               ap (λ (m : ℕ). also (record { kind = m; body = body }) (pieces recordForm recordOf (drop (start + len) s)))

@@ -1,15 +1,16 @@
 -- Rows that are tried one after the other, and what is known of a text, a book, a view, settings and areas that are let through.
 --     check-texts, check-sound                   what `check` says of a book that it does not refuse
---     check-not, check-none, check-some          the answer of `check`, as the two rows of a book
+--     empty-checked                              and of an empty one
+--     checks-first, checks-second, checks-none, checks-some   the answers of `check` of both books, as the two rows of the lent books
 --     both-first, both-then                      refusals 1 to 5, then the others
 --     compile-most, view-most, scan-most         no refusal before any work is above 10
 --     compile-first, compile-then                compile: the text decides, then the areas
---     Through, CompileThrough, ViewThrough, ScanThrough   what holds where nothing is refused: `through` and its like
+--     through, compile-through, view-through, scan-through   what holds where nothing is refused
 -- Assumes nothing.
 use mathlib.Core.Path.{_≡_, refl, sym, ap, _∙_}
 use mathlib.Core.Bool.{Bool, true, false, not, _&&_, _||_, cond}
 use mathlib.Core.List.{List, [], _∷_, _++_}
-use Prim.Native.Nat.{ℕ, suc, _≤_, _<_}
+use Prim.Native.Nat.{ℕ, suc, _+_, _≤_, _<_}
 use native.Mathlib.Omega.{arith}
 use lib.Dec.{leb, ltb, eqb}
 use lib.ListN.{length}
@@ -18,20 +19,26 @@ use Rattle.rules.specs.declared.Limits.{Limits}
 use Rattle.rules.specs.declared.Mode.{Mode}
 use Rattle.rules.specs.declared.View.{View}
 use Rattle.rules.specs.declared.Checked.{Checked}
-use Rattle.rules.specs.Sizes.{textMost, linesMost, byteArea, wordArea}
+use Rattle.rules.specs.Sizes.{storedMost, textMost, linesMost, byteArea, wordArea}
 use Rattle.rules.specs.Bytes.{every}
 use Rattle.rules.specs.Lines.{lineCount}
 use Rattle.rules.specs.Book as Book
 use Rattle.rules.specs.Book.{stored}
-use Rattle.rules.specs.Refusal.{Row, row, refusal, Areas, small, ofText, ofBook, ofCheck, beforeCompile, ofView, beforeScan, unit, stepZero, resultsNeed}
+use Rattle.rules.specs.Search.{recurse, turns}
+use Rattle.rules.specs.Refusal.{Row, row, refusal, Areas, small, ofText, ofBooks, ofCheck, beforeCompile, ofView, beforeScan, unit, stepZero, resultsNeed}
 use Rattle.rules.specs.Jobs.{check, CheckDone}
+use Rattle.rules.proofs.SoundLaws.{sound-most}
+use Rattle.rules.proofs.ShelfLaws.{two-length}
 use Rattle.rules.proofs.BoolLaws.{and-left, and-right}
 use Rattle.rules.proofs.DownLaws.{Each}
 use Rattle.rules.proofs.RefusalLaws.{refusal-first, refusal-then, refusal-most}
 use Rattle.preproc_lines.specs.declared.test.Tested.{Tested}
 use Rattle.preproc_lines.specs.Counts.{AsTested}
+use Rattle.detection.specs.declared.shelf.Counts.{Counts}
+use Rattle.detection.specs.Shelves.{Shelf, booksOf, Lends, texts, Counted}
+use Rattle.detection.proofs.ShelfLaws.{lent-read}
 use Rattle.refusals.specs.declared.Admitted.{Admitted}
-use Rattle.refusals.specs.Admits.{Admits, AdmitsBoth, smallFor, viewRows, scanRows}
+use Rattle.refusals.specs.Admits.{Admits, AdmitsBooks, Through, ViewThrough, ScanThrough, smallFor, viewRows, scanRows}
 
 -- ---- rows
 -- a row that does not apply
@@ -42,6 +49,10 @@ row-passes n true rs h = absurd (none h)
     none : suc n ≡ 0 → ⊥
     none h = omega arith
 row-passes n false rs h = (refl, h)
+
+and-true : (b : Bool) → b && true ≡ b
+and-true true = refl
+and-true false = refl
 
 neither : (a b : Bool) → a || b ≡ false → (a ≡ false) × (b ≡ false)
 neither true b h = absurd (none h)
@@ -93,57 +104,99 @@ module _ (book : List ℕ) (c : Checked) (d : CheckDone book c) where
           none : _≡_ {A = ℕ} 4 0 → ⊥
           none e = omega arith
 
-  pub check-not : (c .refusal ≡ 0 → ⊥) → c .refusal ≡ refusal (ofBook book)
-  unfolding refusal ofCheck ofBook
-  check-not k = at (Book.sound book) check-number
+-- ---- the answers of `check` of both books, as the two rows of the lent books: a second that is not lent is empty, and so sound
+empty-sound : Book.sound [] ≡ true
+unfolding Book.sound Book.filled Book.stored Book.storedFrom Book.storedOf Book.storedIn Book.recordsOf Book.pieces recurse turns Book.goOn Book.front Book.soundRecords
+empty-sound = refl
+
+-- as `check` answers for it
+pub empty-checked : (book : List ℕ) → book ≡ [] → CheckDone book (record { refusal = 0; texts = 0 })
+unfolding check refusal ofCheck Book.sound Book.filled Book.stored Book.storedFrom Book.storedOf Book.storedIn Book.recordsOf Book.pieces recurse turns Book.goOn Book.front Book.soundRecords
+empty-checked book e = rw e (record { answer = refl })
+
+module _ (books : Shelf) (two : Bool) (lends : Lends books two) where
+  lent-sound : Book.allSound (booksOf books two) ≡ (Book.sound (books .first) && Book.sound (books .second))
+  unfolding Book.allSound
+  lent-sound = at two lends
     where
-      at : (s : Bool) → c .refusal ≡ cond (not s) 4 0 → c .refusal ≡ firstOf s (eqb (length (stored book)) 0)
+      at : (q : Bool) → Lends books q → Book.allSound (booksOf books q) ≡ (Book.sound (books .first) && Book.sound (books .second))
+      at true h = ap (λ (b : Bool). Book.sound (books .first) && b) (and-true (Book.sound (books .second)))
+      at false h = ap (λ (b : Bool). Book.sound (books .first) && b) (sym (ap Book.sound (h refl) ∙ empty-sound))
+
+  abbrev ofLent : ℕ
+  ofLent = refusal (ofBooks (booksOf books two))
+
+  books-are : ofLent ≡ firstOf (Book.sound (books .first) && Book.sound (books .second)) (eqb (length (texts books)) 0)
+  unfolding refusal ofBooks
+  books-are = rw (lent-sound, lent-read books two lends .texts)
+
+  -- a book that is refused is not sound
+  pub checks-first : (c : Checked) → CheckDone (books .first) c → (c .refusal ≡ 0 → ⊥) → c .refusal ≡ ofLent
+  unfolding refusal ofCheck
+  checks-first c x k = at (Book.sound (books .first)) (check-number (books .first) c x) ∙ sym books-are
+    where
+      at : (s : Bool) → c .refusal ≡ cond (not s) 4 0 → c .refusal ≡ firstOf (s && Book.sound (books .second)) (eqb (length (texts books)) 0)
       at true e = absurd (k e)
       at false e = e
 
-  pub check-none : c .refusal ≡ 0 → c .texts ≡ 0 → refusal (ofBook book) ≡ 5
-  unfolding refusal ofCheck ofBook
-  check-none z k = at (Book.sound book) (sym check-number ∙ z) (eq-eqb (length (stored book)) 0 (sym (check-texts z) ∙ k))
-    where
-      at : (s : Bool) → _≡_ {A = ℕ} (cond (not s) 4 0) 0 → eqb (length (stored book)) 0 ≡ true → firstOf s (eqb (length (stored book)) 0) ≡ 5
-      at true e q = rw q
-      at false e q = absurd (none e)
-        where
-          none : _≡_ {A = ℕ} 4 0 → ⊥
-          none e = omega arith
+  module _ (c d : Checked) (x : CheckDone (books .first) c) (y : CheckDone (books .second) d) (z : c .refusal ≡ 0) where
+    pub checks-second : (d .refusal ≡ 0 → ⊥) → d .refusal ≡ ofLent
+    unfolding refusal ofCheck
+    checks-second k = at (Book.sound (books .second)) (check-number (books .second) d y) ∙ sym books-are
+      where
+        at : (s : Bool) → d .refusal ≡ cond (not s) 4 0 → d .refusal ≡ firstOf (Book.sound (books .first) && s) (eqb (length (texts books)) 0)
+        at true e = absurd (k e)
+        at false e = rw (check-sound (books .first) c x z) e
 
-  pub check-some : c .refusal ≡ 0 → (c .texts ≡ 0 → ⊥) → refusal (ofBook book) ≡ 0
-  unfolding refusal ofCheck ofBook
-  check-some z k = at (Book.sound book) (sym check-number ∙ z) (ne-eqb (length (stored book)) 0 (λ e. k (check-texts z ∙ e)))
-    where
-      at : (s : Bool) → _≡_ {A = ℕ} (cond (not s) 4 0) 0 → eqb (length (stored book)) 0 ≡ false → firstOf s (eqb (length (stored book)) 0) ≡ 0
-      at true e q = rw q
-      at false e q = e
+    module _ (w : d .refusal ≡ 0) where
+      pub checks-counted : (n : ℕ) → n ≡ c .texts + d .texts → Counted books (record { first = c .texts; all = n })
+      checks-counted n e =
+          record {
+            sound-first = check-sound (books .first) c x z;
+            sound-second = check-sound (books .second) d y w;
+            first = check-texts (books .first) c x z;
+            all = omega (arith, check-texts (books .first) c x z, check-texts (books .second) d y w, two-length (books .first) (books .second));
+          }
+
+      pub checks-fit : (c .texts ≤ storedMost) × (d .texts ≤ storedMost)
+      checks-fit = (
+        omega (arith, check-texts (books .first) c x z, sound-most (books .first) (check-sound (books .first) c x z)),
+        omega (arith, check-texts (books .second) d y w, sound-most (books .second) (check-sound (books .second) d y w)),
+      )
+
+      rows-are : ofLent ≡ cond (eqb (length (texts books)) 0) 5 0
+      rows-are = books-are ∙ rw (check-sound (books .first) c x z, check-sound (books .second) d y w)
+
+      pub checks-none : c .texts + d .texts ≡ 0 → ofLent ≡ 5
+      checks-none k = rows-are ∙ rw (eq-eqb (length (texts books)) 0 (sym (checks-counted (c .texts + d .texts) refl .all) ∙ k))
+
+      pub checks-some : (c .texts + d .texts ≡ 0 → ⊥) → ofLent ≡ 0
+      checks-some k = rows-are ∙ rw (ne-eqb (length (texts books)) 0 (λ e. k (checks-counted (c .texts + d .texts) refl .all ∙ e)))
 
 -- ---- refusals 1 to 5, then the others
-module _ (t book : List ℕ) where
-  abbrev both : List Row
-  both = ofText t ++ ofBook book
+text-numbered : (t : List ℕ) → Each (λ r. (1 ≤ r .number) × (r .number ≤ 10)) (ofText t)
+unfolding ofText
+text-numbered t = omega arith
 
-  text-numbered : Each (λ r. (1 ≤ r .number) × (r .number ≤ 10)) (ofText t)
-  unfolding ofText
-  text-numbered = omega arith
+module _ (t : List ℕ) (books : Shelf) (two : Bool) where
+  abbrev both : List Row
+  both = ofText t ++ ofBooks (booksOf books two)
 
   both-numbered : Each (λ r. (1 ≤ r .number) × (r .number ≤ 10)) both
-  unfolding ofText ofBook
+  unfolding ofText ofBooks
   both-numbered = omega arith
 
   pub text-first : (refusal (ofText t) ≡ 0 → ⊥) → refusal (ofText t) ≡ refusal both
-  text-first k = sym (refusal-first (ofText t) (ofBook book) k)
+  text-first k = sym (refusal-first (ofText t) (ofBooks (booksOf books two)) k)
 
-  pub text-then : refusal (ofText t) ≡ 0 → refusal (ofBook book) ≡ refusal both
-  text-then z = sym (refusal-then (ofText t) (ofBook book) text-numbered z)
+  pub text-then : refusal (ofText t) ≡ 0 → refusal (ofBooks (booksOf books two)) ≡ refusal both
+  text-then z = sym (refusal-then (ofText t) (ofBooks (booksOf books two)) (text-numbered t) z)
 
-  pub both-refused : (n l x : ℕ) → n ≡ refusal both → (n ≡ 0 → ⊥) → AdmitsBoth t book (record { refusal = n; lines = l; texts = x })
+  pub both-refused : (n l : ℕ) (x : Counts) → n ≡ refusal both → (n ≡ 0 → ⊥) → AdmitsBooks t books two (record { refusal = n; lines = l; texts = x })
   both-refused n l x e k = record { number = e; lines = λ z. absurd (k z); texts = λ z. absurd (k z) }
 
-  module _ {a : Admitted} (h : AdmitsBoth t book a) (rest : List Row) where
-    pub both-first : (a .refusal ≡ 0 → ⊥) → Admits t book (both ++ rest) a
+  module _ {a : Admitted} (h : AdmitsBooks t books two a) (rest : List Row) where
+    pub both-first : (a .refusal ≡ 0 → ⊥) → Admits t books (both ++ rest) a
     both-first k =
         record {
           number = h .number ∙ sym (refusal-first both rest (λ e. k (h .number ∙ e)));
@@ -151,7 +204,7 @@ module _ (t book : List ℕ) where
           texts = h .texts;
         }
 
-    pub both-then : a .refusal ≡ 0 → (n : ℕ) → n ≡ refusal rest → Admits t book (both ++ rest) (record { refusal = n; lines = a .lines; texts = a .texts })
+    pub both-then : a .refusal ≡ 0 → (n : ℕ) → n ≡ refusal rest → Admits t books (both ++ rest) (record { refusal = n; lines = a .lines; texts = a .texts })
     both-then z n e =
         record {
           number = e ∙ sym (refusal-then both rest both-numbered (sym (h .number) ∙ z));
@@ -159,14 +212,14 @@ module _ (t book : List ℕ) where
           texts = λ _. h .texts z;
         }
 
--- ---- no number above those of the rows
-pub view-most : (t book : List ℕ) (v : View) (k : ℕ) (a : Areas) → refusal (ofView t book v k a) ≤ 10
-unfolding ofView ofText ofBook
-view-most t book v k a = refusal-most (ofView t book v k a) (omega arith)
+-- ---- no number above those of the rows, of any lent books
+pub view-most : (t : List ℕ) (bs : List (List ℕ)) (v : View) (k : ℕ) (a : Areas) → refusal (ofView t bs v k a) ≤ 10
+unfolding ofView ofText ofBooks
+view-most t bs v k a = refusal-most (ofView t bs v k a) (omega arith)
 
-pub scan-most : (t book : List ℕ) (lim : Limits) (mode : Mode) (a : Areas) (results : ℕ) → refusal (beforeScan t book lim mode a results) ≤ 10
-unfolding beforeScan ofText ofBook
-scan-most t book lim mode a results = refusal-most (beforeScan t book lim mode a results) (omega arith)
+pub scan-most : (t : List ℕ) (bs : List (List ℕ)) (lim : Limits) (mode : Mode) (a : Areas) (results : ℕ) → refusal (beforeScan t bs lim mode a results) ≤ 10
+unfolding beforeScan ofText ofBooks
+scan-most t bs lim mode a results = refusal-most (beforeScan t bs lim mode a results) (omega arith)
 
 -- ---- what holds where nothing is refused
 none-first : (rs qs : List Row) → refusal (rs ++ qs) ≡ 0 → refusal rs ≡ 0
@@ -176,25 +229,19 @@ none-first rs qs h = at (eqb (refusal rs) 0) refl
     at true q = eqb-true _ _ q
     at false q = let k = eqb-false (refusal rs) 0 q in absurd (k (sym (refusal-first rs qs k) ∙ h))
 
-pub record Through (t book : List ℕ) : Type 0 where
-  pub text : refusal (ofText t) ≡ 0
-  pub short : length t ≤ textMost
-  pub few : lineCount t ≤ linesMost
-  pub sound : Book.sound book ≡ true
-  pub some : 0 < length (stored book)
-
-pub through : (t book : List ℕ) → refusal (ofText t ++ ofBook book) ≡ 0 → Through t book
-unfolding ofBook
-through t book h =
-    let z = none-first (ofText t) (ofBook book) h in
+pub through : (t : List ℕ) (books : Shelf) (two : Bool) → Lends books two → refusal (ofText t ++ ofBooks (booksOf books two)) ≡ 0 → Through t books
+unfolding ofBooks
+through t books two lends h =
+    let all = Book.shelved 0 (booksOf books two) in
+    let z = none-first (ofText t) (ofBooks (booksOf books two)) h in
     let p = text-through t z in
-    let a = row-passes 3 (not (Book.sound book)) (row 5 (eqb (length (stored book)) 0) ∷ []) (text-then t book z ∙ h) in
-    let b = row-passes 4 (eqb (length (stored book)) 0) [] (a .1) in
-    let k = eqb-false (length (stored book)) 0 (b .0) in
-    record { text = z; short = p .short; few = p .few; sound = not-false _ (a .0); some = omega arith }
+    let a = row-passes 3 (not (Book.allSound (booksOf books two))) (row 5 (eqb (length all) 0) ∷ []) (text-then t books two z ∙ h) in
+    let b = row-passes 4 (eqb (length all) 0) [] (a .1) in
+    let k = eqb-false (length all) 0 (b .0) in
+    record { text = z; short = p .short; few = p .few; some = omega (arith, k, ap length (lent-read books two lends .texts)) }
 
-pub both-through : (t book : List ℕ) {a : Admitted} → AdmitsBoth t book a → a .refusal ≡ 0 → Through t book
-both-through t book h z = through t book (sym (h .number) ∙ z)
+pub both-through : (t : List ℕ) (books : Shelf) (two : Bool) → Lends books two → {a : Admitted} → AdmitsBooks t books two a → a .refusal ≡ 0 → Through t books
+both-through t books two lends h z = through t books two lends (sym (h .number) ∙ z)
 
 -- ---- compile
 module _ (t : List ℕ) (a : Areas) where
@@ -204,7 +251,7 @@ module _ (t : List ℕ) (a : Areas) where
 
   pub compile-then : refusal (ofText t) ≡ 0 → (b : Bool) → b ≡ smallFor (length t) a → cond b 10 0 ≡ refusal (beforeCompile t a)
   unfolding beforeCompile refusal small
-  compile-then z b e = ap (λ (q : Bool). cond q 10 0) e ∙ sym (refusal-then (ofText t) (row 10 (small t a) ∷ []) (text-numbered t []) z)
+  compile-then z b e = ap (λ (q : Bool). cond q 10 0) e ∙ sym (refusal-then (ofText t) (row 10 (small t a) ∷ []) (text-numbered t) z)
 
   pub compile-most : refusal (beforeCompile t a) ≤ 10
   unfolding beforeCompile ofText
@@ -219,36 +266,30 @@ module _ (t : List ℕ) (a : Areas) where
   unfolding beforeCompile small
   compile-through h =
       let z = none-first (ofText t) (row 10 (small t a) ∷ []) h in
-      let w = neither _ _ (row-passes 9 (small t a) [] (sym (refusal-then (ofText t) (row 10 (small t a) ∷ []) (text-numbered t []) z) ∙ h) .0) in
+      let w = neither _ _ (row-passes 9 (small t a) [] (sym (refusal-then (ofText t) (row 10 (small t a) ∷ []) (text-numbered t) z) ∙ h) .0) in
       record { text = z; bytes = ltb-false _ _ (w .0); words = ltb-false _ _ (w .1) }
 
 -- ---- a view
-module _ (t book : List ℕ) (v : View) (k : ℕ) (a : Areas) where
-  pub view-rows : ofView t book v k a ≡ (ofText t ++ ofBook book) ++ viewRows (length t) (lineCount t) (length (stored book)) v k a
-  unfolding ofView ofText ofBook viewRows small
-  view-rows = refl
+module _ (t : List ℕ) (books : Shelf) (two : Bool) (lends : Lends books two) (v : View) (k : ℕ) (a : Areas) where
+  pub view-rows : ofView t (booksOf books two) v k a ≡ (ofText t ++ ofBooks (booksOf books two)) ++ viewRows (length t) (lineCount t) (length (texts books)) v k a
+  unfolding ofView ofText ofBooks viewRows small
+  view-rows =
+      ap (λ (n : ℕ). (ofText t ++ ofBooks (booksOf books two)) ++ viewRows (length t) (lineCount t) n v k a) (ap length (lent-read books two lends .texts))
 
-pub record ViewThrough (t book : List ℕ) (v : View) (k : ℕ) (a : Areas) : Type 0 where
-  pub both : Through t book
-  pub start : v .start ≤ v .end
-  pub end : v .end ≤ lineCount t
-  pub number : k < length (stored book)
-  pub bytes : byteArea (length t) ≤ a .bytes
-  pub words : wordArea (length t) ≤ a .words
-
-pub view-through : (t book : List ℕ) (v : View) (k : ℕ) (a : Areas) → refusal (ofView t book v k a) ≡ 0 → ViewThrough t book v k a
+pub view-through : (t : List ℕ) (books : Shelf) (two : Bool) → Lends books two → (v : View) (k : ℕ) (a : Areas) → refusal (ofView t (booksOf books two) v k a) ≡ 0 →
+    ViewThrough t books v k a
 unfolding viewRows
-view-through t book v k a h =
-    let first = ofText t ++ ofBook book in
-    let rest = viewRows (length t) (lineCount t) (length (stored book)) v k a in
-    let e = ap refusal (sym (view-rows t book v k a)) ∙ h in
+view-through t books two lends v k a h =
+    let first = ofText t ++ ofBooks (booksOf books two) in
+    let rest = viewRows (length t) (lineCount t) (length (texts books)) v k a in
+    let e = ap refusal (sym (view-rows t books two lends v k a)) ∙ h in
     let z = none-first first rest e in
-    let x = row-passes 7 (not (leb (v .start) (v .end) && leb (v .end) (lineCount t))) _ (sym (refusal-then first rest (both-numbered t book) z) ∙ e) in
-    let y = row-passes 8 (leb (length (stored book)) k) _ (x .1) in
+    let x = row-passes 7 (not (leb (v .start) (v .end) && leb (v .end) (lineCount t))) _ (sym (refusal-then first rest (both-numbered t books two) z) ∙ e) in
+    let y = row-passes 8 (leb (length (texts books)) k) _ (x .1) in
     let w = neither _ _ (row-passes 9 (smallFor (length t) a) [] (y .1) .0) in
     let i = not-false _ (x .0) in
     record {
-      both = through t book z;
+      both = through t books two lends z;
       start = leb-true _ _ (and-left _ (leb (v .end) (lineCount t)) i);
       end = leb-true _ _ (and-right (leb (v .start) (v .end)) _ i);
       number = leb-false _ _ (y .0);
@@ -257,35 +298,26 @@ view-through t book v k a h =
     }
 
 -- ---- a scan
-module _ (t book : List ℕ) (lim : Limits) (mode : Mode) (a : Areas) (results : ℕ) where
-  pub scan-rows : beforeScan t book lim mode a results ≡ (ofText t ++ ofBook book) ++ scanRows (length t) (lineCount t) lim mode a results
-  unfolding beforeScan ofText ofBook scanRows small
+module _ (t : List ℕ) (books : Shelf) (two : Bool) (lim : Limits) (mode : Mode) (a : Areas) (results : ℕ) where
+  pub scan-rows : beforeScan t (booksOf books two) lim mode a results ≡ (ofText t ++ ofBooks (booksOf books two)) ++ scanRows (length t) (lineCount t) lim mode a results
+  unfolding beforeScan ofText ofBooks scanRows small
   scan-rows = refl
 
-pub record ScanThrough (t book : List ℕ) (lim : Limits) (mode : Mode) (a : Areas) (results : ℕ) : Type 0 where
-  pub both : Through t book
-  pub threshold : unit (lim .threshold) ≡ true
-  pub shallow : unit (lim .shallow) ≡ true
-  pub step : stepZero mode ≡ false
-  pub bytes : byteArea (length t) ≤ a .bytes
-  pub words : wordArea (length t) ≤ a .words
-  pub room : resultsNeed (lineCount t) mode ≤ results
-
-pub scan-through : (t book : List ℕ) (lim : Limits) (mode : Mode) (a : Areas) (results : ℕ) →
-    refusal (beforeScan t book lim mode a results) ≡ 0 → ScanThrough t book lim mode a results
+pub scan-through : (t : List ℕ) (books : Shelf) (two : Bool) → Lends books two → (lim : Limits) (mode : Mode) (a : Areas) (results : ℕ) →
+    refusal (beforeScan t (booksOf books two) lim mode a results) ≡ 0 → ScanThrough t books lim mode a results
 unfolding scanRows
-scan-through t book lim mode a results h =
-    let first = ofText t ++ ofBook book in
+scan-through t books two lends lim mode a results h =
+    let first = ofText t ++ ofBooks (booksOf books two) in
     let rest = scanRows (length t) (lineCount t) lim mode a results in
-    let e = ap refusal (sym (scan-rows t book lim mode a results)) ∙ h in
+    let e = ap refusal (sym (scan-rows t books two lim mode a results)) ∙ h in
     let z = none-first first rest e in
-    let x = row-passes 5 (not (unit (lim .threshold) && unit (lim .shallow))) _ (sym (refusal-then first rest (both-numbered t book) z) ∙ e) in
+    let x = row-passes 5 (not (unit (lim .threshold) && unit (lim .shallow))) _ (sym (refusal-then first rest (both-numbered t books two) z) ∙ e) in
     let y = row-passes 6 (stepZero mode) _ (x .1) in
     let w = neither _ _ (row-passes 9 (smallFor (length t) a || ltb results (resultsNeed (lineCount t) mode)) [] (y .1) .0) in
     let s = neither _ _ (w .0) in
     let i = not-false _ (x .0) in
     record {
-      both = through t book z;
+      both = through t books two lends z;
       threshold = and-left _ (unit (lim .shallow)) i;
       shallow = and-right (unit (lim .threshold)) _ i;
       step = y .0;

@@ -2,54 +2,82 @@
 // Added to spdx 0.13.6 (detection/scan.rs, Copyright 2018 Amazon.com, Inc. or its affiliates. All Rights Reserved.
 // SPDX-License-Identifier: Apache-2.0), which refuses nothing. Assumes nothing.
 ghost use mathlib.Core.Path.{_≡_};
-ghost use mathlib.Core.Bool.{_&&_, _||_};
+ghost use mathlib.Core.Bool.{false, _&&_, _||_};
+ghost use mathlib.Core.List.{[]};
 ghost use Prim.Native.Nat.{_≤_};
 ghost use lib.Dec.{ltb, leb};
 ghost use Rattle.rules.specs.Sizes.{byteArea, wordArea};
+ghost use Rattle.rules.specs.Jobs.{CheckDone};
 ghost use Rattle.rules.specs.Refusal.{refusal, beforeCompile, unit, stepZero, resultsNeed};
-ghost use Rattle.refusals.specs.Admits.{AdmitsBoth, AdmitsView, AdmitsScan, viewRows, scanRows};
+ghost use Rattle.detection.specs.Shelves.{shelf, Lends};
+ghost use Rattle.refusals.specs.Admits.{AdmitsBooks, AdmitsView, AdmitsScan, viewRows, scanRows};
 use detection::check::check_book;
+use detection::shelf::Counts;
 use preproc_lines::test::test_text;
+use rules::Checked;
 use rules::Limits;
 use rules::Mode;
 use rules::View;
 
-// What is refused, 0 for nothing; and where nothing is, L and N.
+// What is refused, 0 for nothing; and where nothing is, L and N, with the first book's.
 pub struct Admitted {
     pub refusal: u32,
     pub lines: usize,
-    pub texts: u32,
+    pub texts: Counts,
 }
 
-// Refusals 1 to 5: one walk over the text, and one over the book where the text is taken.
-fn admit_text_book(text: &[u8], book: &[u8]) -> Admitted
-    ensures { λ r. ⌜ AdmitsBoth (now (text .entry)) (now (book .entry)) r ⌝ }
+// What is refused, with nothing counted.
+fn refused(refusal: u32, lines: usize) -> Admitted
+    ensures { λ r. ⌜ r ≡ record { refusal = refusal; lines = lines; texts = record { first = 0; all = 0 } } ⌝ }
+{
+    let texts = Counts { first: 0, all: 0 };
+    Admitted {
+        refusal,
+        lines,
+        texts,
+    }
+}
+
+// The check of the second book, where there is one: one that is not lent is not looked at, and stores no text.
+fn check_second(second: &[u8], two: bool) -> Checked
+    requires { ⌜ (two ≡ false → now second ≡ []) ⌝ }
+    ensures { λ r. ⌜ CheckDone (now (second .entry)) r ⌝ }
+{
+    if two {
+        return check_book(second);
+    }
+    Checked {
+        refusal: 0,
+        texts: 0,
+    }
+}
+
+// Refusals 1 to 5, by the rows of the lent books, one or two: one walk over the text, and one over each book where the text is taken.
+fn admit_text_books(text: &[u8], book: &[u8], second: &[u8], two: bool) -> Admitted
+    requires { ⌜ Lends (shelf (now book) (now second)) two ⌝ }
+    ensures { λ r. ⌜ AdmitsBooks (now (text .entry)) (shelf (now (book .entry)) (now (second .entry))) two r ⌝ }
 {
     let tested = test_text(text);
     let lines = tested.lines;
     if tested.refusal != 0 {
-        return Admitted {
-            refusal: tested.refusal,
-            lines,
-            texts: 0,
-        };
+        return refused(tested.refusal, lines);
     }
-    let checked = check_book(book);
-    let texts = checked.texts;
-    if checked.refusal != 0 {
-        return Admitted {
-            refusal: checked.refusal,
-            lines,
-            texts,
-        };
+    let one = check_book(book);
+    if one.refusal != 0 {
+        return refused(one.refusal, lines);
     }
-    if texts == 0 {
-        return Admitted {
-            refusal: 5,
-            lines,
-            texts,
-        };
+    let other = check_second(second, two);
+    if other.refusal != 0 {
+        return refused(other.refusal, lines);
     }
+    let all = one.texts + other.texts;
+    if all == 0 {
+        return refused(5, lines);
+    }
+    let texts = Counts {
+        first: one.texts,
+        all,
+    };
     Admitted {
         refusal: 0,
         lines,
@@ -116,17 +144,27 @@ fn refuse_view(
     0
 }
 
-// Before the score or the bounds of a view against the stored text k, with work areas of so many bytes and words.
-pub fn admit_view(text: &[u8], book: &[u8], v: View, k: u32, bytes: usize, words: usize) -> Admitted
-    ensures { λ r. ⌜ AdmitsView (now (text .entry)) (now (book .entry)) v k (record { bytes = bytes; words = words }) r ⌝ }
+// Before the score or the bounds of a view against the stored text k, with work areas of so many bytes and words. `two`: the second book is lent.
+pub fn admit_view(
+    text: &[u8],
+    book: &[u8],
+    second: &[u8],
+    two: bool,
+    v: View,
+    k: u32,
+    bytes: usize,
+    words: usize,
+) -> Admitted
+    requires { ⌜ Lends (shelf (now book) (now second)) two ⌝ }
+    ensures { λ r. ⌜ AdmitsView (now (text .entry)) (shelf (now (book .entry)) (now (second .entry))) two v k (record { bytes = bytes; words = words }) r ⌝ }
 {
-    let both = admit_text_book(text, book);
+    let both = admit_text_books(text, book, second, two);
     if both.refusal != 0 {
         return both;
     }
     let lines = both.lines;
     let texts = both.texts;
-    let refusal = refuse_view(text.len(), lines, texts, v, k, bytes, words);
+    let refusal = refuse_view(text.len(), lines, texts.all, v, k, bytes, words);
     Admitted {
         refusal,
         lines,
@@ -205,19 +243,22 @@ fn refuse_scan(
     0
 }
 
-// Before a scan, with results of so many words.
+// Before a scan, with results of so many words. `two`: the second book is lent.
 pub fn admit_scan(
     text: &[u8],
     book: &[u8],
+    second: &[u8],
+    two: bool,
     lim: Limits,
     mode: Mode,
     bytes: usize,
     words: usize,
     results: usize,
 ) -> Admitted
-    ensures { λ r. ⌜ AdmitsScan (now (text .entry)) (now (book .entry)) lim mode (record { bytes = bytes; words = words }) results r ⌝ }
+    requires { ⌜ Lends (shelf (now book) (now second)) two ⌝ }
+    ensures { λ r. ⌜ AdmitsScan (now (text .entry)) (shelf (now (book .entry)) (now (second .entry))) two lim mode (record { bytes = bytes; words = words }) results r ⌝ }
 {
-    let both = admit_text_book(text, book);
+    let both = admit_text_books(text, book, second, two);
     if both.refusal != 0 {
         return both;
     }

@@ -72,23 +72,23 @@ compileCase t a out w =
 -- refusal and score bits
 scoreCase : List ℕ → List ℕ → View → ℕ → Areas → List ℕ → Case
 scoreCase t book v k a w =
-    let r = scoreJob t book v k a in
+    let r = scoreJob t (book ∷ []) v k a in
     record { got = r .refusal ∷ toBits binary32 (r .score) ∷ []; want = w }
 
 -- refusal, first line, line after last, score bits, count
 boundsCase : List ℕ → List ℕ → List ℕ → Case
 boundsCase t book w =
-    let r = boundsJob t book (wholeView t) 0 room in
+    let r = boundsJob t (book ∷ []) (wholeView t) 0 room in
     record { got = r .refusal ∷ r .first ∷ r .after ∷ toBits binary32 (r .score) ∷ r .count ∷ []; want = w }
 
 -- refusal, count, overall score bits, kind, the name's length and first two bytes, records; then the results area, 7 at entry
 scanCase : List ℕ → List ℕ → Limits → Mode → ℕ → Areas → ℕ → List ℕ → Case
 scanCase t book lim mode b a results w =
-    let r = scan t book lim mode b a results in
+    let r = scan t (book ∷ []) lim mode b a results in
     record {
       got =
           (r .refusal ∷ r .count ∷ toBits binary32 (r .score) ∷ r .kind ∷ r .len ∷ r .records ∷ []) ++
-          r .name ++ resultsAfter t book lim mode b a (replicate results 7);
+          r .name ++ resultsAfter t (book ∷ []) lim mode b a (replicate results 7);
       want = w;
     }
 

@@ -3,11 +3,12 @@
 -- Assumes nothing.
 use mathlib.Core.Path.{_≡_, refl, sym, ap, _∙_, subst}
 use Prim.Native.Nat.{ℕ, zero, suc, _+_, _-_, _≤_, _<_}
+use native.Mathlib.Nat.{not-suc-le-zero, le-of-suc-le-suc}
 use native.Mathlib.Omega.{arith}
 use mathlib.Core.Bool.{Bool, true, false, cond}
 use mathlib.Core.List.{List, [], _∷_, _++_, map}
 use mathlib.Core.Option.{Option, none, some}
-use lib.ListN.{length}
+use lib.ListN.{length, getD}
 use lib.Dec.{ltb}
 use lib.Ieee.{lt}
 use borrow.Author.Tests.{ltb-true, ltb-false}
@@ -25,6 +26,16 @@ Each P (x ∷ xs) = P x × Each P xs
 pub each-append : {A : Type 0} (P : A → Type 0) (xs ys : List A) → Each P xs → Each P ys → Each P (xs ++ ys)
 each-append P [] ys h k = k
 each-append P (x ∷ xs) ys h k = (h .0, each-append P xs ys (h .1) k)
+
+-- at each place, and from each place
+pub each-at : {A : Type 0} (P : A → Type 0) (l : List A) (k : ℕ) (d : A) → k < length l → Each P l → P (getD l k d)
+each-at P [] k d h e = absurd (not-suc-le-zero h)
+each-at P (x ∷ xs) zero d h e = e .0
+each-at P (x ∷ xs) (suc k) d h e = each-at P xs k d (le-of-suc-le-suc h) (e .1)
+
+pub each-of : {A : Type 0} (P : A → Type 0) (l : List A) (d : A) → ((k : ℕ) → k < length l → P (getD l k d)) → Each P l
+each-of P [] d f = tt
+each-of P (x ∷ xs) d f = (f 0 (omega arith), each-of P xs d (λ k h. f (suc k) (omega (arith, h))))
 
 each-map : {A B : Type 0} (P : B → Type 0) (f : A → B) (xs : List A) → Each (λ x. P (f x)) xs → Each P (map f xs)
 each-map P f [] h = tt

@@ -1,5 +1,6 @@
 pub mod Opened
 pub mod Cases
+pub mod BothCases
 pub mod ClassLaws
 pub mod BoolLaws
 pub mod Steps
@@ -19,4 +20,7 @@ pub mod ScanCountLaws
 pub mod DownLaws
 pub mod BudgetLaws
 pub mod SoundLaws
+pub mod ShelfLaws
 pub mod RefusalLaws
+pub mod VerdictLaws
+pub mod NameLaws

@@ -9,9 +9,9 @@ use Rattle.rules.specs.Table.{pairs, bigrams, tally, tallied, tableOf, v
 use Rattle.rules.specs.Search.{whole, viewed, blank, noText, scored, scoreView, turns, recurse, higher, sweepFrom, sweep, narrow, search, bounds, noBest, better, bestFrom, best}
 use Rattle.rules.specs.Scan.{after, names, stops, below, eachPass, elimination, stepsOn, steps, viewsOf, latest, settled, contained, andOn, downOn, downFrom, topDown, events, afford, scorings, records, verdict, numbers}
 use Rattle.rules.specs.Count.{enough, roundsOn, rounds, mostFor, mostElimination, mostTopDown}
-use Rattle.rules.specs.Book.{number, written, front, also, goOn, pieces, recordOf, recordsOf, placed, recordAt, nextPlace, entryOf, entriesOf, sum, term, twoTerms, soundEntries, soundTable, soundName, storedKind, soundBody, follows, soundRecords, tableIn, storedIn, storedOf, stored, filled, sound, entriesOut, tableOut, compiled}
-use Rattle.rules.specs.Refusal.{refusal, ofText, ofBook, small, ofCheck, beforeCompile, ofCompile, ofView, unit, stepZero, resultsNeed, overBudget, beforeScan, ofScan}
-use Rattle.rules.specs.Jobs.{areaAfter, over, check, compile, outputAfter, scoreJob, boundsJob, happened, named, scan, resultsAfter}
+use Rattle.rules.specs.Book.{number, written, front, also, goOn, pieces, recordOf, recordsOf, placed, recordAt, nextPlace, entryOf, entriesOf, sum, term, twoTerms, soundEntries, soundTable, soundName, storedKind, soundBody, follows, soundRecords, tableIn, storedIn, storedOf, storedFrom, stored, shelved, allSound, namesIn, namesOf, nameParts, filled, sound, entriesOut, tableOut, compiled}
+use Rattle.rules.specs.Refusal.{refusal, ofText, ofBooks, small, ofCheck, beforeCompile, ofCompile, ofView, unit, stepZero, resultsNeed, overBudget, beforeScan, ofScan}
+use Rattle.rules.specs.Jobs.{areaAfter, over, check, compile, outputAfter, scoreJob, boundsFound, boundsJob, happened, named, namePart, answered, scan, resultsAfter}
 use lib.Ieee.{div, ofInt, ofBits, toBits, lt, le}
 
 unfoldable pub opened : Unit {0}
@@ -25,8 +25,8 @@ unfolding
     whole viewed blank noText scored scoreView turns recurse higher sweepFrom sweep narrow search bounds noBest better bestFrom best
     after names stops below eachPass elimination stepsOn steps viewsOf latest settled contained andOn downOn downFrom topDown events afford scorings records verdict numbers
     enough roundsOn rounds mostFor mostElimination mostTopDown
-    number written front also goOn pieces recordOf recordsOf placed recordAt nextPlace entryOf entriesOf sum term twoTerms soundEntries soundTable soundName storedKind soundBody follows soundRecords tableIn storedIn storedOf stored filled sound entriesOut tableOut compiled
-    refusal ofText ofBook small ofCheck beforeCompile ofCompile ofView unit stepZero resultsNeed overBudget beforeScan ofScan
-    areaAfter over check compile outputAfter scoreJob boundsJob happened named scan resultsAfter
+    number written front also goOn pieces recordOf recordsOf placed recordAt nextPlace entryOf entriesOf sum term twoTerms soundEntries soundTable soundName storedKind soundBody follows soundRecords tableIn storedIn storedOf storedFrom stored shelved allSound namesIn namesOf nameParts filled sound entriesOut tableOut compiled
+    refusal ofText ofBooks small ofCheck beforeCompile ofCompile ofView unit stepZero resultsNeed overBudget beforeScan ofScan
+    areaAfter over check compile outputAfter scoreJob boundsFound boundsJob happened named namePart answered scan resultsAfter
     div ofInt ofBits toBits lt le
 opened = tt

@@ -14,10 +14,10 @@ use Rattle.rules.specs.declared.Mode.{Mode}
 use Rattle.rules.specs.Sizes.{textMost, linesMost}
 use Rattle.rules.specs.Bytes.{every, split}
 use Rattle.rules.specs.Lines.{line, lines, lineCount}
-use Rattle.rules.specs.Book.{stored, compiled}
+use Rattle.rules.specs.Book.{shelved, compiled}
 use Rattle.rules.specs.Scan.{Event, events, afford, scorings, records}
-use Rattle.rules.specs.Refusal.{Row, row, refusal, ofText, ofBook, Areas, beforeCompile, ofCompile, beforeScan, overBudget, ofScan}
-use Rattle.rules.specs.Jobs.{happened, scan}
+use Rattle.rules.specs.Refusal.{Row, row, refusal, ofText, ofBooks, Areas, beforeCompile, ofCompile, beforeScan, overBudget, ofScan}
+use Rattle.rules.specs.Jobs.{happened, answered, scan}
 use Rattle.rules.proofs.DownLaws.{Each}
 use Rattle.rules.proofs.BudgetLaws.{afford-count}
 
@@ -96,53 +96,53 @@ module _ (t : List ℕ) (a : Areas) where
   compile-fits out h = refusal-then (beforeCompile t a) (row 11 (ltb out (length (compiled t))) ∷ []) compile-numbered h
 
 -- ---- scan
-module _ (t book : List ℕ) (lim : Limits) (mode : Mode) (a : Areas) (results : ℕ) where
+module _ (t : List ℕ) (bs : List (List ℕ)) (lim : Limits) (mode : Mode) (a : Areas) (results : ℕ) where
   abbrev before : ℕ
-  before = refusal (beforeScan t book lim mode a results)
+  before = refusal (beforeScan t bs lim mode a results)
 
   -- the list of the full scan
   abbrev full : List Event
-  full = events lim mode (stored book) (lines t)
+  full = events lim mode (shelved 0 bs) (lines t)
 
-  scan-numbered : Numbered (beforeScan t book lim mode a results)
-  unfolding beforeScan ofText ofBook
+  scan-numbered : Numbered (beforeScan t bs lim mode a results)
+  unfolding beforeScan ofText ofBooks
   scan-numbered = omega arith
 
-  pub scan-before : (b : ℕ) → (before ≡ 0 → ⊥) → refusal (ofScan t book lim mode b a results) ≡ before
+  pub scan-before : (b : ℕ) → (before ≡ 0 → ⊥) → refusal (ofScan t bs lim mode b a results) ≡ before
   unfolding ofScan
-  scan-before b h = refusal-first (beforeScan t book lim mode a results) _ h
+  scan-before b h = refusal-first (beforeScan t bs lim mode a results) _ h
 
-  scan-then : (b : ℕ) → before ≡ 0 → refusal (ofScan t book lim mode b a results) ≡ cond (ltb b (length (scorings full))) 12 0
+  pub scan-then : (b : ℕ) → before ≡ 0 → refusal (ofScan t bs lim mode b a results) ≡ cond (ltb b (length (scorings full))) 12 0
   unfolding ofScan refusal overBudget
   scan-then b h =
-      refusal-then (beforeScan t book lim mode a results) (row 12 (ltb b (length (scorings full))) ∷ []) scan-numbered h
+      refusal-then (beforeScan t bs lim mode a results) (row 12 (ltb b (length (scorings full))) ∷ []) scan-numbered h
 
   -- 12 exactly if the list is longer than the budget
-  pub scan-over : (b : ℕ) → before ≡ 0 → b < length (scorings full) → refusal (ofScan t book lim mode b a results) ≡ 12
+  pub scan-over : (b : ℕ) → before ≡ 0 → b < length (scorings full) → refusal (ofScan t bs lim mode b a results) ≡ 12
   scan-over b h k = scan-then b h ∙ simp (lt-ltb b (length (scorings full)) k)
 
-  pub scan-paid : (b : ℕ) → before ≡ 0 → length (scorings full) ≤ b → refusal (ofScan t book lim mode b a results) ≡ 0
+  pub scan-paid : (b : ℕ) → before ≡ 0 → length (scorings full) ≤ b → refusal (ofScan t bs lim mode b a results) ≡ 0
   scan-paid b h k = scan-then b h ∙ simp (le-ltb b (length (scorings full)) k)
 
   -- what is not refused before any work happens as far as the budget pays
-  pub scan-happened : (b : ℕ) → before ≡ 0 → happened t book lim mode b a results ≡ afford b full
+  pub scan-happened : (b : ℕ) → before ≡ 0 → happened t bs lim mode b a results ≡ afford b full
   unfolding happened
   scan-happened b h = at (ltb b (length (scorings full))) (scan-then b h)
     where
       n : ℕ
-      n = refusal (ofScan t book lim mode b a results)
+      n = refusal (ofScan t bs lim mode b a results)
 
       at : (u : Bool) → n ≡ cond u 12 0 → cond (eqb n 0 || eqb n 12) (afford b full) [] ≡ afford b full
       at true q = simp q
       at false q = simp q
 
   -- count = min(budget, length of the list)
-  pub scan-count : (b : ℕ) → before ≡ 0 → scan t book lim mode b a results .count ≡ min b (length (scorings full))
-  unfolding scan
+  pub scan-count : (b : ℕ) → before ≡ 0 → scan t bs lim mode b a results .count ≡ min b (length (scorings full))
+  unfolding scan answered
   scan-count b h = ap (λ (es : List Event). length (scorings es)) (scan-happened b h) ∙ afford-count b full
 
   -- 12 only then: a refusal before any work is 1 to 10
-  pub scan-only : (b : ℕ) → refusal (ofScan t book lim mode b a results) ≡ 12 → (before ≡ 0) × (b < length (scorings full))
+  pub scan-only : (b : ℕ) → refusal (ofScan t bs lim mode b a results) ≡ 12 → (before ≡ 0) × (b < length (scorings full))
   scan-only b h = at (eqb before 0) refl
     where
       over : (u : Bool) → ltb b (length (scorings full)) ≡ u → _≡_ {A = ℕ} 12 (cond u 12 0) → b < length (scorings full)
@@ -156,7 +156,7 @@ module _ (t book : List ℕ) (lim : Limits) (mode : Mode) (a : Areas) (results :
       at true q =
           let z = eqb-true before 0 q in
           (z, over (ltb b (length (scorings full))) refl (sym h ∙ scan-then b z))
-      at false q = absurd (no (sym h ∙ scan-before b (eqb-false before 0 q)) (refusal-most (beforeScan t book lim mode a results) scan-numbered))
+      at false q = absurd (no (sym h ∙ scan-before b (eqb-false before 0 q)) (refusal-most (beforeScan t bs lim mode a results) scan-numbered))
         where
           no : 12 ≡ before → before ≤ 10 → ⊥
           no e l = omega arith

@@ -208,18 +208,18 @@ module _ (lim : Limits) (s : ℕ) (ss : List Stored) (ls : List (List ℕ)) (p :
   unfolding topDown
   topDown-records = down-within (length ls) 0 (omega arith) .1
 
--- ---- both limits, at the most that a scan is given, fit 64 bits
+-- ---- both limits, at the most that a scan of two books is given, fit 64 bits
 most-fits : (n : ℕ) → n ≤ linesMost → mostFor n ≤ 52
 unfolding mostFor
 most-fits n h = omega (arith, rounds-least n 24 (omega arith))
 
-elimination-fits : (N P L : ℕ) → N ≤ storedMost → P < 65_536 → L ≤ linesMost → mostElimination N P L < 2 ^ 64
+elimination-fits : (N P L : ℕ) → N ≤ 2 * storedMost → P < 65_536 → L ≤ linesMost → mostElimination N P L < 2 ^ 64
 unfolding mostElimination
 elimination-fits N P L h k l =
     let c = most-fits L l in
-    omega (arith, mul-le-mul {n₁ = P} {m₁ = N + 2 * mostFor L} {n₂ = 65_535} {m₂ = storedMost + 2 * 52} (omega arith) (omega arith))
+    omega (arith, mul-le-mul {n₁ = P} {m₁ = N + 2 * mostFor L} {n₂ = 65_535} {m₂ = 2 * storedMost + 2 * 52} (omega arith) (omega arith))
 
-topDown-fits : (N s L : ℕ) → N ≤ storedMost → L ≤ linesMost → mostTopDown N s L < 2 ^ 64
+topDown-fits : (N s L : ℕ) → N ≤ 2 * storedMost → L ≤ linesMost → mostTopDown N s L < 2 ^ 64
 unfolding mostTopDown
 topDown-fits N s L h l =
     let f = L / s in
@@ -227,11 +227,11 @@ topDown-fits N s L h l =
     let c = most-fits L l in
     let d = div-le-self L s in
     let t = mul-le-mul {n₁ = f + 1} {m₁ = f + 2} {n₂ = g + 1} {m₂ = g + 2} (omega arith) (omega arith) in
-    let v = mul-le-mul {n₁ = N} {m₁ = (f + 1) * (f + 2) / 2} {n₂ = storedMost} {m₂ = (g + 1) * (g + 2) / 2} h (omega arith) in
-    let r : N * ((f + 1) * (f + 2) / 2) + 2 * mostFor L ≤ storedMost * ((g + 1) * (g + 2) / 2) + 2 * 52 = omega arith in
+    let v = mul-le-mul {n₁ = N} {m₁ = (f + 1) * (f + 2) / 2} {n₂ = 2 * storedMost} {m₂ = (g + 1) * (g + 2) / 2} h (omega arith) in
+    let r : N * ((f + 1) * (f + 2) / 2) + 2 * mostFor L ≤ 2 * storedMost * ((g + 1) * (g + 2) / 2) + 2 * 52 = omega arith in
     omega (arith, mul-le-mul l r)
 
-pub count-fits : (N P s L : ℕ) → N ≤ storedMost → P < 65_536 → L ≤ linesMost →
+pub count-fits : (N P s L : ℕ) → N ≤ 2 * storedMost → P < 65_536 → L ≤ linesMost →
     (mostElimination N P L < 2 ^ 64) × (mostTopDown N s L < 2 ^ 64)
 count-fits N P s L h k l = (elimination-fits N P L h k l, topDown-fits N s L h l)
 

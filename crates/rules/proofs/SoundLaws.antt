@@ -17,7 +17,7 @@ use Rattle.rules.specs.Prefix.{Counted}
 use Rattle.rules.specs.Table.{Table}
 use Rattle.rules.specs.Search.{Stored, noText}
 use Rattle.rules.specs.Book
-use Rattle.rules.specs.Book.{number, Form, Piece, Front, front, recordForm, Record, recordOf, recordsOf, At, placed, recordAt, entriesOf, sum, soundEntries, soundTable, soundName, storedKind, soundBody, follows, soundRecords, tableIn, storedIn, storedOf, stored, filled, sound}
+use Rattle.rules.specs.Book.{number, Form, Piece, Front, front, recordForm, Record, recordOf, recordsOf, At, placed, recordAt, entriesOf, sum, soundEntries, soundTable, soundName, storedKind, soundBody, follows, soundRecords, tableIn, storedIn, storedOf, storedFrom, stored, filled, sound}
 use Rattle.rules.proofs.BoolLaws.{and-left, and-right, and-not}
 use Rattle.rules.proofs.Steps.{front-cut}
 use Rattle.rules.proofs.DownLaws.{Each, each-append}
@@ -48,7 +48,7 @@ pub record StoredSound (s : Stored) : Type 0 where
   pub total : s .table .total ≡ sum (s .table .entries)
   pub total-to : s .table .total ≤ totalMost
 
-within-from : (a b x : ℕ) → within a b x ≡ true → a ≤ x
+pub within-from : (a b x : ℕ) → within a b x ≡ true → a ≤ x
 unfolding within
 within-from a b x h = leb-true a x (and-left (leb a x) (leb x b) h)
 
@@ -176,15 +176,19 @@ sound-length book h = sound-parts book h .0
 pub sound-most : (book : List ℕ) → sound book ≡ true → length (stored book) ≤ storedMost
 sound-most book h = sound-parts book h .2
 
-pub sound-stored : (book : List ℕ) → sound book ≡ true → Each StoredSound (stored book)
-unfolding stored storedOf filled
-sound-stored book h = at (recordsOf book) (sound-parts book h .1)
+pub storedFrom-sound : (n : ℕ) (book : List ℕ) → sound book ≡ true → Each StoredSound (storedFrom n book)
+unfolding storedFrom storedOf filled
+storedFrom-sound n book h = at (recordsOf book) (sound-parts book h .1)
   where
-    at : (o : Option (List Record)) → filled o ≡ true → Each StoredSound (storedOf o)
+    at : (o : Option (List Record)) → filled o ≡ true → Each StoredSound (storedOf n o)
     at none k = tt
-    at (some rs) k = stored-each 0 0 [] rs k (λ l. absurd (not-suc-le-zero l))
+    at (some rs) k = stored-each n 0 [] rs k (λ l. absurd (not-suc-le-zero l))
 
--- texts are numbered from 0 in book order
+pub sound-stored : (book : List ℕ) → sound book ≡ true → Each StoredSound (stored book)
+unfolding stored
+sound-stored book h = storedFrom-sound 0 book h
+
+-- texts are numbered in book order
 storedIn-number : (n i : ℕ) (name : List ℕ) (rs : List Record) → i < length (storedIn n name rs) → getD (storedIn n name rs) i noText .number ≡ n + i
 unfolding storedIn
 storedIn-number n i name [] h = absurd (not-suc-le-zero h)
@@ -203,13 +207,17 @@ storedIn-number n i name (r ∷ rs) h = at (storedKind (r .kind)) i h (λ m j l.
     at true (suc i) l go = omega (arith, go (suc n) i (le-of-suc-le-suc l))
     at false i l go = go n i l
 
-pub stored-number : (book : List ℕ) (k : ℕ) → k < length (stored book) → getD (stored book) k noText .number ≡ k
-unfolding stored storedOf
-stored-number book k h = at (recordsOf book) h
+pub storedFrom-number : (n : ℕ) (book : List ℕ) (k : ℕ) → k < length (storedFrom n book) → getD (storedFrom n book) k noText .number ≡ n + k
+unfolding storedFrom storedOf
+storedFrom-number n book k h = at (recordsOf book) h
   where
-    at : (o : Option (List Record)) → k < length (storedOf o) → getD (storedOf o) k noText .number ≡ k
+    at : (o : Option (List Record)) → k < length (storedOf n o) → getD (storedOf n o) k noText .number ≡ n + k
     at none l = absurd (not-suc-le-zero l)
-    at (some rs) l = omega (arith, storedIn-number 0 k [] rs l)
+    at (some rs) l = storedIn-number n k [] rs l
+
+pub stored-number : (book : List ℕ) (k : ℕ) → k < length (stored book) → getD (stored book) k noText .number ≡ k
+unfolding stored
+stored-number book k h = omega (arith, storedFrom-number 0 book k h)
 
 -- ---- what is too large to compute: any book over its size, and any with a text too many, is unsound
 pub book-too-long : (book : List ℕ) → bookMost < length book → sound book ≡ false

@@ -11,6 +11,7 @@ use Rattle.rules.specs.Bytes.{within, lower, digit, every, rises, split}
 use Rattle.rules.specs.Prefix.{Counted}
 use Rattle.rules.specs.Table.{Table, viewTable}
 use Rattle.rules.specs.Lines.{lines}
+use Rattle.rules.specs.declared.Named.{Named}
 use Rattle.rules.specs.Search.{Stored, recurse}
 
 -- ---- numbers, little-endian
@@ -173,12 +174,15 @@ storedIn n name (r ∷ rs) =
     let under = cond (eqb (r .kind) 1) (r .body) name in
     cond (storedKind (r .kind)) (this ∷ []) [] ++ storedIn (cond (storedKind (r .kind)) (suc n) n) under rs
 
-unfoldable pub storedOf : Option (List Record) → List Stored
-storedOf none = []
-storedOf (some rs) = storedIn 0 [] rs
+unfoldable pub storedOf : ℕ → Option (List Record) → List Stored
+storedOf n none = []
+storedOf n (some rs) = storedIn n [] rs
+
+unfoldable pub storedFrom : ℕ → List ℕ → List Stored
+storedFrom n book = storedOf n (recordsOf book)
 
 unfoldable pub stored : List ℕ → List Stored
-stored book = storedOf (recordsOf book)
+stored book = storedFrom 0 book
 
 unfoldable pub filled : Option (List Record) → Bool
 filled none = false
@@ -186,6 +190,35 @@ filled (some rs) = soundRecords 0 [] rs
 
 unfoldable pub sound : List ℕ → Bool
 sound book = leb (length book) bookMost && filled (recordsOf book) && leb (length (stored book)) storedMost
+
+-- ---- lent books, one or two: texts count on from the first into the second
+unfoldable pub shelved : ℕ → List (List ℕ) → List Stored
+shelved n [] = []
+shelved n (b ∷ bs) = let ss = storedFrom n b in ss ++ shelved (n + length ss) bs
+
+unfoldable pub allSound : List (List ℕ) → Bool
+allSound [] = true
+allSound (b ∷ bs) = sound b && allSound bs
+
+-- where the name of each of these texts stands; `place`: where the next record starts, `p`: the name that it stands under
+unfoldable pub namesIn : Bool → ℕ → Named → List Record → List Named
+namesIn second place p [] = []
+namesIn second place p (r ∷ rs) =
+    let this : Named = record { second = second; at = place + 6; len = length (r .body) } in
+    let under = cond (eqb (r .kind) 1) this p in
+    cond (storedKind (r .kind)) (p ∷ []) [] ++ namesIn second (place + 6 + length (r .body)) under rs
+
+-- no name: the empty part at the first book's start
+abbrev pub noPart : Named
+noPart = record { second = false; at = 0; len = 0 }
+
+unfoldable pub namesOf : Bool → Option (List Record) → List Named
+namesOf second none = []
+namesOf second (some rs) = namesIn second 0 (record { second = second; at = 0; len = 0 }) rs
+
+unfoldable pub nameParts : Bool → List (List ℕ) → List Named
+nameParts second [] = []
+nameParts second (b ∷ bs) = namesOf second (recordsOf b) ++ nameParts true bs
 
 -- ---- compile: the table body of a text
 unfoldable pub entriesOut : List Counted → List ℕ

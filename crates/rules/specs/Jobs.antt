@@ -2,12 +2,13 @@
 -- Assumes nothing.
 use mathlib.Core.Path.{_≡_}
 use Prim.Native.Nat.{ℕ, _+_, _-_}
-use mathlib.Core.Bool.{Bool, _||_, cond}
+use mathlib.Core.Bool.{Bool, false, _||_, cond}
 use mathlib.Core.List.{List, [], _∷_, _++_}
 use lib.Dec.{eqb}
 use lib.ListN.{length, getD, drop, replicate}
 use Rattle.rules.specs.declared.Limits.{Limits}
 use Rattle.rules.specs.declared.Mode.{Mode}
+use Rattle.rules.specs.declared.Named.{Named}
 use Rattle.rules.specs.declared.Checked.{Checked}
 use Rattle.rules.specs.declared.Compiled.{Compiled}
 use Rattle.rules.specs.declared.Scored.{Scored}
@@ -18,7 +19,7 @@ use Rattle.rules.specs.Lines.{lines}
 use Rattle.rules.specs.Table.{nought, one}
 use Rattle.rules.specs.Search.{View, Stored, noText, Best, scoreView, bounds}
 use Rattle.rules.specs.Scan.{Event, events, afford, scorings, records, verdict, names, numbers}
-use Rattle.rules.specs.Book.{stored, compiled}
+use Rattle.rules.specs.Book.{stored, shelved, nameParts, noPart, compiled}
 use Rattle.rules.specs.Refusal.{refusal, Areas, ofCheck, ofCompile, ofView, ofScan}
 
 -- ---- lent memory
@@ -49,49 +50,62 @@ outputAfter t a out =
     cond (eqb n 0) new out
 
 -- ---- score a view against a stored text (gives the score)
-unfoldable pub scoreJob : List ℕ → List ℕ → View → ℕ → Areas → Scored
-scoreJob t book v k a =
-    let n = refusal (ofView t book v k a) in
-    let value = scoreView (lines t) (getD (stored book) k noText) v .value in
+unfoldable pub scoreJob : List ℕ → List (List ℕ) → View → ℕ → Areas → Scored
+scoreJob t bs v k a =
+    let n = refusal (ofView t bs v k a) in
+    let value = scoreView (lines t) (getD (shelved 0 bs) k noText) v .value in
     record { refusal = n; score = cond (eqb n 0) (value .score) nought }
 
 -- ---- find bounds (gives first line, line after last, score, count of scorings)
-unfoldable pub boundsJob : List ℕ → List ℕ → View → ℕ → Areas → Bounded
-boundsJob t book v k a =
-    let n = refusal (ofView t book v k a) in
-    let m = bounds (lines t) v (getD (stored book) k noText) in
+-- where nothing is refused, over the stored texts
+unfoldable pub boundsFound : List ℕ → List Stored → View → ℕ → Bounded
+boundsFound t ss v k =
+    let m = bounds (lines t) v (getD ss k noText) in
     let b = m .value in
-    let answer : Bounded = record { refusal = 0; first = b .first; after = b .after; score = b .value .score; count = length (m .list) } in
-    cond (eqb n 0) answer (record { refusal = n; first = 0; after = 0; score = nought; count = 0 })
+    record { refusal = 0; first = b .first; after = b .after; score = b .value .score; count = length (m .list) }
+
+unfoldable pub boundsJob : List ℕ → List (List ℕ) → View → ℕ → Areas → Bounded
+boundsJob t bs v k a =
+    let n = refusal (ofView t bs v k a) in
+    cond (eqb n 0) (boundsFound t (shelved 0 bs) v k) (record { refusal = n; first = 0; after = 0; score = nought; count = 0 })
 
 -- ---- scan
 -- what the budget leaves of the scan; nothing where it is refused for another reason
-unfoldable pub happened : List ℕ → List ℕ → Limits → Mode → ℕ → Areas → ℕ → List Event
-happened t book lim mode b a results =
-    let n = refusal (ofScan t book lim mode b a results) in
-    let es = afford b (events lim mode (stored book) (lines t)) in
+unfoldable pub happened : List ℕ → List (List ℕ) → Limits → Mode → ℕ → Areas → ℕ → List Event
+happened t bs lim mode b a results =
+    let n = refusal (ofScan t bs lim mode b a results) in
+    let es = afford b (events lim mode (shelved 0 bs) (lines t)) in
     cond (eqb n 0 || eqb n 12) es []
 
 -- the text that is named: no text where none is
 unfoldable pub named : Limits → Best → Stored
 named lim b = cond (names lim b) (b .text) noText
 
-unfoldable pub scan : List ℕ → List ℕ → Limits → Mode → ℕ → Areas → ℕ → Scanned
-scan t book lim mode b a results =
-    let es = happened t book lim mode b a results in
+-- where its name stands, as a part of the book that holds it: the empty part at the first book's start where none is, and no text has kind 0
+unfoldable pub namePart : List Named → Stored → Named
+namePart parts w = cond (eqb (w .kind) 0) noPart (getD parts (w .number) noPart)
+
+-- what is answered under the number n where `es` happened, over where the names of all stored texts stand
+unfoldable pub answered : ℕ → Limits → List Named → List Event → Scanned
+answered n lim parts es =
     let w = named lim (verdict es) in
     record {
-      refusal = refusal (ofScan t book lim mode b a results);
+      refusal = n;
       name = over (w .name) (replicate nameMost 0);
       len = length (w .name);
       kind = w .kind;
       score = verdict es .value .score;
       count = length (scorings es);
       records = length (records es);
+      part = namePart parts w;
     }
 
-unfoldable pub resultsAfter : List ℕ → List ℕ → Limits → Mode → ℕ → Areas → List ℕ → List ℕ
-resultsAfter t book lim mode b a old = over (numbers (records (happened t book lim mode b a (length old)))) old
+unfoldable pub scan : List ℕ → List (List ℕ) → Limits → Mode → ℕ → Areas → ℕ → Scanned
+scan t bs lim mode b a results =
+    answered (refusal (ofScan t bs lim mode b a results)) lim (nameParts false bs) (happened t bs lim mode b a results)
+
+unfoldable pub resultsAfter : List ℕ → List (List ℕ) → Limits → Mode → ℕ → Areas → List ℕ → List ℕ
+resultsAfter t bs lim mode b a old = over (numbers (records (happened t bs lim mode b a (length old)))) old
 
 -- ---- what each public call promises: its answer, and every lent area at exit
 abbrev pub lent : List ℕ → List ℕ → Areas
@@ -106,18 +120,18 @@ pub record CompileDone (t b₀ b w₀ w out₀ out : List ℕ) (a : Compiled) : 
   pub bytes : b ≡ areaAfter (a .refusal) b₀
   pub words : w ≡ areaAfter (a .refusal) w₀
 
-pub record ScoreDone (t book : List ℕ) (v : View) (k : ℕ) (b₀ b w₀ w : List ℕ) (a : Scored) : Type 0 where
-  pub answer : a ≡ scoreJob t book v k (lent b₀ w₀)
+pub record ScoreDone (t : List ℕ) (bs : List (List ℕ)) (v : View) (k : ℕ) (b₀ b w₀ w : List ℕ) (a : Scored) : Type 0 where
+  pub answer : a ≡ scoreJob t bs v k (lent b₀ w₀)
   pub bytes : b ≡ areaAfter (a .refusal) b₀
   pub words : w ≡ areaAfter (a .refusal) w₀
 
-pub record BoundsDone (t book : List ℕ) (v : View) (k : ℕ) (b₀ b w₀ w : List ℕ) (a : Bounded) : Type 0 where
-  pub answer : a ≡ boundsJob t book v k (lent b₀ w₀)
+pub record BoundsDone (t : List ℕ) (bs : List (List ℕ)) (v : View) (k : ℕ) (b₀ b w₀ w : List ℕ) (a : Bounded) : Type 0 where
+  pub answer : a ≡ boundsJob t bs v k (lent b₀ w₀)
   pub bytes : b ≡ areaAfter (a .refusal) b₀
   pub words : w ≡ areaAfter (a .refusal) w₀
 
-pub record ScanDone (t book : List ℕ) (lim : Limits) (mode : Mode) (budget : ℕ) (b₀ b w₀ w r₀ r : List ℕ) (a : Scanned) : Type 0 where
-  pub answer : a ≡ scan t book lim mode budget (lent b₀ w₀) (length r₀)
-  pub results : r ≡ resultsAfter t book lim mode budget (lent b₀ w₀) r₀
+pub record ScanDone (t : List ℕ) (bs : List (List ℕ)) (lim : Limits) (mode : Mode) (budget : ℕ) (b₀ b w₀ w r₀ r : List ℕ) (a : Scanned) : Type 0 where
+  pub answer : a ≡ scan t bs lim mode budget (lent b₀ w₀) (length r₀)
+  pub results : r ≡ resultsAfter t bs lim mode budget (lent b₀ w₀) r₀
   pub bytes : b ≡ areaAfter (a .refusal) b₀
   pub words : w ≡ areaAfter (a .refusal) w₀

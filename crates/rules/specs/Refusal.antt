@@ -14,7 +14,7 @@ use Rattle.rules.specs.Bytes.{every}
 use Rattle.rules.specs.Lines.{lines, lineCount}
 use Rattle.rules.specs.Table.{nought, one}
 use Rattle.rules.specs.Search.{View}
-use Rattle.rules.specs.Book.{sound, stored, compiled}
+use Rattle.rules.specs.Book.{sound, allSound, shelved, compiled}
 use Rattle.rules.specs.Scan.{events, scorings}
 
 pub record Row : Type 0 where
@@ -36,10 +36,11 @@ ofText t =
     row 2 (not (every (λ x. ltb x 128) t)) ∷
     row 3 (ltb linesMost (lineCount t)) ∷ []
 
-unfoldable pub ofBook : List ℕ → List Row
-ofBook book =
-    row 4 (not (sound book)) ∷
-    row 5 (eqb (length (stored book)) 0) ∷ []
+-- of all lent books: 4 of any, 5 only where none has a text
+unfoldable pub ofBooks : List (List ℕ) → List Row
+ofBooks bs =
+    row 4 (not (allSound bs)) ∷
+    row 5 (eqb (length (shelved 0 bs)) 0) ∷ []
 
 -- the lengths of the two lent work areas, in bytes and in u32
 pub record Areas : Type 0 where
@@ -61,11 +62,11 @@ unfoldable pub ofCompile : List ℕ → Areas → ℕ → List Row
 ofCompile t a out = beforeCompile t a ++ row 11 (ltb out (length (compiled t))) ∷ []
 
 -- ---- score, and bounds, of a view against the stored text k
-unfoldable pub ofView : List ℕ → List ℕ → View → ℕ → Areas → List Row
-ofView t book v k a =
-    ofText t ++ ofBook book ++
+unfoldable pub ofView : List ℕ → List (List ℕ) → View → ℕ → Areas → List Row
+ofView t bs v k a =
+    ofText t ++ ofBooks bs ++
     row 8 (not (leb (v .start) (v .end) && leb (v .end) (lineCount t))) ∷
-    row 9 (leb (length (stored book)) k) ∷
+    row 9 (leb (length (shelved 0 bs)) k) ∷
     row 10 (small t a) ∷ []
 
 -- ---- scan
@@ -82,17 +83,17 @@ unfoldable pub resultsNeed : ℕ → Mode → ℕ
 resultsNeed l (Elimination optimize p) = cond optimize (recordWidth * p) 0
 resultsNeed l (TopDown s) = recordWidth * l
 
-unfoldable pub overBudget : ℕ → Limits → Mode → List ℕ → List ℕ → Bool
-overBudget b lim mode t book = ltb b (length (scorings (events lim mode (stored book) (lines t))))
+unfoldable pub overBudget : ℕ → Limits → Mode → List ℕ → List (List ℕ) → Bool
+overBudget b lim mode t bs = ltb b (length (scorings (events lim mode (shelved 0 bs) (lines t))))
 
 -- with results of so many u32: what is refused before any work
-unfoldable pub beforeScan : List ℕ → List ℕ → Limits → Mode → Areas → ℕ → List Row
-beforeScan t book lim mode a results =
-    ofText t ++ ofBook book ++
+unfoldable pub beforeScan : List ℕ → List (List ℕ) → Limits → Mode → Areas → ℕ → List Row
+beforeScan t bs lim mode a results =
+    ofText t ++ ofBooks bs ++
     row 6 (not (unit (lim .threshold) && unit (lim .shallow))) ∷
     row 7 (stepZero mode) ∷
     row 10 (small t a || ltb results (resultsNeed (lineCount t) mode)) ∷ []
 
 -- with a budget of b scorings
-unfoldable pub ofScan : List ℕ → List ℕ → Limits → Mode → ℕ → Areas → ℕ → List Row
-ofScan t book lim mode b a results = beforeScan t book lim mode a results ++ row 12 (overBudget b lim mode t book) ∷ []
+unfoldable pub ofScan : List ℕ → List (List ℕ) → Limits → Mode → ℕ → Areas → ℕ → List Row
+ofScan t bs lim mode b a results = beforeScan t bs lim mode a results ++ row 12 (overBudget b lim mode t bs) ∷ []

@@ -67,8 +67,15 @@ pub struct Bounded {
     pub count: u64,
 }
 
+// Where a name stands: in the first or the second of the lent books, from which byte on, and how many bytes. No name: none, at the first's start.
+pub struct Named {
+    pub second: bool,
+    pub at: usize,
+    pub len: usize,
+}
+
 // The answer to `scan`: the licence's name, zero-filled, and its length; the kind that won, 0 where none is named;
-// the overall score, the count of scorings and the number of records.
+// the overall score, the count of scorings and the number of records; and where the name stands in the lent books.
 pub struct Scanned {
     pub refusal: u32,
     pub name: [u8; 64],
@@ -77,4 +84,5 @@ pub struct Scanned {
     pub score: f32,
     pub count: u64,
     pub records: u32,
+    pub part: Named,
 }

@@ -11,38 +11,40 @@ use Prim.Native.Nat.{ℕ, _-_, _*_, _≤_}
 use native.Mathlib.Omega.{arith}
 use lib.Ieee.{lt}
 use lib.ListN.{length, take}
+use borrow.Author.Tests.{ne-eqb}
 use Rattle.lists.specs.Wrote.{Wrote}
 use Rattle.rules.specs.declared.Limits.{Limits}
 use Rattle.rules.specs.declared.View.{View}
 use Rattle.rules.specs.Sizes.{recordWidth}
 use Rattle.rules.specs.Search as rules
 use Rattle.rules.specs.Search.{Made, Scoring, view, whole, noBest}
+use Rattle.rules.specs.Jobs.{namePart}
 use Rattle.rules.specs.Scan.{Event, overall, after, afford, verdict, names, stops, eachPass, elimination}
-use Rattle.rules.specs.Book.{stored, sound}
 use Rattle.rules.proofs.BudgetLaws.{afford-whole, afford-part}
+use Rattle.rules.proofs.VerdictLaws.{verdict-after}
 use Rattle.preproc_lines.specs.Entries.{linesAt}
 use Rattle.preproc_lines.proofs.EntryLaws.{lines-length}
 use Rattle.license.specs.Pay.{Paid, pay}
-use Rattle.detection.specs.declared.texts.Text.{Text}
+use Rattle.detection.specs.declared.shelf.Shelved.{Shelved}
+use Rattle.rules.specs.Book.{sound}
+use Rattle.detection.specs.declared.shelf.Counts.{Counts}
 use Rattle.detection.proofs.TextLaws.{found-name}
 use Rattle.detect.specs.declared.Best.{Best}
 use Rattle.detect.specs.declared.Chosen.the-variants as chosen
-use Rattle.detect.specs.Bests.{bestIn, chosenIn, Stands, ChosenStands, BestDone}
+use Rattle.detect.specs.Bests.{bestIn, chosenIn, ChosenStands, BestDone}
 use Rattle.detect.proofs.BestLaws.{noneYet, none-is}
+use Rattle.detection.specs.Shelves.{Shelf, texts, Stands, Counted, bookIn, textIn}
+use Rattle.detection.proofs.ShelfLaws.{stands-part}
 use Rattle.scan.specs.declared.ranges.Run.{Run}
 use Rattle.scan.specs.declared.ranges.Scope.{Scope}
 use Rattle.scan.specs.declared.elimination.Outcome.{Outcome}
 use Rattle.scan.specs.Run.{Scanning, written, leftOver, runOf, Ran}
 use Rattle.scan.specs.Ended.{NameFits, Eliminated}
+use Rattle.scan.proofs.ValueLaws.{stands-sound}
 use Rattle.scan.proofs.RunLaws.{paid-is, unpaid-is, paid-written, paid-left, overall-written, overall-left}
 use Rattle.scan.proofs.GoingLaws.{going-first, going-as, going-out, going-end}
 
 -- ---- the overall best
-pub verdict-after : (ss : List Scoring) (es : List Event) → verdict (after ss es) ≡ verdict es
-unfolding after verdict
-verdict-after [] es = refl
-verdict-after (s ∷ ss) es = verdict-after ss es
-
 module _ {A : Type 0} (m : Made A) (b : ℕ) where
   pub verdict-out : (es : List Event) → pay m b ≡ none → verdict (afford b (after (m .list) es)) ≡ noBest
   unfolding verdict
@@ -54,19 +56,30 @@ module _ {A : Type 0} (m : Made A) (b : ℕ) where
       ap verdict (afford-whole b (m .list) (overall x ∷ es) (paid-is m b p h .2)) ∙ verdict-after (m .list) (afford (b - length (m .list)) (overall x ∷ es))
 
 -- ---- names
-pub stands-name : {book : List ℕ} {t : Text} → sound book ≡ true → Stands book t → NameFits book t
-stands-name {book} {t} s h = record {
+book-sound : (books : Shelf) (c : Counts) (second : Bool) → Counted books c → sound (bookIn books second) ≡ true
+book-sound books c true h = h .sound-second
+book-sound books c false h = h .sound-first
+
+kind-from : (books : Shelf) (c : Counts) (t : Shelved) → Counted books c → Stands books t → 2 ≤ t .text .kind
+unfolding textIn
+kind-from books c t s h = stands-sound books c t s h .kind-from
+
+pub stands-name : {books : Shelf} {c : Counts} {t : Shelved} → Counted books c → Stands books t → NameFits books t
+unfolding namePart textIn
+stands-name {books} {c} {t} s h = record {
   order = h .found .is .name-from;
   high = h .found .is .name-to;
-  most = found-name book (t .number) t s (h .inside) (h .found) .1;
+  most = found-name (bookIn books (t .second)) (t .text .number) (t .text) (book-sound books c (t .second) s) (h .inside) (h .found) .1;
+  stands = rw (ne-eqb (t .text .kind) 0 (λ e. omega (arith, e, kind-from books c t s h))) (stands-part books t h);
 }
 
-pub none-name : (book : List ℕ) → NameFits book (noneYet .text)
-none-name book = record { order = omega arith; high = omega arith; most = omega arith }
+pub none-name : (books : Shelf) → NameFits books (noneYet .text)
+unfolding namePart textIn
+none-name books = record { order = omega arith; high = omega arith; most = omega arith; stands = refl }
 
 -- ---- the whole
-module _ {scope : Scope} {class area₀ words₀ book : List ℕ} (s : Scanning scope class area₀ words₀ book) (optimize : Bool) (p budget : ℕ) (r₀ : List ℕ)
-    (room : length (written budget (elimination (scope .limits) optimize p (stored book) (linesAt area₀ words₀ (scope .lines)))) ≤ length r₀) where
+module _ {scope : Scope} {class area₀ words₀ : List ℕ} {books : Shelf} (s : Scanning scope class area₀ words₀ books) (optimize : Bool) (p budget : ℕ) (r₀ : List ℕ)
+    (room : length (written budget (elimination (scope .limits) optimize p (texts books) (linesAt area₀ words₀ (scope .lines)))) ≤ length r₀) where
   abbrev lim : Limits
   lim = scope .limits
 
@@ -74,90 +87,90 @@ module _ {scope : Scope} {class area₀ words₀ book : List ℕ} (s : Scanning 
   ls = linesAt area₀ words₀ (scope .lines)
 
   abbrev made : Made rules.Best
-  made = rules.best (stored book) ls (whole ls)
+  made = rules.best (texts books) ls (whole ls)
 
   abbrev pub all : List Event
-  all = elimination lim optimize p (stored book) ls
+  all = elimination lim optimize p (texts books) ls
 
   abbrev more : rules.Best → List Event
-  more b = cond (stops lim b || not optimize) [] (eachPass lim (stored book) p ls b)
+  more b = cond (stops lim b || not optimize) [] (eachPass lim (texts books) p ls b)
 
   split : all ≡ after (made .list) (overall (made .value) ∷ more (made .value))
   unfolding elimination
   split = refl
 
   -- the best of the whole, as the code asks it
-  asked : (v : View) → v ≡ view 0 (scope .lines) → rules.best (stored book) ls v ≡ made
+  asked : (v : View) → v ≡ view 0 (scope .lines) → rules.best (texts books) ls v ≡ made
   unfolding whole linesAt
-  asked v e = ap (rules.best (stored book) ls) (e ∙ ap (view 0) (sym (lines-length area₀ words₀ 0 (scope .lines))))
+  asked v e = ap (rules.best (texts books) ls) (e ∙ ap (view 0) (sym (lines-length area₀ words₀ 0 (scope .lines))))
 
   module _ {area words : List ℕ} (v : View) (e : v ≡ view 0 (scope .lines)) where
-    pub whole-out : (x : Outcome) → BestDone (scope .n) (scope .lines) area₀ words₀ area words v book budget chosen.Out → x .best ≡ noneYet → x .run ≡ runOf 0 none →
-        Eliminated all budget book r₀ r₀ x
+    pub whole-out : (x : Outcome) → BestDone (scope .n) (scope .lines) area₀ words₀ area words v books budget chosen.Out → x .best ≡ noneYet → x .run ≡ runOf 0 none →
+        Eliminated all budget books r₀ r₀ x
     unfolding chosenIn
     whole-out x d b q =
         let out : pay made budget ≡ none = ap (λ (m : Made rules.Best). pay m budget) (sym (asked v e)) ∙ sym (d .is) in
         record {
-          best = ap (bestIn book) b ∙ none-is book ∙ sym (ap (λ (es : List Event). verdict (afford budget es)) split ∙ verdict-out made budget _ out);
-          name = subst (λ (y : Best). NameFits book (y .text)) (sym b) (none-name book);
+          best = ap (bestIn books) b ∙ none-is books ∙ sym (ap (λ (es : List Event). verdict (afford budget es)) split ∙ verdict-out made budget _ out);
+          name = subst (λ (y : Best). NameFits books (y .text)) (sym b) (none-name books);
           ran = going-out made (overall (made .value) ∷ more (made .value)) (x .run) out q (going-as split (going-first all budget r₀ room));
         }
 
-    module _ (best : Best) (left : ℕ) (d : BestDone (scope .n) (scope .lines) area₀ words₀ area words v book budget (chosen.Found best left)) where
-      paid : pay made budget ≡ some (record { value = bestIn book best; left = left })
+    module _ (best : Best) (left : ℕ) (d : BestDone (scope .n) (scope .lines) area₀ words₀ area words v books budget (chosen.Found best left)) where
+      paid : pay made budget ≡ some (record { value = bestIn books best; left = left })
       unfolding chosenIn
       paid = ap (λ (m : Made rules.Best). pay m budget) (sym (asked v e)) ∙ sym (d .is)
 
-      is : made .value ≡ bestIn book best
-      is = sym (paid-is made budget (record { value = bestIn book best; left = left }) paid .0)
+      is : made .value ≡ bestIn books best
+      is = sym (paid-is made budget (record { value = bestIn books best; left = left }) paid .0)
 
-      pub best-stands : Stands book (best .text)
+      pub best-stands : Stands books (best .text)
       unfolding ChosenStands
       best-stands = d .stands (s .some-text)
 
       -- what follows the best
-      then : all ≡ after (made .list) (overall (bestIn book best) ∷ more (bestIn book best))
+      then : all ≡ after (made .list) (overall (bestIn books best) ∷ more (bestIn books best))
       then = split ∙ ap (λ (b : rules.Best). after (made .list) (overall b ∷ more b)) is
 
-      writes : written budget all ≡ written left (more (bestIn book best))
+      writes : written budget all ≡ written left (more (bestIn books best))
       writes =
-          ap (written budget) then ∙ paid-written made budget (overall (bestIn book best) ∷ more (bestIn book best)) (record { value = bestIn book best; left = left }) paid ∙
-          overall-written left (bestIn book best) (more (bestIn book best))
+          ap (written budget) then ∙ paid-written made budget (overall (bestIn books best) ∷ more (bestIn books best)) (record { value = bestIn books best; left = left }) paid ∙
+          overall-written left (bestIn books best) (more (bestIn books best))
 
-      leaves : leftOver budget all ≡ leftOver left (more (bestIn book best))
+      leaves : leftOver budget all ≡ leftOver left (more (bestIn books best))
       leaves =
-          ap (leftOver budget) then ∙ paid-left made budget (overall (bestIn book best) ∷ more (bestIn book best)) (record { value = bestIn book best; left = left }) paid ∙
-          overall-left left (bestIn book best) (more (bestIn book best))
+          ap (leftOver budget) then ∙ paid-left made budget (overall (bestIn books best) ∷ more (bestIn books best)) (record { value = bestIn books best; left = left }) paid ∙
+          overall-left left (bestIn books best) (more (bestIn books best))
 
       -- a run of what follows is a run of the whole
-      ended-as : {r : List ℕ} (x : Outcome) → x .best ≡ best → Ran (more (bestIn book best)) left r₀ r (x .run) → Eliminated all budget book r₀ r x
+      ended-as : {r : List ℕ} (x : Outcome) → x .best ≡ best → Ran (more (bestIn books best)) left r₀ r (x .run) → Eliminated all budget books r₀ r x
       ended-as {r} x b a = record {
-        best = ap (bestIn book) b ∙ sym (ap (λ (es : List Event). verdict (afford budget es)) then ∙
-            verdict-paid made budget (record { value = bestIn book best; left = left }) (bestIn book best) (more (bestIn book best)) paid);
-        name = subst (λ (y : Best). NameFits book (y .text)) (sym b) (stands-name (s .sound) best-stands);
+        best = ap (bestIn books) b ∙ sym (ap (λ (es : List Event). verdict (afford budget es)) then ∙
+            verdict-paid made budget (record { value = bestIn books best; left = left }) (bestIn books best) (more (bestIn books best)) paid);
+        name = subst (λ (y : Best). NameFits books (y .text)) (sym b) (stands-name (s .counted) best-stands);
         ran = record {
           wrote = subst (λ (l : List ℕ). Wrote l r₀ (recordWidth * x .run .records) r) (sym writes) (a .wrote);
           run = a .run ∙ ap (runOf (x .run .records)) (sym leaves);
         };
       }
 
-      pub whole-stop : (x : Outcome) → stops lim (bestIn book best) || not optimize ≡ true → x .best ≡ best → x .run ≡ runOf 0 (some left) → Eliminated all budget book r₀ r₀ x
+      pub whole-stop : (x : Outcome) → stops lim (bestIn books best) || not optimize ≡ true → x .best ≡ best → x .run ≡ runOf 0 (some left) → Eliminated all budget books r₀ r₀ x
       whole-stop x t b q =
-          ended-as x b (going-end (x .run) q (going-as (none-more t) (going-first (more (bestIn book best)) left r₀ (subst (λ (l : List ℕ). length l ≤ length r₀) writes room))))
+          ended-as x b (going-end (x .run) q (going-as (none-more t) (going-first (more (bestIn books best)) left r₀ (subst (λ (l : List ℕ). length l ≤ length r₀) writes room))))
         where
-          none-more : stops lim (bestIn book best) || not optimize ≡ true → more (bestIn book best) ≡ []
+          none-more : stops lim (bestIn books best) || not optimize ≡ true → more (bestIn books best) ≡ []
           none-more t = rw t
 
-      module _ (t : stops lim (bestIn book best) || not optimize ≡ false) where
+      module _ (t : stops lim (bestIn books best) || not optimize ≡ false) where
         -- the passes, over the areas as they stand
-        passes : more (bestIn book best) ≡ eachPass lim (stored book) p (linesAt area words (scope .lines)) (bestIn book best)
-        passes = rw t (ap (λ (ms : List (List ℕ)). eachPass lim (stored book) p ms (bestIn book best)) (sym (d .held .same)))
+        passes : more (bestIn books best) ≡ eachPass lim (texts books) p (linesAt area words (scope .lines)) (bestIn books best)
+        passes = rw t (ap (λ (ms : List (List ℕ)). eachPass lim (texts books) p ms (bestIn books best)) (sym (d .held .same)))
 
-        pub whole-room : length (written left (eachPass lim (stored book) p (linesAt area words (scope .lines)) (bestIn book best))) ≤ length r₀
+        pub whole-room : length (written left (eachPass lim (texts books) p (linesAt area words (scope .lines)) (bestIn books best))) ≤ length r₀
         whole-room = subst (λ (l : List ℕ). length l ≤ length r₀) (writes ∙ ap (written left) passes) room
 
-        pub whole-on : {r : List ℕ} (x : Outcome) → x .best ≡ best → Ran (eachPass lim (stored book) p (linesAt area words (scope .lines)) (bestIn book best)) left r₀ r (x .run) →
-            Eliminated all budget book r₀ r x
+        pub whole-on : {r : List ℕ} (x : Outcome) → x .best ≡ best → Ran (eachPass lim (texts books) p (linesAt area words (scope .lines)) (bestIn books best)) left r₀ r (x .run) →
+            Eliminated all budget books r₀ r x
         whole-on {r} x b a = ended-as x b (subst (λ (es : List Event). Ran es left r₀ r (x .run)) (sym passes) a)
 
 -- ---- whether passes follow

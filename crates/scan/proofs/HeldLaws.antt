@@ -17,8 +17,8 @@ use Rattle.preproc_lines.specs.Entries.{linesAt}
 use Rattle.license.specs.declared.Ranged.the-variants as ranged
 use Rattle.license.specs.Pay.{Paid, rangedOf}
 use Rattle.license.specs.Ready.{Laid, Held}
-use Rattle.detection.specs.declared.texts.Text.{Text}
-use Rattle.detect.specs.Bests.{textIn, Stands}
+use Rattle.detection.specs.declared.shelf.Shelved.{Shelved}
+use Rattle.detection.specs.Shelves.{Shelf, textIn, Stands}
 use Rattle.scan.specs.declared.ranges.Scope.{Scope}
 use Rattle.scan.specs.Run.{Scanning, RangeFits}
 use Rattle.scan.proofs.ValueLaws.{bounds-unit, stands-sound}
@@ -38,26 +38,25 @@ range-found (some p) x left e =
     simp (sym v, sym l)
 
 -- ---- bounds lie in their view, and score from 0.0 to 1.0
-pub fits-of : {scope : Scope} {class area words book : List ℕ} → Scanning scope class area words book → (v : View) (t : Text) → v .start ≤ v .end → v .end ≤ scope .lines →
-    Stands book t → (range : Bounds) → bounds (linesAt area words (scope .lines)) v (textIn book t) .value ≡ range → RangeFits (scope .lines) range
-fits-of {scope} {class} {area} {words} {book} s v t order high stands range is =
+pub fits-of : {scope : Scope} {class area words : List ℕ} {books : Shelf} → Scanning scope class area words books → (v : View) (t : Shelved) → v .start ≤ v .end → v .end ≤ scope .lines →
+    Stands books t → (range : Bounds) → bounds (linesAt area words (scope .lines)) v (textIn books t) .value ≡ range → RangeFits (scope .lines) range
+fits-of {scope} {class} {area} {words} {books} s v t order high stands range is =
     let ls = linesAt area words (scope .lines) in
-    let inside = bounds-in ls v (textIn book t) order in
+    let inside = bounds-in ls v (textIn books t) order in
     subst (RangeFits (scope .lines)) is (record {
       order = inside .1;
       high = omega (arith, inside .2);
-      unit = bounds-unit ls (scope .n) v (textIn book t) (s .laid .small) (s .laid .bytes) (stands-sound book t (s .sound) stands);
+      unit = bounds-unit ls (scope .n) v (textIn books t) (s .laid .small) (s .laid .bytes) (stands-sound books _ t (s .counted) stands);
     })
 
 -- ---- areas that still hold the same lines
-pub scanning-held : {scope : Scope} {class area₀ words₀ area words book : List ℕ} →
-    Scanning scope class area₀ words₀ book → Held (scope .n) (scope .lines) area₀ words₀ area words → Scanning scope class area words book
+pub scanning-held : {scope : Scope} {class area₀ words₀ area words : List ℕ} {books : Shelf} →
+    Scanning scope class area₀ words₀ books → Held (scope .n) (scope .lines) area₀ words₀ area words → Scanning scope class area words books
 scanning-held s h = record {
   classes = s .classes;
   laid = h .laid;
   few = s .few;
-  sound = s .sound;
-  texts = s .texts;
+  counted = s .counted;
   some-text = s .some-text;
 }
 

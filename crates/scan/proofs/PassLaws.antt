@@ -21,7 +21,6 @@ use Rattle.rules.specs.Sizes.{recordWidth}
 use Rattle.rules.specs.Search as rules
 use Rattle.rules.specs.Search.{Made, Stored, view, whole, blank, bounds}
 use Rattle.rules.specs.Scan.{Event, found, Recorded, after, below, eachPass}
-use Rattle.rules.specs.Book.{stored}
 use Rattle.rules.specs.Refusal.{unit}
 use Rattle.rules.proofs.DownLaws.{bounds-in}
 use Rattle.preproc_lines.specs.Entries.{linesAt, Blanked}
@@ -30,11 +29,12 @@ use Rattle.license.specs.declared.Ranged.{Ranged}
 use Rattle.license.specs.declared.Ranged.the-variants as ranged
 use Rattle.license.specs.Pay.{Paid, pay, rangedOf}
 use Rattle.license.specs.Ready.{Held}
-use Rattle.detection.specs.declared.texts.Text.{Text}
+use Rattle.detection.specs.declared.shelf.Shelved.{Shelved}
 use Rattle.detect.specs.declared.Best.{Best}
 use Rattle.detect.specs.declared.Chosen.{Chosen}
 use Rattle.detect.specs.declared.Chosen.the-variants as chosen
-use Rattle.detect.specs.Bests.{textIn, bestIn, chosenIn, Stands, ChosenStands, BestDone}
+use Rattle.detect.specs.Bests.{bestIn, chosenIn, ChosenStands, BestDone}
+use Rattle.detection.specs.Shelves.{Shelf, texts, textIn, Stands}
 use Rattle.scan.specs.declared.ranges.Run.{Run}
 use Rattle.scan.specs.declared.ranges.Scope.{Scope}
 use Rattle.scan.specs.Run.{written, leftOver, runOf, Scanning, RangeDone, BestWithout, RangeFits, Ran}
@@ -44,13 +44,13 @@ use Rattle.scan.proofs.HeldLaws.{range-out, range-found, fits-of}
 use Rattle.scan.proofs.GoingLaws.{Going, going-first, going-as, going-paid, going-out, going-room, going-found, going-end, four}
 
 -- ---- the best of what white-out leaves, of areas that still hold the same lines
-pub without-held : {scope : Scope} {class area₀ words₀ area₁ words₁ area words book : List ℕ} {range : Bounds} {budget : ℕ} {r : Chosen} →
-    Held (scope .n) (scope .lines) area₀ words₀ area₁ words₁ → BestWithout scope class area₁ words₁ area words book range budget r →
-    BestWithout scope class area₀ words₀ area words book range budget r
-without-held {scope} {class} {area₀} {words₀} {area₁} {words₁} {area} {words} {book} {range} {budget} {r} h w =
+pub without-held : {scope : Scope} {class area₀ words₀ area₁ words₁ area words : List ℕ} {books : Shelf} {range : Bounds} {budget : ℕ} {r : Chosen} →
+    Held (scope .n) (scope .lines) area₀ words₀ area₁ words₁ → BestWithout scope class area₁ words₁ area words books range budget r →
+    BestWithout scope class area₀ words₀ area words books range budget r
+without-held {scope} {class} {area₀} {words₀} {area₁} {words₁} {area} {words} {books} {range} {budget} {r} h w =
     let cut : List (List ℕ) → List (List ℕ) = λ m. blank (range .first) (range .after) m in
     record {
-      is = w .is ∙ ap (λ (m : List (List ℕ)). pay (rules.best (stored book) (cut m) (whole (cut m))) budget) (h .same);
+      is = w .is ∙ ap (λ (m : List (List ℕ)). pay (rules.best (texts books) (cut m) (whole (cut m))) budget) (h .same);
       lines = w .lines ∙ ap cut (h .same);
       stands = w .stands;
       ready = w .ready;
@@ -59,67 +59,67 @@ without-held {scope} {class} {area₀} {words₀} {area₁} {words₁} {area} {w
     }
 
 -- an answer that is known to be another
-pub without-out : {scope : Scope} {class area₀ words₀ area words book : List ℕ} {range : Bounds} {budget : ℕ} {r x : Chosen} → r ≡ x →
-    BestWithout scope class area₀ words₀ area words book range budget r → BestWithout scope class area₀ words₀ area words book range budget x
-without-out {scope} {class} {area₀} {words₀} {area} {words} {book} {range} {budget} {r} {x} e w =
-    subst (λ (y : Chosen). BestWithout scope class area₀ words₀ area words book range budget y) e w
+pub without-out : {scope : Scope} {class area₀ words₀ area words : List ℕ} {books : Shelf} {range : Bounds} {budget : ℕ} {r x : Chosen} → r ≡ x →
+    BestWithout scope class area₀ words₀ area words books range budget r → BestWithout scope class area₀ words₀ area words books range budget x
+without-out {scope} {class} {area₀} {words₀} {area} {words} {books} {range} {budget} {r} {x} e w =
+    subst (λ (y : Chosen). BestWithout scope class area₀ words₀ area words books range budget y) e w
 
 -- ---- the best of what white-out leaves
-pub best-without : {scope : Scope} {class area₀ words₀ words₁ area words book : List ℕ} {v : View} {range : Bounds} {budget : ℕ} {r : Chosen} →
-    Scanning scope class area₀ words₀ book → Blanked (range .first) (range .after) words₀ words₁ → length words₁ ≡ length words₀ →
-    v ≡ view 0 (scope .lines) → BestDone (scope .n) (scope .lines) area₀ words₁ area words v book budget r →
-    BestWithout scope class area₀ words₀ area words book range budget r
+pub best-without : {scope : Scope} {class area₀ words₀ words₁ area words : List ℕ} {books : Shelf} {v : View} {range : Bounds} {budget : ℕ} {r : Chosen} →
+    Scanning scope class area₀ words₀ books → Blanked (range .first) (range .after) words₀ words₁ → length words₁ ≡ length words₀ →
+    v ≡ view 0 (scope .lines) → BestDone (scope .n) (scope .lines) area₀ words₁ area words v books budget r →
+    BestWithout scope class area₀ words₀ area words books range budget r
 unfolding whole linesAt
-best-without {scope} {class} {area₀} {words₀} {words₁} {area} {words} {book} {v} {range} {budget} {r} s b long e d =
+best-without {scope} {class} {area₀} {words₀} {words₁} {area} {words} {books} {v} {range} {budget} {r} s b long e d =
     let rest = blank (range .first) (range .after) (linesAt area₀ words₀ (scope .lines)) in
     let cut : linesAt area₀ words₁ (scope .lines) ≡ rest = b .lines area₀ (scope .lines) in
     let all : v ≡ whole (linesAt area₀ words₁ (scope .lines)) = e ∙ ap (view 0) (sym (lines-length area₀ words₁ 0 (scope .lines))) in
     record {
-      is = d .is ∙ ap (λ (w : View). pay (rules.best (stored book) (linesAt area₀ words₁ (scope .lines)) w) budget) all ∙
-          ap (λ (m : List (List ℕ)). pay (rules.best (stored book) m (whole m)) budget) cut;
+      is = d .is ∙ ap (λ (w : View). pay (rules.best (texts books) (linesAt area₀ words₁ (scope .lines)) w) budget) all ∙
+          ap (λ (m : List (List ℕ)). pay (rules.best (texts books) m (whole m)) budget) cut;
       lines = d .held .same ∙ cut;
       stands = d .stands (s .some-text);
-      ready = record { classes = s .classes; laid = d .held .laid; few = s .few; sound = s .sound; texts = s .texts; some-text = s .some-text };
+      ready = record { classes = s .classes; laid = d .held .laid; few = s .few; counted = s .counted; some-text = s .some-text };
       area-long = d .held .area-long;
       words-long = d .held .words-long ∙ long;
     }
 
 -- ---- the passes
-pub record Passing (scope : Scope) (class area₀ words₀ book r₀ : List ℕ) (p budget : ℕ) (first : Best) (area words r : List ℕ) (best : Best) (left k : ℕ) : Type 0 where
-  pub ready : Scanning scope class area words book
+pub record Passing (scope : Scope) (class area₀ words₀ : List ℕ) (books : Shelf) (r₀ : List ℕ) (p budget : ℕ) (first : Best) (area words r : List ℕ) (best : Best) (left k : ℕ) : Type 0 where
+  pub ready : Scanning scope class area words books
   pub area-long : length area ≡ length area₀
   pub words-long : length words ≡ length words₀
-  pub stands : Stands book (best .text)
+  pub stands : Stands books (best .text)
   pub within : k ≤ p
   pub going :
-      Going (eachPass (scope .limits) (stored book) p (linesAt area₀ words₀ (scope .lines)) (bestIn book first)) budget r₀ r k left
-      (eachPass (scope .limits) (stored book) (p - k) (linesAt area words (scope .lines)) (bestIn book best))
+      Going (eachPass (scope .limits) (texts books) p (linesAt area₀ words₀ (scope .lines)) (bestIn books first)) budget r₀ r k left
+      (eachPass (scope .limits) (texts books) (p - k) (linesAt area words (scope .lines)) (bestIn books best))
 
-pub pass-first : (scope : Scope) (class area words book r : List ℕ) (p budget : ℕ) (first : Best) → Scanning scope class area words book → Stands book (first .text) →
-    length (written budget (eachPass (scope .limits) (stored book) p (linesAt area words (scope .lines)) (bestIn book first))) ≤ length r →
-    Passing scope class area words book r p budget first area words r first budget 0
-pass-first scope class area words book r p budget first s t h = record {
+pub pass-first : (scope : Scope) (class area words : List ℕ) (books : Shelf) (r : List ℕ) (p budget : ℕ) (first : Best) → Scanning scope class area words books → Stands books (first .text) →
+    length (written budget (eachPass (scope .limits) (texts books) p (linesAt area words (scope .lines)) (bestIn books first))) ≤ length r →
+    Passing scope class area words books r p budget first area words r first budget 0
+pass-first scope class area words books r p budget first s t h = record {
   ready = s;
   area-long = refl;
   words-long = refl;
   stands = t;
   within = omega arith;
-  going = going-as (ap (λ (n : ℕ). eachPass (scope .limits) (stored book) n (linesAt area words (scope .lines)) (bestIn book first)) (sym (sub-zero p))) (going-first _ budget r h);
+  going = going-as (ap (λ (n : ℕ). eachPass (scope .limits) (texts books) n (linesAt area words (scope .lines)) (bestIn books first)) (sym (sub-zero p))) (going-first _ budget r h);
 }
 
-module _ {scope : Scope} {class area₀ words₀ book r₀ : List ℕ} {p budget : ℕ} {first : Best} {area words r : List ℕ} {best : Best} {left k : ℕ}
-    (i : Passing scope class area₀ words₀ book r₀ p budget first area words r best left k) where
+module _ {scope : Scope} {class area₀ words₀ : List ℕ} {books : Shelf} {r₀ : List ℕ} {p budget : ℕ} {first : Best} {area words r : List ℕ} {best : Best} {left k : ℕ}
+    (i : Passing scope class area₀ words₀ books r₀ p budget first area words r best left k) where
   abbrev pub lim : Limits
   lim = scope .limits
 
   abbrev pub all : List Event
-  all = eachPass lim (stored book) p (linesAt area₀ words₀ (scope .lines)) (bestIn book first)
+  all = eachPass lim (texts books) p (linesAt area₀ words₀ (scope .lines)) (bestIn books first)
 
   abbrev pub ls : List (List ℕ)
   ls = linesAt area words (scope .lines)
 
   abbrev pub text : Stored
-  text = textIn book (best .text)
+  text = textIn books (best .text)
 
   abbrev pub made : Made Bounds
   made = bounds ls (whole ls) text
@@ -129,17 +129,17 @@ module _ {scope : Scope} {class area₀ words₀ book r₀ : List ℕ} {p budget
   without x = blank (x .first) (x .after) ls
 
   abbrev pub next : Bounds → Made rules.Best
-  next x = rules.best (stored book) (without x) (whole (without x))
+  next x = rules.best (texts books) (without x) (whole (without x))
 
   abbrev pub more : Bounds → List Event
-  more x = after (next x .list) (eachPass lim (stored book) (p - (k + 1)) (without x) (next x .value))
+  more x = after (next x .list) (eachPass lim (texts books) (p - (k + 1)) (without x) (next x .value))
 
   abbrev pub told : Bounds → List Event
   told x = cond (below lim x) [] (found (record { text = text; range = x }) ∷ more x)
 
-  split : k < p → eachPass lim (stored book) (p - k) ls (bestIn book best) ≡ after (made .list) (told (made .value))
+  split : k < p → eachPass lim (texts books) (p - k) ls (bestIn books best) ≡ after (made .list) (told (made .value))
   unfolding eachPass bestIn
-  split l = ap (λ (n : ℕ). eachPass lim (stored book) n ls (bestIn book best)) (fewer l)
+  split l = ap (λ (n : ℕ). eachPass lim (texts books) n ls (bestIn books best)) (fewer l)
     where
       fewer : k < p → p - k ≡ suc (p - (k + 1))
       fewer l = omega arith
@@ -194,21 +194,21 @@ module _ {scope : Scope} {class area₀ words₀ book r₀ : List ℕ} {p budget
       pass-found r′ q = going-found recorded (more range) (going-as high past) r′ q
 
       module _ (r′ area′ words′ : List ℕ) (g : Going all budget r₀ r′ (k + 1) rest (more range)) where
-        pub pass-out-again : (x : Run) → BestWithout scope class area words area′ words′ book range rest chosen.Out → x ≡ runOf (k + 1) none →
+        pub pass-out-again : (x : Run) → BestWithout scope class area words area′ words′ books range rest chosen.Out → x ≡ runOf (k + 1) none →
             Ran all budget r₀ r′ x
         unfolding chosenIn
         pass-out-again x w q =
-            going-out (next range) (eachPass lim (stored book) (p - (k + 1)) (without range) (next range .value)) x (sym (w .is)) q g
+            going-out (next range) (eachPass lim (texts books) (p - (k + 1)) (without range) (next range .value)) x (sym (w .is)) q g
 
-        pub pass-again : (best′ : Best) (left′ : ℕ) → BestWithout scope class area words area′ words′ book range rest (chosen.Found best′ left′) →
-            Passing scope class area₀ words₀ book r₀ p budget first area′ words′ r′ best′ left′ (k + 1)
+        pub pass-again : (best′ : Best) (left′ : ℕ) → BestWithout scope class area words area′ words′ books range rest (chosen.Found best′ left′) →
+            Passing scope class area₀ words₀ books r₀ p budget first area′ words′ r′ best′ left′ (k + 1)
         unfolding chosenIn ChosenStands
         pass-again best′ left′ w =
-            let paid-best : Paid rules.Best = record { value = bestIn book best′; left = left′ } in
-            let es = eachPass lim (stored book) (p - (k + 1)) (without range) (next range .value) in
-            let same : es ≡ eachPass lim (stored book) (p - (k + 1)) (linesAt area′ words′ (scope .lines)) (bestIn book best′) =
-            ap (λ (b : rules.Best). eachPass lim (stored book) (p - (k + 1)) (without range) b) (sym (paid-is (next range) rest paid-best (sym (w .is)) .0)) ∙
-            ap (λ (m : List (List ℕ)). eachPass lim (stored book) (p - (k + 1)) m (bestIn book best′)) (sym (w .lines)) in
+            let paid-best : Paid rules.Best = record { value = bestIn books best′; left = left′ } in
+            let es = eachPass lim (texts books) (p - (k + 1)) (without range) (next range .value) in
+            let same : es ≡ eachPass lim (texts books) (p - (k + 1)) (linesAt area′ words′ (scope .lines)) (bestIn books best′) =
+            ap (λ (b : rules.Best). eachPass lim (texts books) (p - (k + 1)) (without range) b) (sym (paid-is (next range) rest paid-best (sym (w .is)) .0)) ∙
+            ap (λ (m : List (List ℕ)). eachPass lim (texts books) (p - (k + 1)) m (bestIn books best′)) (sym (w .lines)) in
             record {
               ready = w .ready;
               area-long = w .area-long ∙ i .area-long;
@@ -225,5 +225,5 @@ module _ {scope : Scope} {class area₀ words₀ book r₀ : List ℕ} {p budget
       zero-left : p - k ≡ 0
       zero-left = omega (arith, l)
 
-      none-left : eachPass lim (stored book) (p - k) ls (bestIn book best) ≡ []
-      none-left = ap (λ (n : ℕ). eachPass lim (stored book) n ls (bestIn book best)) zero-left
+      none-left : eachPass lim (texts books) (p - k) ls (bestIn books best) ≡ []
+      none-left = ap (λ (n : ℕ). eachPass lim (texts books) n ls (bestIn books best)) zero-left

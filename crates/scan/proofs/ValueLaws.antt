@@ -21,17 +21,17 @@ use Rattle.rules.specs.Sizes.{textMost, totalMost}
 use Rattle.rules.specs.Passes.{aggressive}
 use Rattle.rules.specs.Table.{viewTable, tableOf, bigrams}
 use Rattle.rules.specs.Search.{Made, Stored, noText, Span, width, low, high, higher, sweepFrom, sweep, search, scored, scoreView, view, viewed, bounds}
-use Rattle.rules.specs.Book.{stored, sound}
 use Rattle.rules.specs.Refusal.{unit}
 use Rattle.rules.proofs.BoolLaws.{cond-of}
 use Rattle.rules.proofs.Steps.{search-near, search-far}
 use Rattle.rules.proofs.GrowthLaws.{size, bigrams-length, aggressive-length, viewed-size}
-use Rattle.rules.proofs.SoundLaws.{StoredSound, sound-stored}
+use Rattle.rules.proofs.SoundLaws.{StoredSound}
+use Rattle.rules.proofs.DownLaws.{each-at}
 use Rattle.rules.proofs.TableLaws.{Proper, table-proper, stored-proper, value-unit}
-use Rattle.detection.specs.declared.texts.Text.{Text}
-use Rattle.detection.proofs.TextLaws.{each-at}
-use Rattle.detect.specs.Bests.{textIn, Stands}
-use Rattle.detect.proofs.BestLaws.{text-is}
+use Rattle.detection.specs.declared.shelf.Shelved.{Shelved}
+use Rattle.detection.specs.declared.shelf.Counts.{Counts}
+use Rattle.detection.proofs.ShelfLaws.{stands-text, stands-inside, counted-sound}
+use Rattle.detection.specs.Shelves.{Shelf, texts, Counted, textIn, Stands}
 
 pub no-nan : (x : Float) → T (unit x) → T (not (isNan x))
 unfolding unit le isNan
@@ -73,11 +73,11 @@ module _ (P : Value → Type 0) (scoreAt : ℕ → Made Value) (each : (i : ℕ)
   pub search-value : (l r : ℕ) → P (search scoreAt l r .value .value)
   search-value l r = search-to (suc (r - l)) (record { left = l; right = r }) (omega arith)
 
--- ---- the texts of a sound book
-pub stands-sound : (book : List ℕ) (t : Text) → sound book ≡ true → Stands book t → StoredSound (textIn book t)
-stands-sound book t s h =
-    subst StoredSound (sym (text-is book (getD (stored book) (t .number) noText) t (h .found .is)))
-    (each-at StoredSound (stored book) (t .number) noText (h .inside) (sound-stored book s))
+-- ---- the texts of sound books
+pub stands-sound : (books : Shelf) (c : Counts) (t : Shelved) → Counted books c → Stands books t → StoredSound (textIn books t)
+stands-sound books c t s h =
+    subst StoredSound (stands-text books t h)
+    (each-at StoredSound (texts books) (t .number) noText (stands-inside books t h) (counted-sound books c s))
 
 -- ---- of lines that are few enough
 view-proper : (ls : List (List ℕ)) (n : ℕ) (v : View) → n ≤ textMost → size ls ≤ 3 * n + 3 → Proper (viewTable (viewed ls v))

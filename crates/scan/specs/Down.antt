@@ -11,11 +11,10 @@ use Rattle.rules.specs.declared.Limits.{Limits}
 use Rattle.rules.specs.declared.View.{View}
 use Rattle.rules.specs.Search.{Stored, Made, done, _>>=_, best}
 use Rattle.rules.specs.Scan.{Pair, Recorded}
-use Rattle.rules.specs.Book.{stored}
 use Rattle.preproc_lines.specs.Entries.{linesAt}
 use Rattle.license.specs.Pay.{Paid, pay}
 use Rattle.license.specs.Ready.{Held}
-use Rattle.detect.specs.Bests.{textIn, Stands}
+use Rattle.detection.specs.Shelves.{Shelf, texts, textIn, Stands}
 use Rattle.scan.specs.declared.ranges.Scope.{Scope}
 use Rattle.scan.specs.Run.{RangeFits}
 use Rattle.scan.specs.declared.views.Latest.{Latest}
@@ -42,14 +41,14 @@ walk lim ss ls (some p) (v ∷ vs) =
     cond (lt (b .value .score) (lim .threshold)) (done (record { pair = some p; ended = true })) on
 
 -- ---- the code's answers
-unfoldable pub latestIn : List ℕ → Latest → Option Pair
-latestIn book latest.Nothing = none
-latestIn book (latest.Pair v t) = some (record { view = v; text = textIn book t })
+unfoldable pub latestIn : Shelf → Latest → Option Pair
+latestIn books latest.Nothing = none
+latestIn books (latest.Pair v t) = some (record { view = v; text = textIn books t })
 
-unfoldable pub walkedIn : List ℕ → Walked → Option (Paid Seen)
-walkedIn book walked.Out = none
-walkedIn book (walked.On l left) = some (record { value = record { pair = latestIn book l; ended = false }; left = left })
-walkedIn book (walked.Over l left) = some (record { value = record { pair = latestIn book l; ended = true }; left = left })
+unfoldable pub walkedIn : Shelf → Walked → Option (Paid Seen)
+walkedIn books walked.Out = none
+walkedIn books (walked.On l left) = some (record { value = record { pair = latestIn books l; ended = false }; left = left })
+walkedIn books (walked.Over l left) = some (record { value = record { pair = latestIn books l; ended = true }; left = left })
 
 -- after a score below the threshold
 unfoldable pub lowerIn : Latest → ℕ → Walked
@@ -57,43 +56,43 @@ lowerIn latest.Nothing left = walked.On latest.Nothing left
 lowerIn (latest.Pair v t) left = walked.Over (latest.Pair v t) left
 
 -- of a whole round: whichever way the walk came to its end
-unfoldable pub pairIn : List ℕ → Walked → Option (Paid (Option Pair))
-pairIn book walked.Out = none
-pairIn book (walked.On l left) = some (record { value = latestIn book l; left = left })
-pairIn book (walked.Over l left) = some (record { value = latestIn book l; left = left })
+unfoldable pub pairIn : Shelf → Walked → Option (Paid (Option Pair))
+pairIn books walked.Out = none
+pairIn books (walked.On l left) = some (record { value = latestIn books l; left = left })
+pairIn books (walked.Over l left) = some (record { value = latestIn books l; left = left })
 
-unfoldable pub containedIn : List ℕ → Contained → Option (Paid (Option Recorded))
-containedIn book contained.Out = none
-containedIn book (contained.Nothing left) = some (record { value = none; left = left })
-containedIn book (contained.Found t r left) = some (record { value = some (record { text = textIn book t; range = r }); left = left })
+unfoldable pub containedIn : Shelf → Contained → Option (Paid (Option Recorded))
+containedIn books contained.Out = none
+containedIn books (contained.Nothing left) = some (record { value = none; left = left })
+containedIn books (contained.Found t r left) = some (record { value = some (record { text = textIn books t; range = r }); left = left })
 
 -- a pair is a view of the lines and one of the book's texts
-unfoldable pub LatestStands : List ℕ → ℕ → Latest → Type 0
-LatestStands book lines latest.Nothing = Unit {0}
-LatestStands book lines (latest.Pair v t) = Stands book t × (v .start ≤ v .end) × (v .end ≤ lines)
+unfoldable pub LatestStands : Shelf → ℕ → Latest → Type 0
+LatestStands books lines latest.Nothing = Unit {0}
+LatestStands books lines (latest.Pair v t) = Stands books t × (v .start ≤ v .end) × (v .end ≤ lines)
 
-unfoldable pub WalkedStands : List ℕ → ℕ → Walked → Type 0
-WalkedStands book lines walked.Out = Unit {0}
-WalkedStands book lines (walked.On l left) = LatestStands book lines l
-WalkedStands book lines (walked.Over l left) = LatestStands book lines l
+unfoldable pub WalkedStands : Shelf → ℕ → Walked → Type 0
+WalkedStands books lines walked.Out = Unit {0}
+WalkedStands books lines (walked.On l left) = LatestStands books lines l
+WalkedStands books lines (walked.Over l left) = LatestStands books lines l
 
-unfoldable pub ContainedStands : List ℕ → ℕ → Contained → Type 0
-ContainedStands book lines contained.Out = Unit {0}
-ContainedStands book lines (contained.Nothing left) = Unit {0}
-ContainedStands book lines (contained.Found t r left) = Stands book t × RangeFits lines r
+unfoldable pub ContainedStands : Shelf → ℕ → Contained → Type 0
+ContainedStands books lines contained.Out = Unit {0}
+ContainedStands books lines (contained.Nothing left) = Unit {0}
+ContainedStands books lines (contained.Found t r left) = Stands books t × RangeFits lines r
 
--- r is what these runs yield over the lines and the book, paid from the budget; the areas still hold the same lines
-pub record Walks (scope : Scope) (area₀ words₀ area words book : List ℕ) (run : List Stored → List (List ℕ) → Made Seen) (budget : ℕ) (r : Walked) : Type 0 where
-  pub is : walkedIn book r ≡ pay (run (stored book) (linesAt area₀ words₀ (scope .lines))) budget
-  pub stands : WalkedStands book (scope .lines) r
+-- r is what these runs yield over the lines and the books, paid from the budget; the areas still hold the same lines
+pub record Walks (scope : Scope) (area₀ words₀ area words : List ℕ) (books : Shelf) (run : List Stored → List (List ℕ) → Made Seen) (budget : ℕ) (r : Walked) : Type 0 where
+  pub is : walkedIn books r ≡ pay (run (texts books) (linesAt area₀ words₀ (scope .lines))) budget
+  pub stands : WalkedStands books (scope .lines) r
   pub held : Held (scope .n) (scope .lines) area₀ words₀ area words
 
-pub record Pairs (scope : Scope) (area₀ words₀ area words book : List ℕ) (run : List Stored → List (List ℕ) → Made (Option Pair)) (budget : ℕ) (r : Walked) : Type 0 where
-  pub is : pairIn book r ≡ pay (run (stored book) (linesAt area₀ words₀ (scope .lines))) budget
-  pub stands : WalkedStands book (scope .lines) r
+pub record Pairs (scope : Scope) (area₀ words₀ area words : List ℕ) (books : Shelf) (run : List Stored → List (List ℕ) → Made (Option Pair)) (budget : ℕ) (r : Walked) : Type 0 where
+  pub is : pairIn books r ≡ pay (run (texts books) (linesAt area₀ words₀ (scope .lines))) budget
+  pub stands : WalkedStands books (scope .lines) r
   pub held : Held (scope .n) (scope .lines) area₀ words₀ area words
 
-pub record Contains (scope : Scope) (area₀ words₀ area words book : List ℕ) (run : List Stored → List (List ℕ) → Made (Option Recorded)) (budget : ℕ) (r : Contained) : Type 0 where
-  pub is : containedIn book r ≡ pay (run (stored book) (linesAt area₀ words₀ (scope .lines))) budget
-  pub stands : ContainedStands book (scope .lines) r
+pub record Contains (scope : Scope) (area₀ words₀ area words : List ℕ) (books : Shelf) (run : List Stored → List (List ℕ) → Made (Option Recorded)) (budget : ℕ) (r : Contained) : Type 0 where
+  pub is : containedIn books r ≡ pay (run (texts books) (linesAt area₀ words₀ (scope .lines))) budget
+  pub stands : ContainedStands books (scope .lines) r
   pub held : Held (scope .n) (scope .lines) area₀ words₀ area words

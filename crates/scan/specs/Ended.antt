@@ -6,18 +6,21 @@ use Prim.Native.Nat.{ℕ, _-_, _≤_}
 use lib.ListN.{length}
 use Rattle.rules.specs.Sizes.{nameMost}
 use Rattle.rules.specs.Scan.{Event, afford, verdict}
-use Rattle.detection.specs.declared.texts.Text.{Text}
+use Rattle.rules.specs.Jobs.{namePart}
+use Rattle.detection.specs.declared.shelf.Shelved.{Shelved}
 use Rattle.detect.specs.Bests.{bestIn}
+use Rattle.detection.specs.Shelves.{Shelf, bookIn, textIn, partOf, partsOf}
 use Rattle.scan.specs.declared.elimination.Outcome.{Outcome}
 use Rattle.scan.specs.Run.{Ran}
 
--- the text's name is a part of the book, of at most 64 bytes
-pub record NameFits (book : List ℕ) (t : Text) : Type 0 where
-  pub order : t .name ≤ t .past
-  pub high : t .past ≤ length book
-  pub most : t .past - t .name ≤ nameMost
+-- the text's name is a part of its book, of at most 64 bytes, and stands where the definition has it; no text has the empty one
+pub record NameFits (books : Shelf) (t : Shelved) : Type 0 where
+  pub order : t .text .name ≤ t .text .past
+  pub high : t .text .past ≤ length (bookIn books (t .second))
+  pub most : t .text .past - t .text .name ≤ nameMost
+  pub stands : namePart (partsOf books) (textIn books t) ≡ partOf t
 
-pub record Eliminated (es : List Event) (budget : ℕ) (book r₀ r : List ℕ) (x : Outcome) : Type 0 where
-  pub best : bestIn book (x .best) ≡ verdict (afford budget es)
-  pub name : NameFits book (x .best .text)
+pub record Eliminated (es : List Event) (budget : ℕ) (books : Shelf) (r₀ r : List ℕ) (x : Outcome) : Type 0 where
+  pub best : bestIn books (x .best) ≡ verdict (afford budget es)
+  pub name : NameFits books (x .best .text)
   pub ran : Ran es budget r₀ r (x .run)

@@ -14,16 +14,16 @@ use Rattle.rules.specs.Sizes.{linesMost, recordWidth}
 use Rattle.rules.specs.declared.Bounds.{Bounds}
 use Rattle.rules.specs.Search.{bounds, blank, whole, best}
 use Rattle.rules.specs.Scan.{Event, afford, scorings, records, numbers}
-use Rattle.rules.specs.Book.{sound, stored}
 use Rattle.rules.specs.Refusal.{unit}
 use Rattle.slices.specs.Classes.{classTable}
 use Rattle.preproc_lines.specs.Entries.{linesAt}
 use Rattle.license.specs.declared.Ranged.{Ranged}
 use Rattle.license.specs.Pay.{pay, rangedOf}
 use Rattle.license.specs.Ready.{Laid, Held}
-use Rattle.detection.specs.declared.texts.Text.{Text}
+use Rattle.detection.specs.declared.shelf.Shelved.{Shelved}
 use Rattle.detect.specs.declared.Chosen.{Chosen}
-use Rattle.detect.specs.Bests.{textIn, chosenIn, ChosenStands}
+use Rattle.detect.specs.Bests.{chosenIn, ChosenStands}
+use Rattle.detection.specs.Shelves.{Shelf, texts, Counted, textIn}
 use Rattle.scan.specs.declared.ranges.Scope.{Scope}
 use Rattle.scan.specs.declared.ranges.Run.{Run}
 
@@ -35,18 +35,17 @@ written b es = numbers (records (afford b es))
 unfoldable pub leftOver : ℕ → List Event → Option ℕ
 leftOver b es = cond (leb (length (scorings es)) b) (some (b - length (scorings es))) none
 
--- what stands ready for a scan: a note's lines in the areas, and a sound book with a text
-pub record Scanning (scope : Scope) (class area words book : List ℕ) : Type 0 where
+-- what stands ready for a scan: a note's lines in the areas, and a sound books with a text
+pub record Scanning (scope : Scope) (class area words : List ℕ) (books : Shelf) : Type 0 where
   pub classes : class ≡ classTable
   pub laid : Laid (scope .n) (scope .lines) area words
   pub few : scope .lines ≤ linesMost
-  pub sound : sound book ≡ true
-  pub texts : scope .texts ≡ length (stored book)
-  pub some-text : 0 < length (stored book)
+  pub counted : Counted books (scope .texts)
+  pub some-text : 0 < length (texts books)
 
 -- the bounds of a view against a stored text, paid from the budget; the areas still hold the same lines
-pub record RangeDone (scope : Scope) (class area₀ words₀ area words : List ℕ) (v : View) (book : List ℕ) (text : Text) (budget : ℕ) (r : Ranged) : Type 0 where
-  pub is : r ≡ rangedOf (pay (bounds (linesAt area₀ words₀ (scope .lines)) v (textIn book text)) budget)
+pub record RangeDone (scope : Scope) (class area₀ words₀ area words : List ℕ) (v : View) (books : Shelf) (text : Shelved) (budget : ℕ) (r : Ranged) : Type 0 where
+  pub is : r ≡ rangedOf (pay (bounds (linesAt area₀ words₀ (scope .lines)) v (textIn books text)) budget)
   pub held : Held (scope .n) (scope .lines) area₀ words₀ area words
 
 -- a range of the lines, with a score from 0.0 to 1.0
@@ -56,13 +55,13 @@ pub record RangeFits (lines : ℕ) (range : Bounds) : Type 0 where
   pub unit : T (unit (range .value .score))
 
 -- the best of all lines, those in range made blank, paid from the budget; the areas hold these lines
-pub record BestWithout (scope : Scope) (class area₀ words₀ area words book : List ℕ) (range : Bounds) (budget : ℕ) (r : Chosen) : Type 0 where
+pub record BestWithout (scope : Scope) (class area₀ words₀ area words : List ℕ) (books : Shelf) (range : Bounds) (budget : ℕ) (r : Chosen) : Type 0 where
   pub is :
       let rest = blank (range .first) (range .after) (linesAt area₀ words₀ (scope .lines)) in
-      chosenIn book r ≡ pay (best (stored book) rest (whole rest)) budget
+      chosenIn books r ≡ pay (best (texts books) rest (whole rest)) budget
   pub lines : linesAt area words (scope .lines) ≡ blank (range .first) (range .after) (linesAt area₀ words₀ (scope .lines))
-  pub stands : ChosenStands book r
-  pub ready : Scanning scope class area words book
+  pub stands : ChosenStands books r
+  pub ready : Scanning scope class area words books
   pub area-long : length area ≡ length area₀
   pub words-long : length words ≡ length words₀
 

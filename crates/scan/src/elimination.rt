@@ -7,9 +7,9 @@ ghost use mathlib.Core.Bool.{_&&_};
 ghost use lib.Ieee.{lt};
 ghost use lib.ListN.{length};
 ghost use Rattle.rules.specs.Scan as rules;
-ghost use Rattle.rules.specs.Book.{stored};
 ghost use Rattle.preproc_lines.specs.Entries.{linesAt};
-ghost use Rattle.detect.specs.Bests.{bestIn, Stands};
+ghost use Rattle.detect.specs.Bests.{bestIn};
+ghost use Rattle.detection.specs.Shelves.{shelf, texts, Stands};
 ghost use Rattle.scan.specs.Run.{Scanning, BestWithout, written, Ran};
 ghost use Rattle.scan.specs.Ended.{Eliminated};
 use crate::ranges::Run;
@@ -30,18 +30,19 @@ use rules::Bounds;
 use rules::Limits;
 
 // The lines in range are made blank; the best text of the whole note, as it then stands.
-fn best_without(
+fn best_without<'a>(
     class: &[u8; 256],
     area: &mut [u8],
     words: &mut [u32],
     scope: Scope,
-    book: &[u8],
+    book: &'a [u8],
+    second: &'a [u8],
     range: Bounds,
     budget: u64,
 ) -> Chosen
-    requires { ⌜ Scanning scope (now class) (now area) (now words) (now book) ⌝ }
+    requires { ⌜ Scanning scope (now class) (now area) (now words) (shelf (now book) (now second)) ⌝ }
     requires { ⌜ (range .first ≤ range .after) × (range .after ≤ scope .lines) ⌝ }
-    ensures { λ r. ⌜ BestWithout scope (now (class .entry)) (now (area .entry)) (now (words .entry)) (now (area .exit)) (now (words .exit)) (now (book .entry)) range budget r ⌝ }
+    ensures { λ r. ⌜ BestWithout scope (now (class .entry)) (now (area .entry)) (now (words .entry)) (now (area .exit)) (now (words .exit)) (shelf (now (book .entry)) (now (second .entry))) range budget r ⌝ }
 {
     let n = scope.n;
     let lines = scope.lines;
@@ -55,27 +56,29 @@ fn best_without(
         lines,
         whole_view(lines),
         book,
+        second,
         texts,
         budget,
     )
 }
 
 // Up to p passes, from the best text of the note as it stands.
-pub fn each_pass(
+pub fn each_pass<'a>(
     class: &[u8; 256],
     area: &mut [u8],
     words: &mut [u32],
     scope: Scope,
-    book: &[u8],
+    book: &'a [u8],
+    second: &'a [u8],
     p: u16,
     first: Best,
     results: &mut [u32],
     budget: u64,
 ) -> Run
-    requires { ⌜ Scanning scope (now class) (now area) (now words) (now book) ⌝ }
-    requires { ⌜ Stands (now book) (first .text) ⌝ }
-    requires { ⌜ length (written budget (rules.eachPass (scope .limits) (stored (now book)) p (linesAt (now area) (now words) (scope .lines)) (bestIn (now book) first))) ≤ length (now results) ⌝ }
-    ensures { λ r. ⌜ Ran (rules.eachPass (scope .limits) (stored (now (book .entry))) p (linesAt (now (area .entry)) (now (words .entry)) (scope .lines)) (bestIn (now (book .entry)) first)) budget (now (results .entry)) (now (results .exit)) r ⌝ }
+    requires { ⌜ Scanning scope (now class) (now area) (now words) (shelf (now book) (now second)) ⌝ }
+    requires { ⌜ Stands (shelf (now book) (now second)) (first .text) ⌝ }
+    requires { ⌜ length (written budget (rules.eachPass (scope .limits) (texts (shelf (now book) (now second))) p (linesAt (now area) (now words) (scope .lines)) (bestIn (shelf (now book) (now second)) first))) ≤ length (now results) ⌝ }
+    ensures { λ r. ⌜ Ran (rules.eachPass (scope .limits) (texts (shelf (now (book .entry)) (now (second .entry)))) p (linesAt (now (area .entry)) (now (words .entry)) (scope .lines)) (bestIn (shelf (now (book .entry)) (now (second .entry))) first)) budget (now (results .entry)) (now (results .exit)) r ⌝ }
 {
     let v = whole_view(scope.lines);
     let mut best = first;
@@ -83,8 +86,17 @@ pub fn each_pass(
     let mut k: u32 = 0;
     while k < p as u32 {
         let text = best.text;
-        let Ranged::Found(range, paid) = text_bounds(class, area, words, scope, v, book, text, left)
-        else {
+        let Ranged::Found(range, paid) = text_bounds(
+            class,
+            area,
+            words,
+            scope,
+            v,
+            book,
+            second,
+            text,
+            left,
+        ) else {
             return out_at(k);
         };
         if below(scope.limits, range) {
@@ -92,8 +104,16 @@ pub fn each_pass(
         }
         put_record(results, k, text.number, range);
         k += 1;
-        let Chosen::Found(next, rest) = best_without(class, area, words, scope, book, range, paid)
-        else {
+        let Chosen::Found(next, rest) = best_without(
+            class,
+            area,
+            words,
+            scope,
+            book,
+            second,
+            range,
+            paid,
+        ) else {
             return out_at(k);
         };
         best = next;
@@ -120,27 +140,38 @@ fn stops(limits: Limits, best: Best) -> bool
 }
 
 // With `optimize`, up to p passes follow the best text of the note.
-pub fn elimination(
+pub fn elimination<'a>(
     class: &[u8; 256],
     area: &mut [u8],
     words: &mut [u32],
     scope: Scope,
     optimize: bool,
     p: u16,
-    book: &[u8],
+    book: &'a [u8],
+    second: &'a [u8],
     results: &mut [u32],
     budget: u64,
 ) -> Outcome
-    requires { ⌜ Scanning scope (now class) (now area) (now words) (now book) ⌝ }
-    requires { ⌜ length (written budget (rules.elimination (scope .limits) optimize p (stored (now book)) (linesAt (now area) (now words) (scope .lines)))) ≤ length (now results) ⌝ }
-    ensures { λ r. ⌜ Eliminated (rules.elimination (scope .limits) optimize p (stored (now (book .entry))) (linesAt (now (area .entry)) (now (words .entry)) (scope .lines))) budget (now (book .entry)) (now (results .entry)) (now (results .exit)) r ⌝ }
+    requires { ⌜ Scanning scope (now class) (now area) (now words) (shelf (now book) (now second)) ⌝ }
+    requires { ⌜ length (written budget (rules.elimination (scope .limits) optimize p (texts (shelf (now book) (now second))) (linesAt (now area) (now words) (scope .lines)))) ≤ length (now results) ⌝ }
+    ensures { λ r. ⌜ Eliminated (rules.elimination (scope .limits) optimize p (texts (shelf (now (book .entry)) (now (second .entry)))) (linesAt (now (area .entry)) (now (words .entry)) (scope .lines))) budget (shelf (now (book .entry)) (now (second .entry))) (now (results .entry)) (now (results .exit)) r ⌝ }
 {
     let n = scope.n;
     let lines = scope.lines;
     let texts = scope.texts;
     let v = whole_view(lines);
-    let Chosen::Found(best, left) = best_text(class, area, words, n, lines, v, book, texts, budget)
-    else {
+    let Chosen::Found(best, left) = best_text(
+        class,
+        area,
+        words,
+        n,
+        lines,
+        v,
+        book,
+        second,
+        texts,
+        budget,
+    ) else {
         return Outcome {
             best: no_best(),
             run: out_at(0),
@@ -158,6 +189,17 @@ pub fn elimination(
             run: ended(0, left),
         };
     }
-    let run = each_pass(class, area, words, scope, book, p, best, results, left);
+    let run = each_pass(
+        class,
+        area,
+        words,
+        scope,
+        book,
+        second,
+        p,
+        best,
+        results,
+        left,
+    );
     Outcome { best, run }
 }

@@ -12,9 +12,11 @@ ghost use Rattle.rules.specs.Refusal.{unit};
 ghost use Rattle.rules.specs.Scan as rules;
 ghost use Rattle.rules.specs.Search.{view};
 ghost use Rattle.rules.specs.Sizes.{recordWidth};
-ghost use Rattle.detect.specs.Bests.{Stands};
+ghost use Rattle.detection.specs.Shelves.{shelf, Stands};
 ghost use Rattle.scan.specs.Run.{Scanning, RangeDone, runOf};
-use detection::texts::Text;
+use detection::shelf::Counts;
+use detection::shelf::Shelved;
+use detection::shelf::body_of;
 use license::Ranged;
 use license::find_bounds;
 use rules::Bounds;
@@ -24,11 +26,11 @@ use rules::View;
 // The numbers of a record in the results area.
 pub const RECORD_WIDTH: usize = 4;
 
-// What a scan works on: the note's bytes and lines, how many texts the book stores, and the limits.
+// What a scan works on: the note's bytes and lines, how many texts the books store, and the limits.
 pub struct Scope {
     pub n: usize,
     pub lines: usize,
-    pub texts: u32,
+    pub texts: Counts,
     pub limits: Limits,
 }
 
@@ -70,27 +72,27 @@ pub fn whole_view(lines: usize) -> View
     }
 }
 
-// The bounds of a view against a stored text of the book.
-pub fn text_bounds(
+// The bounds of a view against a stored text of the books.
+pub fn text_bounds<'a>(
     class: &[u8; 256],
     area: &mut [u8],
     words: &mut [u32],
     scope: Scope,
     v: View,
-    book: &[u8],
-    text: Text,
+    book: &'a [u8],
+    second: &'a [u8],
+    text: Shelved,
     budget: u64,
 ) -> Ranged
-    requires { ⌜ Scanning scope (now class) (now area) (now words) (now book) ⌝ }
+    requires { ⌜ Scanning scope (now class) (now area) (now words) (shelf (now book) (now second)) ⌝ }
     requires { ⌜ (v .start ≤ v .end) × (v .end ≤ scope .lines) ⌝ }
-    requires { ⌜ Stands (now book) text ⌝ }
-    ensures { λ r. ⌜ RangeDone scope (now (class .entry)) (now (area .entry)) (now (words .entry)) (now (area .exit)) (now (words .exit)) v (now (book .entry)) text budget r ⌝ }
+    requires { ⌜ Stands (shelf (now book) (now second)) text ⌝ }
+    ensures { λ r. ⌜ RangeDone scope (now (class .entry)) (now (area .entry)) (now (words .entry)) (now (area .exit)) (now (words .exit)) v (shelf (now (book .entry)) (now (second .entry))) text budget r ⌝ }
 {
     let n = scope.n;
     let lines = scope.lines;
-    let start = text.body;
-    let end = text.end;
-    find_bounds(class, area, words, n, lines, v, &book[start..end], budget)
+    let body = body_of(book, second, text);
+    find_bounds(class, area, words, n, lines, v, body, budget)
 }
 
 // So low that nothing is recorded.

@@ -4,9 +4,9 @@
 ghost use mathlib.Core.Path.{_≡_};
 ghost use Prim.Native.Nat.{_≤_, _<_};
 ghost use lib.ListN.{length};
-ghost use Rattle.rules.specs.Book.{stored};
 ghost use Rattle.rules.specs.Scan as rules;
 ghost use Rattle.preproc_lines.specs.Entries.{linesAt};
+ghost use Rattle.detection.specs.Shelves.{shelf, texts};
 ghost use Rattle.scan.specs.Run.{Scanning, written, Ran};
 ghost use Rattle.scan.specs.Down.{latestIn, LatestStands, Contains};
 use crate::ranges::Run;
@@ -19,7 +19,7 @@ use crate::ranges::text_bounds;
 use crate::views::Latest;
 use crate::views::Walked;
 use crate::views::walk_starts;
-use detection::texts::Text;
+use detection::shelf::Shelved;
 use license::Ranged;
 use rules::Bounds;
 
@@ -27,28 +27,38 @@ use rules::Bounds;
 pub enum Contained {
     Out,
     Nothing(u64),
-    Found(Text, Bounds, u64),
+    Found(Shelved, Bounds, u64),
 }
 
 // The bounds of the pair against its text; below the threshold it is nothing.
-fn settle(
+fn settle<'a>(
     class: &[u8; 256],
     area: &mut [u8],
     words: &mut [u32],
     scope: Scope,
-    book: &[u8],
+    book: &'a [u8],
+    second: &'a [u8],
     latest: Latest,
     budget: u64,
 ) -> Contained
-    requires { ⌜ Scanning scope (now class) (now area) (now words) (now book) ⌝ }
-    requires { ⌜ LatestStands (now book) (scope .lines) latest ⌝ }
-    ensures { λ r. ⌜ Contains scope (now (area .entry)) (now (words .entry)) (now (area .exit)) (now (words .exit)) (now (book .entry)) (λ ss ls. rules.settled (scope .limits) ls (latestIn (now (book .entry)) latest)) budget r ⌝ }
+    requires { ⌜ Scanning scope (now class) (now area) (now words) (shelf (now book) (now second)) ⌝ }
+    requires { ⌜ LatestStands (shelf (now book) (now second)) (scope .lines) latest ⌝ }
+    ensures { λ r. ⌜ Contains scope (now (area .entry)) (now (words .entry)) (now (area .exit)) (now (words .exit)) (shelf (now (book .entry)) (now (second .entry))) (λ ss ls. rules.settled (scope .limits) ls (latestIn (shelf (now (book .entry)) (now (second .entry))) latest)) budget r ⌝ }
 {
     let Latest::Pair(v, text) = latest else {
         return Contained::Nothing(budget);
     };
-    let Ranged::Found(range, left) = text_bounds(class, area, words, scope, v, book, text, budget)
-    else {
+    let Ranged::Found(range, left) = text_bounds(
+        class,
+        area,
+        words,
+        scope,
+        v,
+        book,
+        second,
+        text,
+        budget,
+    ) else {
         return Contained::Out;
     };
     if below(scope.limits, range) {
@@ -58,49 +68,51 @@ fn settle(
 }
 
 // The range that is found from line c on.
-fn find_contained(
+fn find_contained<'a>(
     class: &[u8; 256],
     area: &mut [u8],
     words: &mut [u32],
     scope: Scope,
     c: usize,
     step: u64,
-    book: &[u8],
+    book: &'a [u8],
+    second: &'a [u8],
     budget: u64,
 ) -> Contained
-    requires { ⌜ Scanning scope (now class) (now area) (now words) (now book) ⌝ }
+    requires { ⌜ Scanning scope (now class) (now area) (now words) (shelf (now book) (now second)) ⌝ }
     requires { ⌜ (c ≤ scope .lines) × (0 < step) ⌝ }
-    ensures { λ r. ⌜ Contains scope (now (area .entry)) (now (words .entry)) (now (area .exit)) (now (words .exit)) (now (book .entry)) (λ ss ls. rules.contained (scope .limits) step ss ls c) budget r ⌝ }
+    ensures { λ r. ⌜ Contains scope (now (area .entry)) (now (words .entry)) (now (area .exit)) (now (words .exit)) (shelf (now (book .entry)) (now (second .entry))) (λ ss ls. rules.contained (scope .limits) step ss ls c) budget r ⌝ }
 {
-    match walk_starts(class, area, words, scope, c, step, book, budget) {
+    match walk_starts(class, area, words, scope, c, step, book, second, budget) {
         Walked::Out => Contained::Out,
-        Walked::On(latest, left) => settle(class, area, words, scope, book, latest, left),
-        Walked::Over(latest, left) => settle(class, area, words, scope, book, latest, left),
+        Walked::On(latest, left) => settle(class, area, words, scope, book, second, latest, left),
+        Walked::Over(latest, left) => settle(class, area, words, scope, book, second, latest, left),
     }
 }
 
 // Round by round: c strictly rises, since a range ends at c or behind it.
-pub fn top_down(
+pub fn top_down<'a>(
     class: &[u8; 256],
     area: &mut [u8],
     words: &mut [u32],
     scope: Scope,
     step: u64,
-    book: &[u8],
+    book: &'a [u8],
+    second: &'a [u8],
     results: &mut [u32],
     budget: u64,
 ) -> Run
-    requires { ⌜ Scanning scope (now class) (now area) (now words) (now book) ⌝ }
+    requires { ⌜ Scanning scope (now class) (now area) (now words) (shelf (now book) (now second)) ⌝ }
     requires { ⌜ 0 < step ⌝ }
-    requires { ⌜ length (written budget (rules.topDown (scope .limits) step (stored (now book)) (linesAt (now area) (now words) (scope .lines)))) ≤ length (now results) ⌝ }
-    ensures { λ r. ⌜ Ran (rules.topDown (scope .limits) step (stored (now (book .entry))) (linesAt (now (area .entry)) (now (words .entry)) (scope .lines))) budget (now (results .entry)) (now (results .exit)) r ⌝ }
+    requires { ⌜ length (written budget (rules.topDown (scope .limits) step (texts (shelf (now book) (now second))) (linesAt (now area) (now words) (scope .lines)))) ≤ length (now results) ⌝ }
+    ensures { λ r. ⌜ Ran (rules.topDown (scope .limits) step (texts (shelf (now (book .entry)) (now (second .entry)))) (linesAt (now (area .entry)) (now (words .entry)) (scope .lines))) budget (now (results .entry)) (now (results .exit)) r ⌝ }
 {
     let lines = scope.lines;
     let mut left = budget;
     let mut c: usize = 0;
     let mut k: u32 = 0;
     while c < lines {
-        match find_contained(class, area, words, scope, c, step, book, left) {
+        match find_contained(class, area, words, scope, c, step, book, second, left) {
             Contained::Out => return out_at(k),
             Contained::Nothing(rest) => return ended(k, rest),
             Contained::Found(text, range, rest) => {

@@ -7,18 +7,19 @@ ghost use mathlib.Core.Option.{none};
 ghost use Prim.Native.Nat.{suc, _+_, _≤_, _<_, min};
 ghost use Rattle.rules.specs.Search.{view};
 ghost use Rattle.rules.specs.Scan.{steps, viewsOf, latest as latestOf};
+ghost use Rattle.detection.specs.Shelves.{shelf};
 ghost use Rattle.scan.specs.Run.{Scanning};
 ghost use Rattle.scan.specs.Down.{walk, latestIn, LatestStands, Walks, Pairs, lowerIn};
 use crate::ranges::Scope;
 use detect::Chosen;
 use detect::best_above;
-use detection::texts::Text;
+use detection::shelf::Shelved;
 use rules::View;
 
 // The latest view that reached the threshold, and its best text: found, or none yet.
 pub enum Latest {
     Nothing,
-    Pair(View, Text),
+    Pair(View, Shelved),
 }
 
 // A walk over views: the budget is out; or it goes on; or a score below the threshold has ended it. With the latest pair and the scorings left.
@@ -50,20 +51,21 @@ fn lower(latest: Latest, left: u64) -> Walked
 }
 
 // One view more: below the threshold, which text is the best does not matter.
-fn see(
+fn see<'a>(
     class: &[u8; 256],
     area: &mut [u8],
     words: &mut [u32],
     scope: Scope,
     v: View,
-    book: &[u8],
+    book: &'a [u8],
+    second: &'a [u8],
     latest: Latest,
     budget: u64,
 ) -> Walked
-    requires { ⌜ Scanning scope (now class) (now area) (now words) (now book) ⌝ }
+    requires { ⌜ Scanning scope (now class) (now area) (now words) (shelf (now book) (now second)) ⌝ }
     requires { ⌜ (v .start ≤ v .end) × (v .end ≤ scope .lines) ⌝ }
-    requires { ⌜ LatestStands (now book) (scope .lines) latest ⌝ }
-    ensures { λ r. ⌜ Walks scope (now (area .entry)) (now (words .entry)) (now (area .exit)) (now (words .exit)) (now (book .entry)) (λ ss ls. walk (scope .limits) ss ls (latestIn (now (book .entry)) latest) (v ∷ [])) budget r ⌝ }
+    requires { ⌜ LatestStands (shelf (now book) (now second)) (scope .lines) latest ⌝ }
+    ensures { λ r. ⌜ Walks scope (now (area .entry)) (now (words .entry)) (now (area .exit)) (now (words .exit)) (shelf (now (book .entry)) (now (second .entry))) (λ ss ls. walk (scope .limits) ss ls (latestIn (shelf (now (book .entry)) (now (second .entry))) latest) (v ∷ [])) budget r ⌝ }
 {
     let n = scope.n;
     let lines = scope.lines;
@@ -77,6 +79,7 @@ fn see(
         lines,
         v,
         book,
+        second,
         texts,
         floor,
         budget,
@@ -91,21 +94,22 @@ fn see(
 }
 
 // The views from one start: the ends start, start + step, .. up to the last line.
-fn walk_ends(
+fn walk_ends<'a>(
     class: &[u8; 256],
     area: &mut [u8],
     words: &mut [u32],
     scope: Scope,
     start: usize,
     step: u64,
-    book: &[u8],
+    book: &'a [u8],
+    second: &'a [u8],
     from: Latest,
     budget: u64,
 ) -> Walked
-    requires { ⌜ Scanning scope (now class) (now area) (now words) (now book) ⌝ }
+    requires { ⌜ Scanning scope (now class) (now area) (now words) (shelf (now book) (now second)) ⌝ }
     requires { ⌜ (start ≤ scope .lines) × (0 < step) ⌝ }
-    requires { ⌜ LatestStands (now book) (scope .lines) from ⌝ }
-    ensures { λ r. ⌜ Walks scope (now (area .entry)) (now (words .entry)) (now (area .exit)) (now (words .exit)) (now (book .entry)) (λ ss ls. walk (scope .limits) ss ls (latestIn (now (book .entry)) from) (map (λ e. view start e) (steps step start (suc (scope .lines))))) budget r ⌝ }
+    requires { ⌜ LatestStands (shelf (now book) (now second)) (scope .lines) from ⌝ }
+    ensures { λ r. ⌜ Walks scope (now (area .entry)) (now (words .entry)) (now (area .exit)) (now (words .exit)) (shelf (now (book .entry)) (now (second .entry))) (λ ss ls. walk (scope .limits) ss ls (latestIn (shelf (now (book .entry)) (now (second .entry))) from) (map (λ e. view start e) (steps step start (suc (scope .lines))))) budget r ⌝ }
 {
     let past = scope.lines + 1;
     let mut latest = from;
@@ -113,7 +117,7 @@ fn walk_ends(
     let mut end = start;
     while end < past {
         let v = View { start, end };
-        match see(class, area, words, scope, v, book, latest, left) {
+        match see(class, area, words, scope, v, book, second, latest, left) {
             Walked::Out => return Walked::Out,
             Walked::On(l, rest) => {
                 latest = l;
@@ -127,26 +131,38 @@ fn walk_ends(
 }
 
 // All views from line c on: the starts c, c + step, .. below the last line.
-pub fn walk_starts(
+pub fn walk_starts<'a>(
     class: &[u8; 256],
     area: &mut [u8],
     words: &mut [u32],
     scope: Scope,
     c: usize,
     step: u64,
-    book: &[u8],
+    book: &'a [u8],
+    second: &'a [u8],
     budget: u64,
 ) -> Walked
-    requires { ⌜ Scanning scope (now class) (now area) (now words) (now book) ⌝ }
+    requires { ⌜ Scanning scope (now class) (now area) (now words) (shelf (now book) (now second)) ⌝ }
     requires { ⌜ (c ≤ scope .lines) × (0 < step) ⌝ }
-    ensures { λ r. ⌜ Pairs scope (now (area .entry)) (now (words .entry)) (now (area .exit)) (now (words .exit)) (now (book .entry)) (λ ss ls. latestOf (scope .limits) ss ls none (viewsOf step (scope .lines) (steps step c (scope .lines)))) budget r ⌝ }
+    ensures { λ r. ⌜ Pairs scope (now (area .entry)) (now (words .entry)) (now (area .exit)) (now (words .exit)) (shelf (now (book .entry)) (now (second .entry))) (λ ss ls. latestOf (scope .limits) ss ls none (viewsOf step (scope .lines) (steps step c (scope .lines)))) budget r ⌝ }
 {
     let lines = scope.lines;
     let mut latest = Latest::Nothing;
     let mut left = budget;
     let mut start = c;
     while start < lines {
-        match walk_ends(class, area, words, scope, start, step, book, latest, left) {
+        match walk_ends(
+            class,
+            area,
+            words,
+            scope,
+            start,
+            step,
+            book,
+            second,
+            latest,
+            left,
+        ) {
             Walked::Out => return Walked::Out,
             Walked::On(l, rest) => {
                 latest = l;

@@ -1,14 +1,17 @@
 -- `chultarvi::chultarvi_eliminate` meets its contract: the job's answer, field by field.
 -- Assumes nothing.
 use borrow.Author.Needs.{needs}
+use Rattle.rules.proofs.NameLaws.{read-one}
+use Rattle.scan_job.proofs.FaceLaws.{part-length}
 use Rattle.chultarvi.proofs.AnswerLaws.{scan-as}
 use Rattle.chultarvi.proofs.chultarvi_eliminate.Statement.{statement}
 use Rattle.chultarvi.proofs.chultarvi_eliminate.Tie as tie
+
+for-c-requires : tie.Need-for-c-requires
+for-c-requires c κs = part-length (read-one _) (c .before .before .before .before .before .before .scan .ensures)
 
 returns : tie.Need-returns
 returns c = scan-as (c .for-c .ensures) (c .before .before .before .before .before .before .before .scan .ensures)
 
 pub chultarvi-eliminate-spec : {M : Type 1} → statement M
-chultarvi-eliminate-spec =
-    tie.close
-    (tie.spec (λ c κs. search needs) (λ c κs. search needs) (λ c. search needs) (λ c. search needs) (λ c. search needs) returns)
+chultarvi-eliminate-spec = tie.close (tie.spec (λ c κs. search needs) for-c-requires (λ c. search needs) (λ c. search needs) (λ c. search needs) returns)

@@ -3,83 +3,87 @@
 use mathlib.Core.Path.{ap}
 use Prim.Native.Nat.{_-_}
 use native.Mathlib.Omega.{arith}
+use denote.Ref.{now}
 use borrow.Author.Needs.{needs}
-use Rattle.detection.specs.declared.texts.Place.{Place}
+use Rattle.detection.specs.declared.shelf.Spot.{Spot}
+use Rattle.detection.specs.Shelves.{shelf}
+use Rattle.detection.proofs.ShelfLaws.{stands-inside, counted-most}
 use Rattle.license.specs.Ready.{tableOver}
 use Rattle.detect.proofs.BestLaws.{Walking, walk-first, walk-step, walk-out, walk-end}
 use Rattle.detect.proofs.best_of.Statement.{statement}
 use Rattle.detect.proofs.best_of.Tie as tie
 
 abbrev Inv-loop : tie.InvT-loop
-Inv-loop area words n t book texts floor budget best₀ left₀ place₀ best left place = Walking book (tableOver area t) floor budget best left place
+Inv-loop area words n t book second texts floor budget best₀ left₀ spot₀ best left spot =
+    Walking (shelf book second) (tableOver area t) floor budget best left spot
 
 abbrev μ-loop : tie.MeasureT-loop
-μ-loop area words n t book texts floor budget best₀ left₀ place₀ best left place = texts - place .number
+μ-loop area words n t book second texts floor budget best₀ left₀ spot₀ best left spot = texts .all - spot .number
 
 no-best-requires : tie.Need-no-best-requires Inv-loop μ-loop
 no-best-requires c κs = search needs
 
-first-place-requires : tie.Need-first-place-requires Inv-loop μ-loop
-first-place-requires c κs = search needs
+first-spot-requires : tie.Need-first-spot-requires Inv-loop μ-loop
+first-spot-requires c κs = search needs
 
 loop-holds : tie.Need-loop-holds Inv-loop μ-loop
-loop-holds c = walk-first _ _ _ _ _ _ (c .before .before .before .before .before .pre .1 .0) (c .before .no-best .ensures) (c .first-place .ensures)
+loop-holds c =
+    let start = c .before .before .before .before .before .before in
+    walk-first (shelf (now (start .args .book)) (now (start .args .second))) _ _ _ _ _ _ (start .pre .1) (c .before .no-best .ensures) (c .first-spot .ensures)
 
 returns : tie.Need-returns Inv-loop μ-loop
 returns c =
-    let start = c .before .before .before .before .before .before .before .before .before in
-    walk-out (c .before .before .before .loop .inv) (start .args .texts) (start .pre .1 .1) (c .before .if1 .taken) (c .if2 .taken)
+    let start = c .before .before .before .before .before .before .before .before .before .before .before in
+    walk-out (c .before .before .before .before .loop .inv) (start .args .texts .all) (start .pre .1 .all) (c .before .if1 .taken) (c .if2 .taken)
 
-next-text-requires : tie.Need-next-text-requires Inv-loop μ-loop
-next-text-requires c κs =
-    let start = c .before .before .before .before .before .before .before .before .before in
-    (c .before .before .before .loop .inv .before, omega (arith, start .pre .1 .1, c .before .if1 .taken))
+next-on-requires : tie.Need-next-on-requires Inv-loop μ-loop
+next-on-requires c κs =
+    let start = c .before .before .before .before .before .before .before .before .before .before .before in
+    (start .pre .1, (c .before .before .before .before .loop .inv .before, c .before .if1 .taken))
+
+body-of-requires : tie.Need-body-of-requires Inv-loop μ-loop
+body-of-requires c κs = c .next-on .ensures .0
 
 to-beat-requires : tie.Need-to-beat-requires Inv-loop μ-loop
 to-beat-requires c κs = search needs
 
-sub-charge : tie.Need-sub-charge Inv-loop μ-loop
-sub-charge c = search needs
-
-part-charge-start : tie.Need-part-charge-start Inv-loop μ-loop
-part-charge-start c = search needs
-
-part-charge-end : tie.Need-part-charge-end Inv-loop μ-loop
-part-charge-end c = search needs
-
 charge-requires : tie.Need-charge-requires Inv-loop μ-loop
 charge-requires c κs =
     let found = c .before .before in
-    let start = found .before .before .before .before .before .before .before .before .before .before in
-    (start .pre .0, (found .next-text .ensures .is .sound, omega (arith, found .before .if2 .left)))
+    let start = found .before .before .before .before .before .before .before .before .before .before .before .before in
+    (start .pre .0, (rw (c .before .body-of .ensures) (found .next-on .ensures .0 .found .is .sound), omega (arith, found .before .if2 .left)))
 
 better-of-requires : tie.Need-better-of-requires Inv-loop μ-loop
 better-of-requires c κs = search needs
 
-after-text-requires : tie.Need-after-text-requires Inv-loop μ-loop
-after-text-requires c κs =
-    let f = c .before .before .before .before .before .next-text .ensures in
-    omega (arith, f .numbered, f .below)
+after-on-requires : tie.Need-after-on-requires Inv-loop μ-loop
+after-on-requires c κs =
+    let found = c .before .before .before .before .before in
+    let start = found .before .before .before .before .before .before .before .before .before .before .before .before in
+    let s = shelf (now (start .args .book)) (now (start .args .second)) in
+    let t = found .next-on .ensures .0 in
+    (t .found .below, omega (arith, stands-inside s _ t, counted-most s _ (start .pre .1)))
 
 loop-less : tie.Need-loop-less Inv-loop μ-loop
 loop-less c =
     let found = c .before .before .before .before .before .before in
-    omega (arith, found .next-text .ensures .numbered, found .before .before .if1 .taken, ap (λ (x : Place). x .number) (c .after-text .ensures))
+    omega (arith, found .next-on .ensures .1, found .before .before .if1 .taken, ap (λ (x : Spot). x .number) (c .after-on .ensures))
 
 loop-again : tie.Need-loop-again Inv-loop μ-loop
 loop-again c =
     let charged = c .before .before .before in
-    let beat = charged .before .before in
-    let found = beat .before in
-    let at = found .before .before .before .before in
-    let start = found .before .before .before .before .before .before .before .before .before .before in
-    walk-step (at .loop .inv) (start .args .texts) (start .pre .1 .1) _ _ _ _ _ _ (found .before .before .if1 .taken) (omega (arith, found .before .if2 .left))
-    (found .next-text .ensures) (beat .to-beat .ensures) (charged .charge .ensures .0) (c .before .better-of .ensures) (charged .charge .ensures .1) (c .after-text .ensures)
+    let beat = charged .before in
+    let lent = beat .before in
+    let found = lent .before in
+    let start = found .before .before .before .before .before .before .before .before .before .before .before .before in
+    walk-step (found .before .before .before .before .before .loop .inv) (start .args .texts .all) (start .pre .1 .all) _ _ _ _ _ _ (found .before .before .if1 .taken) (omega (arith, found .before .if2 .left))
+    (found .next-on .ensures) (beat .to-beat .ensures) (rw (lent .body-of .ensures) at (charged .charge .ensures .0)) (c .before .better-of .ensures)
+    (charged .charge .ensures .1) (c .after-on .ensures)
 
 returns-2 : tie.Need-returns-2 Inv-loop μ-loop
 returns-2 c =
-    let start = c .before .before .before .before .before .before .before .before in
-    walk-end (c .before .before .loop .inv) (start .args .texts) (start .pre .1 .1) (c .if1 .left)
+    let start = c .before .before .before .before .before .before .before .before .before .before in
+    walk-end (c .before .before .before .loop .inv) (start .args .texts .all) (start .pre .1 .all) (c .if1 .left)
 
 pub best-of-spec : {M : Type 1} → statement M
 best-of-spec =
@@ -88,17 +92,15 @@ best-of-spec =
     Inv-loop
     μ-loop
     no-best-requires
-    first-place-requires
+    first-spot-requires
     loop-holds
     returns
-    next-text-requires
+    next-on-requires
+    body-of-requires
     to-beat-requires
-    sub-charge
-    part-charge-start
-    part-charge-end
     charge-requires
     better-of-requires
-    after-text-requires
+    after-on-requires
     loop-less
     loop-again
     returns-2)

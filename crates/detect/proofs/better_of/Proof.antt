@@ -6,18 +6,18 @@ use Rattle.detect.proofs.better_of.Tie as tie
 
 returns : tie.Need-returns
 returns c =
-    let a = c .before .before .before .args in
-    record { is = λ book. better-none book (a .best) (a .next) (c .if1 .taken); stands = λ book n b. n }
+    let a = c .before .before .before .before .args in
+    record { is = λ books. better-none books (a .best) (a .next) (c .if1 .taken); stands = λ books n b. n }
 
 returns-2 : tie.Need-returns-2
 returns-2 c =
-    let a = c .before .before .before .before .before .before .args in
-    record { is = λ book. better-more book (a .best) (a .next) (c .if2 .taken); stands = λ book n b. n }
+    let a = c .before .before .before .before .before .before .before .args in
+    record { is = λ books. better-more books (a .best) (a .next) (c .if2 .taken); stands = λ books n b. n }
 
 returns-3 : tie.Need-returns-3
 returns-3 c =
-    let a = c .before .before .before .before .before .before .args in
-    record { is = λ book. better-less book (a .best) (a .next) (c .before .before .before .if1 .left) (c .if2 .left); stands = λ book n b. b (c .before .before .before .if1 .left) }
+    let a = c .before .before .before .before .before .before .before .args in
+    record { is = λ books. better-less books (a .best) (a .next) (c .before .before .before .if1 .left) (c .if2 .left); stands = λ books n b. b (c .before .before .before .if1 .left) }
 
 pub better-of-spec : {M : Type 1} → statement M
 better-of-spec = tie.close (tie.spec returns returns-2 returns-3)

@@ -3,6 +3,7 @@
 use Prim.Native.Nat.{_-_}
 use denote.Ref.{now}
 use borrow.Author.Needs.{needs}
+use Rattle.detection.specs.Shelves.{shelf}
 use Rattle.scan_job.proofs.answer.Statement.{statement}
 use Rattle.scan_job.proofs.answer.Tie as tie
 
@@ -15,16 +16,17 @@ kind-of-requires c = search needs
 refusal-of-requires : tie.Need-refusal-of-requires
 refusal-of-requires c = search needs
 
-sub-t12 : tie.Need-sub-t12
-sub-t12 c = search needs
+part-of-requires : tie.Need-part-of-requires
+part-of-requires c = search needs
 
 returns : tie.Need-returns
 returns c =
-    let a = c .before .before .before .before .before .before .before .before .before .args in
+    let a = c .before .before .before .before .before .before .before .before .before .before .before .args in
     let x = a .outcome in
-    let name = c .before .before .before .before .before .name-of .ensures in
-    let kind = c .before .before .before .kind-of .ensures .is (now (a .book)) in
-    let number = c .before .before .refusal-of .ensures in
+    let name = c .before .before .before .before .before .before .name-of .ensures in
+    let kind = c .before .before .before .before .kind-of .ensures .is (shelf (now (a .book)) (now (a .second))) in
+    let number = c .before .before .before .refusal-of .ensures in
+    let part = c .before .before .part-of .ensures in
     λ i. record {
       refusal = number i;
       name = name .0 i;
@@ -33,8 +35,9 @@ returns c =
       score = x .best .value .score;
       count = a .budget - x .run .left;
       records = x .run .records;
+      part = part i;
     }
 
 pub answer-spec : {M : Type 1} → statement M
 answer-spec =
-    tie.close (tie.spec name-of-requires kind-of-requires refusal-of-requires sub-t12 returns)
+    tie.close (tie.spec name-of-requires kind-of-requires refusal-of-requires part-of-requires (λ c. search needs) returns)

@@ -14,8 +14,8 @@ cast-result c = search needs
 
 returns : tie.Need-returns
 returns c =
-    let a = c .before .before .before .before .args in
-    kind-yes (a .limits) (a .best) (sym (c .before .before .before .names .ensures) ∙ c .before .before .if1 .taken)
+    let a = c .before .before .before .before .before .args in
+    kind-yes (a .limits) (a .best) (sym (c .before .before .before .before .names .ensures) ∙ c .before .before .before .if1 .taken)
 
 returns-2 : tie.Need-returns-2
 returns-2 c =

@@ -6,9 +6,8 @@ use native.Mathlib.Omega.{arith}
 use Prim.Native.Nat.{ℕ}
 use denote.Ref.{now}
 use borrow.Author.Needs.{needs}
+use Rattle.detection.specs.Shelves.{shelf, texts}
 use Rattle.rules.specs.Scan.{events}
-use Rattle.rules.specs.Book.{stored}
-use Rattle.refusals.proofs.AdmitLaws.{scan-through}
 use Rattle.scan_job.proofs.ModeLaws.{eliminated-as}
 use Rattle.scan_job.proofs.AnswerLaws.{scan-room, answer-fits, answer-is, results-are}
 use Rattle.scan_job.proofs.scan_laid.Statement.{statement}
@@ -19,36 +18,36 @@ class-table-requires c κs = search needs
 
 lay-requires : tie.Need-lay-requires
 lay-requires c κs =
-    let p = scan-through _ _ _ _ _ _ (c .before .before .before .before .before .before .before .before .before .pre .0) in
+    let p = c .before .before .before .before .before .before .before .before .before .before .pre .0 in
     (c .before .before .before .class-table .ensures, p .both .text, p .bytes, p .words)
 
 scan-mode-requires : tie.Need-scan-mode-requires
 scan-mode-requires c κs =
-    let s = c .before .before .before .before .before .before .before .before .before .before .before .before .before .before .before .before .before .before in
+    let s = c .before .before .before .before .before .before .before .before .before .before .before .before .before .before .before .before .before .before .before in
     let a = s .args in
     let l = c .before .before .before .before .before .before .before .before .lay .ensures in
-    let p = scan-through _ _ _ _ _ _ (s .pre .0) in (
+    let p = s .pre .0 in (
       record {
         classes = c .before .before .before .before .before .before .before .before .before .before .before .before .class-table .ensures;
         laid = l .0;
         few = omega (arith, l .1 .1, p .both .few);
-        sound = p .both .sound;
-        texts = s .pre .1;
+        counted = s .pre .1;
         some-text = p .both .some;
       },
-      (p .step, scan-room (now (a .text)) (now (a .book)) (a .limits) (a .mode) (a .budget) (now (a .area)) (now (a .words)) (now (a .results)) (s .pre .0) _ (l .1 .0)),
+      (p .step, scan-room (now (a .text)) (shelf (now (a .book)) (now (a .second))) (a .limits) (a .mode) (a .budget) _ (now (a .results)) (s .pre .0) _ (l .1 .0)),
     )
 
 answer-requires : tie.Need-answer-requires
 answer-requires c κs =
-    let s = c .before .before .before .before .before .before .before .before .before .before .before .before .before .before .before .before .before .before .before .before .before .before .before .before .before in
+    let s = c .before .before .before .before .before .before .before .before .before .before .before .before .before .before .before .before .before .before .before .before .before .before .before .before .before .before in
     let a = s .args in
-    let e = ap (λ (ls : List (List ℕ)). events (a .limits) (a .mode) (stored (now (a .book))) ls) (sym (c .before .before .before .before .before .before .before .before .before .before .before .before .before .before .before .lay .ensures .1 .0)) in
+    let e = ap (λ (ls : List (List ℕ)). events (a .limits) (a .mode) (texts (shelf (now (a .book)) (now (a .second)))) ls) (sym (c .before .before .before .before .before .before .before .before .before .before .before .before .before .before .before .lay .ensures .1 .0)) in
     let h = eliminated-as e (c .before .before .before .before .before .before .scan-mode .ensures) in
-    (h .name, answer-fits (now (a .text)) (now (a .book)) (a .limits) (a .mode) (a .budget) (now (a .area)) (now (a .words)) (now (a .results)) (s .pre .0) _ _ h)
+    (h .name, answer-fits (now (a .text)) (shelf (now (a .book)) (now (a .second))) (a .limits) (a .mode) (a .budget) (now (a .results)) _ _ h)
 
 same-length : tie.Need-same-length
-same-length c = search needs
+same-length c =
+    c .before .before .before .before .before .before .area2 .given ∙ c .before .before .before .before .before .before .before .before .before .before .before .before .before .before .before .area .given
 
 same-length-2 : tie.Need-same-length-2
 same-length-2 c = search needs
@@ -58,14 +57,14 @@ same-length-3 c = search needs
 
 returns : tie.Need-returns
 returns c =
-    let s = c .before .before .before .before .before .before .before .before .before .before .before .before .before .before .before .before .before .before .before .before .before .before .before .before .before .before in
+    let s = c .before .before .before .before .before .before .before .before .before .before .before .before .before .before .before .before .before .before .before .before .before .before .before .before .before .before .before in
     let a = s .args in
-    let e = ap (λ (ls : List (List ℕ)). events (a .limits) (a .mode) (stored (now (a .book))) ls) (sym (c .before .before .before .before .before .before .before .before .before .before .before .before .before .before .before .before .lay .ensures .1 .0)) in
+    let e = ap (λ (ls : List (List ℕ)). events (a .limits) (a .mode) (texts (shelf (now (a .book)) (now (a .second)))) ls) (sym (c .before .before .before .before .before .before .before .before .before .before .before .before .before .before .before .before .lay .ensures .1 .0)) in
     let h = eliminated-as e (c .before .before .before .before .before .before .before .scan-mode .ensures) in
+    let books = shelf (now (a .book)) (now (a .second)) in
     record {
-      answer = c .answer .ensures ∙
-          answer-is (now (a .text)) (now (a .book)) (a .limits) (a .mode) (a .budget) (now (a .area)) (now (a .words)) (now (a .results)) (s .pre .0) _ _ h;
-      results = results-are (now (a .text)) (now (a .book)) (a .limits) (a .mode) (a .budget) (now (a .area)) (now (a .words)) (now (a .results)) (s .pre .0) _ _ h;
+      answer = c .answer .ensures ∙ answer-is (now (a .text)) books (a .limits) (a .mode) (a .budget) (now (a .results)) _ _ h;
+      results = results-are (now (a .text)) books (a .limits) (a .mode) (a .budget) (now (a .results)) _ _ h;
     }
 
 pub scan-laid-spec : {M : Type 1} → statement M

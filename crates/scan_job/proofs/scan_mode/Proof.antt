@@ -17,7 +17,7 @@ enum-known-mode c = search needs
 
 elimination-requires : tie.Need-elimination-requires
 elimination-requires c κs =
-    let start = c .before .before .before .before .before .before .before .before .before .before in
+    let start = c .before .before .before .before .before .before .before .before .before .before .before in
     let a = start .args in
     let e = by-elimination (a .scope .limits) (a .mode) _ _ _ _ (c .before .before .before .before .mode .given .1) in
     (start .pre .0, subst (λ (es : List Event). length (written (a .budget) es) ≤ length (now (a .results))) e (start .pre .1 .1))
@@ -27,7 +27,7 @@ enum-known-mode-2 c = search needs
 
 top-down-requires : tie.Need-top-down-requires
 top-down-requires c κs =
-    let start = c .before .before .before .before .before .before .before .before .before .before in
+    let start = c .before .before .before .before .before .before .before .before .before .before .before in
     let a = start .args in
     let m = c .before .before .before .before .mode2 .given .1 in
     let e = by-top-down (a .scope .limits) (a .mode) _ _ _ m in (
@@ -49,7 +49,7 @@ same-length-3 c = search needs
 
 returns : tie.Need-returns
 returns c =
-    let a = c .before .before .before .before .before .before .before .before .before .before .before .before .before .before .before .before .before .args in
+    let a = c .before .before .before .before .before .before .before .before .before .before .before .before .before .before .before .before .before .before .args in
     eliminated-as (by-elimination (a .scope .limits) (a .mode) _ _ _ _ (c .before .before .before .before .before .before .before .before .before .before .before .mode .given .1)) (c .before .before .before .before .before .before .elimination .ensures)
 
 same-length-4 : tie.Need-same-length-4
@@ -63,11 +63,11 @@ same-length-6 c = search needs
 
 returns-2 : tie.Need-returns-2
 returns-2 c =
-    let start = c .before .before .before .before .before .before .before .before .before .before .before .before .before .before .before .before .before .before in
+    let start = c .before .before .before .before .before .before .before .before .before .before .before .before .before .before .before .before .before .before .before in
     let a = start .args in
     let m = c .before .before .before .before .before .before .before .before .before .before .before .before .mode2 .given .1 in
     eliminated-as (by-top-down (a .scope .limits) (a .mode) _ _ _ m)
-    (down-ended (a .scope .limits) _ _ _ _ (step-above (a .mode) _ m (start .pre .1 .0)) (c .no-best .ensures) (c .before .before .before .before .before .before .before .top-down .ensures))
+    (down-ended (a .scope .limits) _ _ _ _ (c .no-best .ensures) (c .before .before .before .before .before .before .before .top-down .ensures))
 
 pub scan-mode-spec : {M : Type 1} → statement M
 scan-mode-spec =

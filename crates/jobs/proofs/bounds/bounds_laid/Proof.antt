@@ -1,13 +1,13 @@
 -- `jobs::bounds::bounds_laid` meets its contract: the note's lines are laid, the stored text's body is found, and 104 scorings pay the search.
 -- Assumes nothing.
-use mathlib.Core.Path.{_∙_}
+use mathlib.Core.Path.{sym, ap, _∙_}
 use native.Mathlib.Omega.{arith}
 use denote.Ref.{now}
 use borrow.Author.Needs.{needs}
 use lib.ListN.{getD}
 use Rattle.rules.specs.Search.{noText}
-use Rattle.rules.specs.Book.{stored}
-use Rattle.refusals.proofs.AdmitLaws.{view-through}
+use Rattle.detection.specs.Shelves.{shelf, texts}
+use Rattle.license.specs.Ready.{tableOfBody}
 use Rattle.jobs.proofs.JobLaws.{stored-table}
 use Rattle.jobs.proofs.BoundsLaws.{answer-fits, answer-is, bounds-found}
 use Rattle.jobs.proofs.bounds.bounds_laid.Statement.{statement}
@@ -16,13 +16,17 @@ use Rattle.jobs.proofs.bounds.bounds_laid.Tie as tie
 lay-requires : tie.Need-lay-requires
 lay-requires c κs =
     let made = c .before .before .before in
-    let p = view-through _ _ _ _ _ (made .before .before .before .before .before .pre) in
+    let p = made .before .before .before .before .before .before .pre .0 in
     (made .class-table .ensures, p .both .text, p .bytes, p .words)
 
-stored-at-requires : tie.Need-stored-at-requires
-stored-at-requires c κs =
-    let p = view-through _ _ _ _ _ (c .before .before .before .before .before .before .before .before .before .before .before .before .before .pre) in
-    (p .both .sound, omega (arith, p .number))
+stored-on-requires : tie.Need-stored-on-requires
+stored-on-requires c κs =
+    let start = c .before .before .before .before .before .before .before .before .before .before .before .before .before .before in
+    let p = start .pre .0 in
+    (start .pre .1, omega (arith, p .number, start .pre .1 .all))
+
+body-of-requires : tie.Need-body-of-requires
+body-of-requires c κs = c .stored-on .ensures .0
 
 find-bounds-requires : tie.Need-find-bounds-requires
 find-bounds-requires c κs =
@@ -30,8 +34,8 @@ find-bounds-requires c κs =
     let laid = found .before .before .before .before .before in
     let made = laid .before .before .before .before in
     let l = laid .lay .ensures in
-    let p = view-through _ _ _ _ _ (made .before .before .before .before .before .pre) in (
-      record { laid = l .0; classes = made .class-table .ensures; sound = found .stored-at .ensures .is .sound },
+    let p = made .before .before .before .before .before .before .pre .0 in (
+      record { laid = l .0; classes = made .class-table .ensures; sound = rw (c .before .before .before .body-of .ensures) (found .stored-on .ensures .0 .found .is .sound) },
       (omega (arith, p .start), omega (arith, p .end, l .1 .1), omega (arith, p .both .few, l .1 .1)),
     )
 
@@ -39,10 +43,11 @@ answer-requires : tie.Need-answer-requires
 answer-requires c κs =
     let searched = c .before .before .before .before in
     let found = searched .before .before .before .before .before in
-    let s = found .before .before .before .before .before .before .before .before .before .before .before .before .before .before in
-    let p = view-through _ _ _ _ _ (s .pre) in
-    let wanted = getD (stored (now (s .args .book))) (s .args .k) noText in
-    let text = stored-table _ wanted _ (found .stored-at .ensures .is) in
+    let s = found .before .before .before .before .before .before .before .before .before .before .before .before .before .before .before in
+    let p = s .pre .0 in
+    let books = shelf (now (s .args .book)) (now (s .args .second)) in
+    let wanted = getD (texts books) (s .args .k) noText in
+    let text = stored-table books _ _ (found .stored-on .ensures .0) (found .stored-on .ensures .1) ∙ ap tableOfBody (sym (searched .before .before .before .before .body-of .ensures)) in
     answer-fits _ _ _ (p .start) (omega (arith, p .end, p .both .few)) _ (searched .find-bounds .ensures .found wanted text)
 
 returns : tie.Need-returns
@@ -50,12 +55,13 @@ returns c =
     let searched = c .before .before .before .before .before in
     let found = searched .before .before .before .before .before in
     let laid = found .before .before .before .before .before in
-    let s = laid .before .before .before .before .before .before .before .before .before in
+    let s = laid .before .before .before .before .before .before .before .before .before .before in
     let a = s .args in
-    let p = view-through _ _ _ _ _ (s .pre) in
-    let wanted = getD (stored (now (a .book))) (a .k) noText in
-    let text = stored-table _ wanted _ (found .stored-at .ensures .is) in
-    bounds-found (now (a .text)) (now (a .book)) (a .v) (a .k) (a .area .now) (a .words .now) _ _ (p .start) (omega (arith, p .end, p .both .few)) (s .pre)
+    let p = s .pre .0 in
+    let books = shelf (now (a .book)) (now (a .second)) in
+    let wanted = getD (texts books) (a .k) noText in
+    let text = stored-table books _ _ (found .stored-on .ensures .0) (found .stored-on .ensures .1) ∙ ap tableOfBody (sym (searched .before .before .before .before .body-of .ensures)) in
+    bounds-found (now (a .text)) (texts books) _ (a .v) (a .k) _ (p .start) (omega (arith, p .end, p .both .few))
     (laid .lay .ensures .1 .0)
     (c .answer .ensures ∙ answer-is _ _ _ (p .start) (omega (arith, p .end, p .both .few)) _ (searched .find-bounds .ensures .found wanted text))
 
@@ -65,10 +71,8 @@ bounds-laid-spec =
     (tie.spec
     (λ c κs. search needs)
     lay-requires
-    stored-at-requires
-    (λ c. search needs)
-    (λ c. search needs)
-    (λ c. search needs)
+    stored-on-requires
+    body-of-requires
     find-bounds-requires
     answer-requires
     (λ c. search needs)

@@ -13,7 +13,7 @@ use Rattle.scan.proofs.elimination.best_without.Tie as tie
 
 blank-lines-requires : tie.Need-blank-lines-requires
 blank-lines-requires c κs =
-    let start = c .before .before .before .before in
+    let start = c .before .before .before .before .before .before in
     let laid = start .pre .0 .laid in
     (start .pre .1 .0, omega (arith, start .pre .1 .1, laid .few, laid .words-room))
 
@@ -22,13 +22,13 @@ whole-view-requires c κs = search needs
 
 best-text-requires : tie.Need-best-text-requires
 best-text-requires c κs =
-    let start = c .before .before .before .before .before .before .before .before .before .before in
+    let start = c .before .before .before .before .before .before .before .before .before .before .before .before in
     let s = start .pre .0 in
     let blanked = c .before .before .before .before .before .blank-lines in (
       (s .classes, laid-blank (s .laid) (blanked .ensures) (blanked .kept .0)),
       (
         subst (λ (w : View). (w .start ≤ w .end) × (w .end ≤ start .args .scope .lines)) (sym (c .whole-view .ensures)) (omega arith, omega arith),
-        (s .sound, s .texts),
+        s .counted,
       ),
     )
 
@@ -40,7 +40,7 @@ same-length-2 c = search needs
 
 returns : tie.Need-returns
 returns c =
-    let start = c .before .before .before .before .before .before .before .before .before .before .before .before .before .before .before in
+    let start = c .before .before .before .before .before .before .before .before .before .before .before .before .before .before .before .before .before in
     let blanked = c .before .before .before .before .before .before .before .before .before .before .blank-lines in
     best-without (start .pre .0) (blanked .ensures) (blanked .kept .0) (c .before .before .before .before .before .whole-view .ensures) (c .before .before .before .before .best-text .ensures)
 

@@ -6,25 +6,25 @@ use Prim.Native.Nat.{_-_, _≤_}
 use native.Mathlib.Omega.{arith}
 use borrow.Author.Needs.{needs}
 use Rattle.rules.specs.declared.View.{View}
-use Rattle.detect.specs.Bests.{textIn}
+use Rattle.detection.specs.Shelves.{shelf, textIn}
 use Rattle.scan.proofs.HeldLaws.{scanning-held}
 use Rattle.scan.proofs.PassLaws.{Passing, pass-first, pass-out, pass-fits, pass-below, pass-room, pass-found, pass-out-again, pass-again, pass-end, without-held, without-out}
 use Rattle.scan.proofs.elimination.each_pass.Statement.{statement}
 use Rattle.scan.proofs.elimination.each_pass.Tie as tie
 
 abbrev Inv-loop : tie.InvT-loop
-Inv-loop class area₀ words₀ scope book p results₀ budget v best₀ left₀ k₀ area words results best left k =
-    Passing scope class area₀ words₀ book results₀ p budget best₀ area words results best left k
+Inv-loop class area₀ words₀ scope book second p results₀ budget v best₀ left₀ k₀ area words results best left k =
+    Passing scope class area₀ words₀ (shelf book second) results₀ p budget best₀ area words results best left k
 
 abbrev μ-loop : tie.MeasureT-loop
-μ-loop class area₀ words₀ scope book p results₀ budget v best₀ left₀ k₀ area words results best left k = p - k
+μ-loop class area₀ words₀ scope book second p results₀ budget v best₀ left₀ k₀ area words results best left k = p - k
 
 whole-view-requires : tie.Need-whole-view-requires Inv-loop μ-loop
 whole-view-requires c κs = search needs
 
 loop-holds : tie.Need-loop-holds Inv-loop μ-loop
 loop-holds c =
-    let pre = c .before .before .before .before .before .pre in
+    let pre = c .before .before .before .before .before .before .pre in
     pass-first _ _ _ _ _ _ _ _ _ (pre .0) (pre .1 .0) (pre .1 .1)
 
 text-bounds-requires : tie.Need-text-bounds-requires Inv-loop μ-loop
@@ -32,7 +32,7 @@ text-bounds-requires c κs =
     let i = c .before .before .before .before .loop .inv in (
       i .ready,
       (
-        subst (λ (w : View). (w .start ≤ w .end) × (w .end ≤ c .before .before .before .before .before .before .before .before .before .before .args .scope .lines)) (sym (c .before .before .before .before .before .whole-view .ensures)) (omega arith, omega arith),
+        subst (λ (w : View). (w .start ≤ w .end) × (w .end ≤ c .before .before .before .before .before .before .before .before .before .before .before .args .scope .lines)) (sym (c .before .before .before .before .before .whole-view .ensures)) (omega arith, omega arith),
         i .stands,
       ),
     )
@@ -91,7 +91,7 @@ put-record-requires c κs =
     )
 
 add-k : tie.Need-add-k Inv-loop μ-loop
-add-k c = omega (arith, c .before .before .before .before .before .before .before .before .before .before .before .before .before .before .before .before .before .loop-test .taken, c .before .before .before .before .before .before .before .before .before .before .before .before .before .before .before .before .before .before .before .before .before .before .before .before .fits .p)
+add-k c = omega (arith, c .before .before .before .before .before .before .before .before .before .before .before .before .before .before .before .before .before .loop-test .taken, c .before .before .before .before .before .before .before .before .before .before .before .before .before .before .before .before .before .before .before .before .before .before .before .before .before .fits .p)
 
 best-without-requires : tie.Need-best-without-requires Inv-loop μ-loop
 best-without-requires c κs =

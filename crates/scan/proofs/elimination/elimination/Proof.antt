@@ -5,6 +5,7 @@ use Prim.Native.Nat.{_≤_}
 use native.Mathlib.Omega.{arith}
 use denote.Ref.{now}
 use borrow.Author.Needs.{needs}
+use Rattle.detection.specs.Shelves.{shelf}
 use Rattle.rules.specs.declared.View.{View}
 use Rattle.rules.specs.Scan.{names, stops}
 use Rattle.detect.specs.Bests.{bestIn}
@@ -19,12 +20,12 @@ whole-view-requires c κs = search needs
 
 best-text-requires : tie.Need-best-text-requires
 best-text-requires c κs =
-    let start = c .before .before .before .before .before .before .before in
+    let start = c .before .before .before .before .before .before .before .before .before in
     let s = start .pre .0 in (
       (s .classes, s .laid),
       (
         subst (λ (w : View). (w .start ≤ w .end) × (w .end ≤ start .args .scope .lines)) (sym (c .before .before .whole-view .ensures)) (omega arith, omega arith),
-        (s .sound, s .texts),
+        s .counted,
       ),
     )
 
@@ -48,7 +49,7 @@ same-length-2 c = search needs
 
 returns : tie.Need-returns
 returns c =
-    let pre = c .before .before .before .before .before .before .before .before .before .before .before .before .before .before .before .before .pre in
+    let pre = c .before .before .before .before .before .before .before .before .before .before .before .before .before .before .before .before .before .before .pre in
     whole-out (pre .0) _ _ _ _ (pre .1) _ (c .before .before .before .before .before .before .before .before .before .before .before .whole-view .ensures) _ (done-as (c .before .before .enum-told .given .1) (c .before .before .before .before .before .before .before .before .best-text .ensures)) (c .before .no-best .ensures) (c .out-at .ensures)
 
 stops-requires : tie.Need-stops-requires
@@ -66,7 +67,7 @@ same-length-4 c = search needs
 returns-2 : tie.Need-returns-2
 unfolding stops names bestIn
 returns-2 c =
-    let pre = c .before .before .before .before .before .before .before .before .before .before .before .before .before .before .before .before .before .before .pre in
+    let pre = c .before .before .before .before .before .before .before .before .before .before .before .before .before .before .before .before .before .before .before .before .pre in
     whole-stop (pre .0) _ _ _ _ (pre .1) _ (c .before .before .before .before .before .before .before .before .before .before .before .before .before .whole-view .ensures) _ _ (done-as (c .before .before .before .before .best .given .1) (c .before .before .before .before .before .before .before .before .before .before .best-text .ensures)) _
     (stop-by-best _ _ (sym (c .before .before .stops .ensures) ∙ c .before .if1 .taken)) refl (c .ended .ensures)
 
@@ -81,19 +82,19 @@ same-length-6 c = search needs
 
 returns-3 : tie.Need-returns-3
 returns-3 c =
-    let start = c .before .before .before .before .before .before .before .before .before .before .before .before .before .before .before .before .before .before .before in
+    let start = c .before .before .before .before .before .before .before .before .before .before .before .before .before .before .before .before .before .before .before .before .before in
     let pre = start .pre in
     whole-stop (pre .0) _ _ _ _ (pre .1) _ (c .before .before .before .before .before .before .before .before .before .before .before .before .before .before .whole-view .ensures) _ _ (done-as (c .before .before .before .before .before .best .given .1) (c .before .before .before .before .before .before .before .before .before .before .before .best-text .ensures)) _
-    (stop-by-setting (stops (start .args .scope .limits) (bestIn (now (start .args .book)) (c .before .before .before .before .before .best .given .0 .0))) _ (c .before .if2 .taken)) refl (c .ended2 .ensures)
+    (stop-by-setting (stops (start .args .scope .limits) (bestIn (shelf (now (start .args .book)) (now (start .args .second))) (c .before .before .before .before .before .best .given .0 .0))) _ (c .before .if2 .taken)) refl (c .ended2 .ensures)
 
 each-pass-requires : tie.Need-each-pass-requires
 unfolding stops names bestIn
 each-pass-requires c κs =
-    let pre = c .before .before .before .before .before .before .before .before .before .before .before .before .before .before .before .before .before .before .before .before .before .pre in
+    let pre = c .before .before .before .before .before .before .before .before .before .before .before .before .before .before .before .before .before .before .before .before .before .before .before .pre in
     let d = done-as (c .before .before .before .before .before .before .before .best .given .1) (c .before .before .before .before .before .before .before .before .before .before .before .before .before .best-text .ensures) in
     let on = no-stop _ _ (sym (c .before .before .before .before .before .stops .ensures) ∙ c .before .before .before .before .if1 .left) (c .before .before .before .if2 .left) in (
       scanning-held (pre .0) (d .held),
-      (best-stands (pre .0) _ _ _ (now (c .before .before .before .before .before .before .before .before .before .before .before .before .before .before .before .before .before .before .before .before .before .args .results)) (pre .1) _ (c .before .before .before .before .before .before .before .before .before .before .before .before .before .before .before .before .whole-view .ensures) _ _ d, whole-room (pre .0) _ _ _ (now (c .before .before .before .before .before .before .before .before .before .before .before .before .before .before .before .before .before .before .before .before .before .args .results)) (pre .1) _ (c .before .before .before .before .before .before .before .before .before .before .before .before .before .before .before .before .whole-view .ensures) _ _ d on),
+      (best-stands (pre .0) _ _ _ (now (c .before .before .before .before .before .before .before .before .before .before .before .before .before .before .before .before .before .before .before .before .before .before .before .args .results)) (pre .1) _ (c .before .before .before .before .before .before .before .before .before .before .before .before .before .before .before .before .whole-view .ensures) _ _ d, whole-room (pre .0) _ _ _ (now (c .before .before .before .before .before .before .before .before .before .before .before .before .before .before .before .before .before .before .before .before .before .before .before .args .results)) (pre .1) _ (c .before .before .before .before .before .before .before .before .before .before .before .before .before .before .before .before .whole-view .ensures) _ _ d on),
     )
 
 same-length-7 : tie.Need-same-length-7
@@ -108,7 +109,7 @@ same-length-9 c = search needs
 returns-4 : tie.Need-returns-4
 unfolding stops names bestIn
 returns-4 c =
-    let pre = c .before .before .before .before .before .before .before .before .before .before .before .before .before .before .before .before .before .before .before .before .before .before .before .before .before .before .before .before .pre in
+    let pre = c .before .before .before .before .before .before .before .before .before .before .before .before .before .before .before .before .before .before .before .before .before .before .before .before .before .before .before .before .before .before .pre in
     let d = done-as (c .before .before .before .before .before .before .before .before .before .before .before .before .before .before .best .given .1) (c .before .before .before .before .before .before .before .before .before .before .before .before .before .before .before .before .before .before .before .before .best-text .ensures) in
     let on = no-stop _ _ (sym (c .before .before .before .before .before .before .before .before .before .before .before .before .stops .ensures) ∙ c .before .before .before .before .before .before .before .before .before .before .before .if1 .left) (c .before .before .before .before .before .before .before .before .before .before .if2 .left) in
     whole-on (pre .0) _ _ _ _ (pre .1) _ (c .before .before .before .before .before .before .before .before .before .before .before .before .before .before .before .before .before .before .before .before .before .before .before .whole-view .ensures) _ _ d on _ refl (c .before .before .before .before .before .before .each-pass .ensures)

@@ -21,7 +21,7 @@ settle-requires : tie.Need-settle-requires
 unfolding WalkedStands
 settle-requires c κs =
     let w = pairs-as (c .before .before .before .latest .given .1) (c .before .before .before .before .before .before .before .before .before .walk-starts .ensures) in
-    (scanning-held (c .before .before .before .before .before .before .before .before .before .before .before .before .before .before .before .pre .0) (w .held), w .stands)
+    (scanning-held (c .before .before .before .before .before .before .before .before .before .before .before .before .before .before .before .before .pre .0) (w .held), w .stands)
 
 enum-known-latest-2 : tie.Need-enum-known-latest-2
 enum-known-latest-2 c = search needs
@@ -30,7 +30,7 @@ settle-requires-2 : tie.Need-settle-requires-2
 unfolding WalkedStands
 settle-requires-2 c κs =
     let w = pairs-as (c .before .before .before .latest2 .given .1) (c .before .before .before .before .before .before .before .before .before .walk-starts .ensures) in
-    (scanning-held (c .before .before .before .before .before .before .before .before .before .before .before .before .before .before .before .pre .0) (w .held), w .stands)
+    (scanning-held (c .before .before .before .before .before .before .before .before .before .before .before .before .before .before .before .before .pre .0) (w .held), w .stands)
 
 same-length : tie.Need-same-length
 same-length c = search needs

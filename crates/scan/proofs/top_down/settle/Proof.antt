@@ -14,12 +14,12 @@ enum-told : tie.Need-enum-told
 enum-told c = search needs
 
 returns : tie.Need-returns
-returns c = settle-none (c .before .before .before .before .before .pre .0) _ _ (c .enum-told .given .1)
+returns c = settle-none (c .before .before .before .before .before .before .pre .0) _ _ (c .enum-told .given .1)
 
 text-bounds-requires : tie.Need-text-bounds-requires
 unfolding LatestStands
 text-bounds-requires c κs =
-    let start = c .before .before .before .before .before .before .before .before in
+    let start = c .before .before .before .before .before .before .before .before .before in
     let h = subst (LatestStands _ (start .args .scope .lines)) (c .before .before .before .latest .given .1) (start .pre .1) in
     (start .pre .0, ((h .1, h .2), h .0))
 
@@ -37,7 +37,7 @@ same-length-2 c = search needs
 
 returns-2 : tie.Need-returns-2
 returns-2 c =
-    settle-out (c .before .before .before .before .before .before .before .before .before .before .before .before .before .before .before .pre .0) _ _ _ _ (c .before .before .before .before .before .before .before .before .before .before .latest .given .1) (range-as (c .enum-told2 .given .1) (c .before .before .before .before .before .before .text-bounds .ensures))
+    settle-out (c .before .before .before .before .before .before .before .before .before .before .before .before .before .before .before .before .pre .0) _ _ _ _ (c .before .before .before .before .before .before .before .before .before .before .latest .given .1) (range-as (c .enum-told2 .given .1) (c .before .before .before .before .before .before .text-bounds .ensures))
 
 below-requires : tie.Need-below-requires
 below-requires c κs = search needs
@@ -50,7 +50,7 @@ same-length-4 c = search needs
 
 returns-3 : tie.Need-returns-3
 returns-3 c =
-    settle-below (c .before .before .before .before .before .before .before .before .before .before .before .before .before .before .before .before .before .before .pre .0) _ _ _ _ (c .before .before .before .before .before .before .before .before .before .before .before .before .before .latest .given .1) _ _ (range-as (c .before .before .before .range .given .1) (c .before .before .before .before .before .before .before .before .before .text-bounds .ensures))
+    settle-below (c .before .before .before .before .before .before .before .before .before .before .before .before .before .before .before .before .before .before .before .pre .0) _ _ _ _ (c .before .before .before .before .before .before .before .before .before .before .before .before .before .latest .given .1) _ _ (range-as (c .before .before .before .range .given .1) (c .before .before .before .before .before .before .before .before .before .text-bounds .ensures))
     (sym (c .before .below .ensures) ∙ c .if1 .taken)
 
 same-length-5 : tie.Need-same-length-5
@@ -61,8 +61,8 @@ same-length-6 c = search needs
 
 returns-4 : tie.Need-returns-4
 returns-4 c =
-    settle-found (c .before .before .before .before .before .before .before .before .before .before .before .before .before .before .before .before .before .before .pre .0) _ _ _ _ (c .before .before .before .before .before .before .before .before .before .before .before .before .before .latest .given .1) _ _ (range-as (c .before .before .before .range .given .1) (c .before .before .before .before .before .before .before .before .before .text-bounds .ensures))
-    (sym (c .before .below .ensures) ∙ c .if1 .left) (c .before .before .before .before .before .before .before .before .before .before .before .before .before .before .before .before .before .before .pre .1)
+    settle-found (c .before .before .before .before .before .before .before .before .before .before .before .before .before .before .before .before .before .before .before .pre .0) _ _ _ _ (c .before .before .before .before .before .before .before .before .before .before .before .before .before .latest .given .1) _ _ (range-as (c .before .before .before .range .given .1) (c .before .before .before .before .before .before .before .before .before .text-bounds .ensures))
+    (sym (c .before .below .ensures) ∙ c .if1 .left) (c .before .before .before .before .before .before .before .before .before .before .before .before .before .before .before .before .before .before .before .pre .1)
 
 pub settle-spec : {M : Type 1} → statement M
 settle-spec =

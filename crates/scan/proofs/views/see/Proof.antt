@@ -8,9 +8,9 @@ use Rattle.scan.proofs.views.see.Tie as tie
 
 best-above-requires : tie.Need-best-above-requires
 best-above-requires c κs =
-    let pre = c .before .before .before .before .before .pre in
+    let pre = c .before .before .before .before .before .before .before .pre in
     let s = pre .0 in
-    ((s .classes, s .laid), (pre .1 .0, (s .sound, s .texts)))
+    ((s .classes, s .laid), (pre .1 .0, s .counted))
 
 enum-known-best : tie.Need-enum-known-best
 enum-known-best c = search needs
@@ -38,7 +38,7 @@ same-length-4 c = search needs
 
 returns-2 : tie.Need-returns-2
 returns-2 c =
-    let pre = c .before .before .before .before .before .before .before .before .before .before .before .before .before .before .before .before .pre in
+    let pre = c .before .before .before .before .before .before .before .before .before .before .before .before .before .before .before .before .before .before .pre in
     see-low _ _ _ _ _ _ _ _ _ (above-as (c .before .before .before .before .best .given .1) (c .before .before .before .before .before .before .before .before .before .before .best-above .ensures)) _ (c .before .if1 .taken) (pre .1 .1) (c .lower .ensures)
 
 same-length-5 : tie.Need-same-length-5
@@ -49,7 +49,7 @@ same-length-6 c = search needs
 
 returns-3 : tie.Need-returns-3
 returns-3 c =
-    let pre = c .before .before .before .before .before .before .before .before .before .before .before .before .before .before .before .before .pre in
+    let pre = c .before .before .before .before .before .before .before .before .before .before .before .before .before .before .before .before .before .before .pre in
     see-high _ _ _ _ _ _ _ _ _ (above-as (c .before .before .before .before .best .given .1) (c .before .before .before .before .before .before .before .before .before .before .best-above .ensures)) (c .before .if1 .left) (pre .1 .0) (pre .0 .some-text)
 
 pub see-spec : {M : Type 1} → statement M

@@ -1,0 +1,125 @@
+-- Lent books, two and one: what the definitions compute. Answers from a model written apart.
+-- Assumes nothing.
+use Prim.Native.Nat.{ℕ}
+use Prim.Native.String.{String}
+use mathlib.Core.Path.{_≡_, refl}
+use mathlib.Core.Bool.{Bool, true, false, cond}
+use mathlib.Core.List.{List, [], _∷_, _++_, map}
+use lib.ListN.{length, take}
+use lib.Ieee.{toBits, ofBits, binary32}
+use Rattle.rules.specs.declared.Limits.{Limits}
+use Rattle.rules.specs.declared.Mode.the-variants.{Elimination, TopDown}
+use Rattle.rules.specs.Bytes.{text}
+use Rattle.rules.specs.Search.{view}
+use Rattle.rules.specs.Book.{written, compiled}
+use Rattle.rules.specs.Refusal.{Areas}
+use Rattle.rules.specs.Jobs.{scan, scoreJob, boundsJob, resultsAfter}
+use Rattle.rules.proofs.Opened.{opened}
+
+rec : ℕ → List ℕ → List ℕ
+rec kind body = written 4 (length body) ++ written 2 kind ++ body
+
+licence : String → String → List ℕ
+licence n s = rec 1 (text n) ++ rec 2 (compiled (text s))
+
+a1 : List ℕ
+a1 = licence "A" "My First License"
+
+b1 : List ℕ
+b1 = licence "B" "another text of some words"
+
+note : List ℕ
+note = text "My First License"
+
+room : Areas
+room = record { bytes = 100_000; words = 100_000 }
+
+bit : Bool → ℕ
+bit b = cond b 1 0
+
+limits : ℕ → Limits
+limits threshold = record { threshold = ofBits binary32 threshold; shallow = ofBits binary32 0x3f000000 }
+
+-- refusal, count, score bits, kind, the name's length; second, at, len of the name's part
+above : ℕ → List ℕ → List (List ℕ) → ℕ → List ℕ
+above threshold t bs budget =
+    let r = scan t bs (limits threshold) (Elimination false 0) budget room 0 in
+    let n = r .part in
+    r .refusal ∷ r .count ∷ toBits binary32 (r .score) ∷ r .kind ∷ r .len ∷ bit (n .second) ∷ n .at ∷ n .len ∷ []
+
+shown : List ℕ → List (List ℕ) → ℕ → List ℕ
+shown t bs budget = above 0x3f000000 t bs budget
+
+-- top-down with its record: refusal, count, stored number, first line, line after last, score bits, then the part
+down : List ℕ → List (List ℕ) → List ℕ
+down t bs =
+    let r = scan t bs (limits 0x3f000000) (TopDown 1) 99 room 4 in
+    r .refusal ∷ r .count ∷ resultsAfter t bs (limits 0x3f000000) (TopDown 1) 99 room (7 ∷ 7 ∷ 7 ∷ 7 ∷ []) ++ bit (r .part .second) ∷ r .part .at ∷ r .part .len ∷ []
+
+-- the bounds of stored text k in the whole note of one line: refusal, first line, line after last, score bits, count
+found : List (List ℕ) → ℕ → List ℕ
+found bs k =
+    let r = boundsJob note bs (view 0 1) k room in
+    r .refusal ∷ r .first ∷ r .after ∷ toBits binary32 (r .score) ∷ r .count ∷ []
+
+pub got : List (List ℕ)
+got =
+    shown note (a1 ∷ b1 ∷ []) 9 ∷
+    shown note (b1 ∷ a1 ∷ []) 9 ∷
+    shown note (a1 ∷ a1 ∷ []) 9 ∷
+    shown note ((b1 ++ licence "C" "My First License") ∷ a1 ∷ []) 9 ∷
+    shown note (b1 ∷ (a1 ++ licence "C" "My First License") ∷ []) 9 ∷
+    shown note ([] ∷ a1 ∷ []) 9 ∷
+    shown note (a1 ∷ [] ∷ []) 9 ∷
+    shown note ([] ∷ [] ∷ []) 9 ∷
+    shown note (a1 ∷ take 57 a1 ∷ []) 9 ∷
+    shown note ([] ∷ take 57 a1 ∷ []) 9 ∷
+    shown (text "none of it") (b1 ∷ a1 ∷ []) 9 ∷
+    shown note (b1 ∷ a1 ∷ []) 1 ∷
+    shown note (b1 ∷ a1 ∷ []) 2 ∷
+    above 0xbf800000 note (a1 ∷ b1 ∷ []) 9 ∷
+    (scoreJob note (b1 ∷ a1 ∷ []) (view 0 1) 1 room .refusal ∷ toBits binary32 (scoreJob note (b1 ∷ a1 ∷ []) (view 0 1) 1 room .score) ∷ []) ∷
+    (scoreJob note (b1 ∷ a1 ∷ []) (view 0 1) 2 room .refusal ∷ []) ∷
+    found (b1 ∷ a1 ∷ []) 0 ∷
+    found (b1 ∷ a1 ∷ []) 1 ∷
+    found (b1 ∷ a1 ∷ []) 2 ∷
+    down note (b1 ∷ a1 ∷ []) ∷
+    shown note (licence "A" "another text of some words" ∷ a1 ∷ []) 9 ∷
+    shown note (take 57 a1 ∷ a1 ∷ []) 9 ∷
+    shown note (a1 ∷ []) 9 ∷
+    shown note ((b1 ++ licence "C" "My First License") ∷ []) 9 ∷
+    shown note ([] ∷ []) 9 ∷
+    shown note (take 57 a1 ∷ []) 9 ∷
+    []
+
+pub both-hold :
+    got ≡
+    (0 ∷ 2 ∷ 0x3f800000 ∷ 2 ∷ 1 ∷ 0 ∷ 6 ∷ 1 ∷ []) ∷
+    (0 ∷ 2 ∷ 0x3f800000 ∷ 2 ∷ 1 ∷ 1 ∷ 6 ∷ 1 ∷ []) ∷
+    (0 ∷ 2 ∷ 0x3f800000 ∷ 2 ∷ 1 ∷ 0 ∷ 6 ∷ 1 ∷ []) ∷
+    (0 ∷ 3 ∷ 0x3f800000 ∷ 2 ∷ 1 ∷ 0 ∷ 95 ∷ 1 ∷ []) ∷
+    (0 ∷ 3 ∷ 0x3f800000 ∷ 2 ∷ 1 ∷ 1 ∷ 6 ∷ 1 ∷ []) ∷
+    (0 ∷ 1 ∷ 0x3f800000 ∷ 2 ∷ 1 ∷ 1 ∷ 6 ∷ 1 ∷ []) ∷
+    (0 ∷ 1 ∷ 0x3f800000 ∷ 2 ∷ 1 ∷ 0 ∷ 6 ∷ 1 ∷ []) ∷
+    (5 ∷ 0 ∷ 0 ∷ 0 ∷ 0 ∷ 0 ∷ 0 ∷ 0 ∷ []) ∷
+    (4 ∷ 0 ∷ 0 ∷ 0 ∷ 0 ∷ 0 ∷ 0 ∷ 0 ∷ []) ∷
+    (4 ∷ 0 ∷ 0 ∷ 0 ∷ 0 ∷ 0 ∷ 0 ∷ 0 ∷ []) ∷
+    (0 ∷ 2 ∷ 0 ∷ 0 ∷ 0 ∷ 0 ∷ 0 ∷ 0 ∷ []) ∷
+    (12 ∷ 1 ∷ 0 ∷ 0 ∷ 0 ∷ 0 ∷ 0 ∷ 0 ∷ []) ∷
+    (0 ∷ 2 ∷ 0x3f800000 ∷ 2 ∷ 1 ∷ 1 ∷ 6 ∷ 1 ∷ []) ∷
+    (6 ∷ 0 ∷ 0 ∷ 0 ∷ 0 ∷ 0 ∷ 0 ∷ 0 ∷ []) ∷
+    (0 ∷ 0x3f800000 ∷ []) ∷
+    (9 ∷ []) ∷
+    (0 ∷ 1 ∷ 1 ∷ 0 ∷ 4 ∷ []) ∷
+    (0 ∷ 0 ∷ 1 ∷ 0x3f800000 ∷ 4 ∷ []) ∷
+    (9 ∷ 0 ∷ 0 ∷ 0 ∷ 0 ∷ []) ∷
+    (0 ∷ 8 ∷ 1 ∷ 0 ∷ 1 ∷ 0x3f800000 ∷ 0 ∷ 0 ∷ 0 ∷ []) ∷
+    (0 ∷ 2 ∷ 0x3f800000 ∷ 2 ∷ 1 ∷ 1 ∷ 6 ∷ 1 ∷ []) ∷
+    (4 ∷ 0 ∷ 0 ∷ 0 ∷ 0 ∷ 0 ∷ 0 ∷ 0 ∷ []) ∷
+    (0 ∷ 1 ∷ 0x3f800000 ∷ 2 ∷ 1 ∷ 0 ∷ 6 ∷ 1 ∷ []) ∷
+    (0 ∷ 2 ∷ 0x3f800000 ∷ 2 ∷ 1 ∷ 0 ∷ 95 ∷ 1 ∷ []) ∷
+    (5 ∷ 0 ∷ 0 ∷ 0 ∷ 0 ∷ 0 ∷ 0 ∷ 0 ∷ []) ∷
+    (4 ∷ 0 ∷ 0 ∷ 0 ∷ 0 ∷ 0 ∷ 0 ∷ 0 ∷ []) ∷
+    []
+unfolding got shown above down found limits bit note room a1 b1 licence rec opened
+both-hold = refl
