@@ -58,11 +58,16 @@ int run_scan(int count, char **words);
 
 /* report.c */
 
-/* Of each stored text its licence's name and its kind, by number. */
-typedef struct { const char *name; uint32_t len, kind; } stored_text;
-size_t list_stored(const uint8_t *book, size_t book_len, stored_text *to);
+/* A book as it was read, and whether the library finds it sound. */
+typedef struct { const char *file; uint8_t *bytes; size_t len; bool sound; } lent_book;
 
+/* Of each stored text its licence's name, its book's file and its kind, by number. The list of a sound book goes to `to`; gives its length. */
+typedef struct { const char *name, *book; uint32_t len, kind; } stored_text;
+size_t list_stored(const lent_book *book, stored_text *to);
+
+/* beside: the file of the second book; null where the scan has one. */
 typedef struct {
+    const char *book, *beside;
     float threshold, shallow;
     bool optimize, down, json;
     uint16_t passes;
@@ -75,6 +80,7 @@ typedef struct {
     const uint8_t *text;
     size_t len;
     const settings *with;
+    const lent_book *books;
     chultarvi_note_scanned answer;
     const uint32_t *results;
     const stored_text *stored;

@@ -20,6 +20,7 @@ static size_t book_len;
 /* ---- the calls */
 #define TEXT c->text.bytes, c->text.len
 #define AREAS c->area, chultarvi_area_bytes(c->text.len), c->words, chultarvi_area_words(c->text.len)
+#define BOTH book, book_len, book, book_len
 #define RESULTS c->results, chultarvi_top_down_results(c->text.lines) + chultarvi_elimination_results(true, PASSES)
 static void nothing(call_t *c) { c->refusal = 0; }
 static void check(call_t *c) { c->refusal = chultarvi_check_book(book, book_len).refusal; }
@@ -32,6 +33,15 @@ static void eliminate(call_t *c) {
 /* a third of the lines as step: few views, and every part of the scan is reached */
 static void top_down(call_t *c) {
     c->refusal = chultarvi_top_down(TEXT, book, book_len, 0.1f, 1.0f, c->text.lines / 3 + 1, WHOLE, AREAS, RESULTS).refusal;
+}
+/* the same book beside itself: the calls of two books, and a text of the second */
+static void score_both(call_t *c) { c->refusal = chultarvi_score_both(TEXT, BOTH, 0, c->text.lines, 2, AREAS).refusal; }
+static void bounds_both(call_t *c) { c->refusal = chultarvi_bounds_both(TEXT, BOTH, 0, c->text.lines, 2, AREAS).refusal; }
+static void eliminate_both(call_t *c) {
+    c->refusal = chultarvi_eliminate_both(TEXT, BOTH, 0.1f, 1.0f, true, PASSES, WHOLE, AREAS, RESULTS).refusal;
+}
+static void top_down_both(call_t *c) {
+    c->refusal = chultarvi_top_down_both(TEXT, BOTH, 0.1f, 1.0f, c->text.lines / 3 + 1, WHOLE, AREAS, RESULTS).refusal;
 }
 
 /* ---- the painted stack */
@@ -94,8 +104,13 @@ static void make_book(text_t text) {
 static void exports(const char *title, text_t text) {
     make_book(text);
     printf("%s: %zu bytes, %zu lines, a book of %zu bytes\n", title, text.len, text.lines, book_len);
-    struct { const char *name; void (*run)(call_t *); } jobs[] = {{"check_book", check}, {"compile", compile}, {"score", score}, {"bounds", bounds}, {"eliminate", eliminate}, {"top_down", top_down}};
-    for (size_t i = 0; i < sizeof jobs / sizeof jobs[0]; i++) printf("  %-10s %6zu bytes of stack\n", jobs[i].name, used(text, jobs[i].run));
+    struct { const char *name; void (*run)(call_t *); } jobs[] = {
+        {"check_book", check},       {"compile", compile},         {"score", score},
+        {"bounds", bounds},          {"eliminate", eliminate},     {"top_down", top_down},
+        {"score_both", score_both},  {"bounds_both", bounds_both}, {"eliminate_both", eliminate_both},
+        {"top_down_both", top_down_both},
+    };
+    for (size_t i = 0; i < sizeof jobs / sizeof jobs[0]; i++) printf("  %-14s %6zu bytes of stack\n", jobs[i].name, used(text, jobs[i].run));
     free(book);
 }
 /* 2^j bigrams and one more: each doubling is one level of the sort, so the growth is one level's frame */

@@ -1,5 +1,6 @@
-/* Tests of the library as C and C++ see it: this file is compiled as both. Layout of every answer; every export; every refusal with the neighbour
-   that is not refused; and after each call, what the lent areas hold. Prints what fails, then 'N passed, M failed'. */
+/* Tests of the library as C and C++ see it: this file is compiled as both. Layout of every answer; every export, over one book and over two; every
+   refusal with the neighbour that is not refused; and after each call, what the lent areas hold and where the name stands. Prints what fails, then
+   'N passed, M failed'. */
 #include "../include/chultarvi.h"
 #include <assert.h>
 #include <float.h>
@@ -24,7 +25,7 @@ LAYOUT(chultarvi_bounds_found, first, 4);
 LAYOUT(chultarvi_bounds_found, after, 8);
 LAYOUT(chultarvi_bounds_found, score, 12);
 LAYOUT(chultarvi_bounds_found, count, 16);
-static_assert(sizeof(chultarvi_note_scanned) == 96, "size");
+static_assert(sizeof(chultarvi_note_scanned) == 104, "size");
 LAYOUT(chultarvi_note_scanned, refusal, 0);
 LAYOUT(chultarvi_note_scanned, records, 4);
 LAYOUT(chultarvi_note_scanned, count, 8);
@@ -32,6 +33,8 @@ LAYOUT(chultarvi_note_scanned, score, 16);
 LAYOUT(chultarvi_note_scanned, kind, 20);
 LAYOUT(chultarvi_note_scanned, len, 24);
 LAYOUT(chultarvi_note_scanned, name, 28);
+LAYOUT(chultarvi_note_scanned, second, 92);
+LAYOUT(chultarvi_note_scanned, name_at, 96);
 
 static int passed, failed;
 static void check(bool good, const char *what) {
@@ -48,10 +51,17 @@ enum { BOOK_A = 58 };
 static const char text_1[] = "copyright 20xx me irl\n\n //  my   first license";
 static const char text_2[] = "copyright 20xx me irl\n// My First License\nfn hello() {\n ...";
 
-/* What a call is lent. Every element is garbage before the call, also `SPARE` elements that are not lent. */
+/* What a call is lent. Every element is garbage before the call, also `SPARE` elements that are not lent. Where `both` is false the call is the one
+   that takes one book, and second is null. */
 enum { SPARE = 7 };
 static const size_t ROOM = CHULTARVI_TEXT_MOST;
-typedef struct { const uint8_t *text; size_t len, area_len, words_len, out_len, results_len; const uint8_t *book; size_t book_len; } lent;
+typedef struct {
+    const uint8_t *text;
+    size_t len, area_len, words_len, out_len, results_len;
+    const uint8_t *book, *second;
+    size_t book_len, second_len;
+    bool both;
+} lent;
 static uint8_t *area, *out, *big;
 static uint32_t *words, *results;
 static size_t area_most, words_most;
@@ -85,7 +95,12 @@ static bool areas_right(const lent *l, uint32_t refusal, size_t written, size_t 
            all_are(words, 4 * l->words_len, 4 * (l->words_len + SPARE), 0xa5) && all_are(out, written, l->out_len + SPARE, 0xa5) &&
            all_are(results, 16 * recorded, 4 * (l->results_len + SPARE), 0xa5);
 }
-static lent lend(const void *text, size_t len, const uint8_t *book, size_t book_len) {
+/* How `lend` lays the book: alone; beside an empty one; or as the second, beside an empty first. Every answer is the same but for `second`, so the
+   tests of one book run in each form. */
+enum { ALONE, FIRST, SECOND, FORMS };
+static int form = ALONE;
+
+static lent lend_both(const void *text, size_t len, const uint8_t *book, size_t book_len, const uint8_t *second, size_t second_len) {
     lent l;
     l.text = (const uint8_t *)text;
     l.len = len;
@@ -95,6 +110,15 @@ static lent lend(const void *text, size_t len, const uint8_t *book, size_t book_
     l.results_len = 0;
     l.book = book;
     l.book_len = book_len;
+    l.second = second;
+    l.second_len = second_len;
+    l.both = true;
+    return l;
+}
+static lent lend(const void *text, size_t len, const uint8_t *book, size_t book_len) {
+    if (form == SECOND) return lend_both(text, len, 0, 0, book, book_len);
+    lent l = lend_both(text, len, book, book_len, 0, 0);
+    l.both = form == FIRST;
     return l;
 }
 static lent marked(void) { return lend(text_2, sizeof text_2 - 1, book_a, BOOK_A); }
@@ -108,32 +132,56 @@ static chultarvi_text_compiled compile(const lent *l, const char *what) {
 }
 static chultarvi_view_scored score(const lent *l, size_t start, size_t end, uint32_t number, const char *what) {
     fill(l);
-    chultarvi_view_scored s = chultarvi_score(l->text, l->len, l->book, l->book_len, start, end, number, area, l->area_len, words, l->words_len);
+    chultarvi_view_scored s =
+        l->both ? chultarvi_score_both(l->text, l->len, l->book, l->book_len, l->second, l->second_len, start, end, number, area, l->area_len,
+                                       words, l->words_len)
+                : chultarvi_score(l->text, l->len, l->book, l->book_len, start, end, number, area, l->area_len, words, l->words_len);
     check(areas_right(l, s.refusal, 0, 0) && (s.refusal == 0 || s.score == 0.0f), what);
     return s;
 }
 static chultarvi_bounds_found bounds(const lent *l, size_t start, size_t end, uint32_t number, const char *what) {
     fill(l);
-    chultarvi_bounds_found b = chultarvi_bounds(l->text, l->len, l->book, l->book_len, start, end, number, area, l->area_len, words, l->words_len);
+    chultarvi_bounds_found b =
+        l->both ? chultarvi_bounds_both(l->text, l->len, l->book, l->book_len, l->second, l->second_len, start, end, number, area, l->area_len,
+                                        words, l->words_len)
+                : chultarvi_bounds(l->text, l->len, l->book, l->book_len, start, end, number, area, l->area_len, words, l->words_len);
     check(areas_right(l, b.refusal, 0, 0) && (b.refusal == 0 || (b.first == 0 && b.after == 0 && b.score == 0.0f && b.count == 0)), what);
     return b;
 }
-static bool nothing_else(const chultarvi_note_scanned *s) {
-    return s->records == 0 && s->count == 0 && s->score == 0.0f && s->kind == 0 && s->len == 0 && all_are(s->name, 0, 64, 0);
+static bool nothing_else(const chultarvi_note_scanned *s) { return s->records == 0 && s->count == 0 && s->score == 0.0f && s->kind == 0; }
+/* The name stands in the book that the answer says, of the two that were lent, and all of it; with no name it is empty, at the first book's start. */
+static bool name_right(const lent *l, const chultarvi_note_scanned *s) {
+    const uint8_t *name = chultarvi_name(l->book, l->second, s);
+    if (s->len > 64 || !all_are(s->name, s->len, 64, 0) || (s->second && !l->both)) return false;
+    if (s->kind == 0) return s->len == 0 && !s->second && s->name_at == 0 && name == l->book;
+    const uint8_t *holder = s->second ? l->second : l->book;
+    size_t holder_len = s->second ? l->second_len : l->book_len;
+    return s->len > 0 && s->name_at < holder_len && s->len <= holder_len - s->name_at && name == holder + s->name_at &&
+           memcmp(name, s->name, s->len) == 0;
+}
+static void check_scan(const lent *l, const chultarvi_note_scanned *s, const char *what) {
+    check(areas_right(l, s->refusal, 0, s->records) && (s->refusal == 0 || s->refusal == 12 || nothing_else(s)), what);
+    check(name_right(l, s), what);
 }
 static chultarvi_note_scanned eliminate(const lent *l, float threshold, float shallow, bool optimize, uint16_t passes, uint64_t budget,
                                         const char *what) {
     fill(l);
-    chultarvi_note_scanned s = chultarvi_eliminate(l->text, l->len, l->book, l->book_len, threshold, shallow, optimize, passes, budget, area,
-                                                   l->area_len, words, l->words_len, results, l->results_len);
-    check(areas_right(l, s.refusal, 0, s.records) && (s.refusal == 0 || s.refusal == 12 || nothing_else(&s)), what);
+    chultarvi_note_scanned s =
+        l->both ? chultarvi_eliminate_both(l->text, l->len, l->book, l->book_len, l->second, l->second_len, threshold, shallow, optimize, passes,
+                                           budget, area, l->area_len, words, l->words_len, results, l->results_len)
+                : chultarvi_eliminate(l->text, l->len, l->book, l->book_len, threshold, shallow, optimize, passes, budget, area, l->area_len, words,
+                                      l->words_len, results, l->results_len);
+    check_scan(l, &s, what);
     return s;
 }
 static chultarvi_note_scanned top_down(const lent *l, float threshold, float shallow, uint64_t step, uint64_t budget, const char *what) {
     fill(l);
-    chultarvi_note_scanned s = chultarvi_top_down(l->text, l->len, l->book, l->book_len, threshold, shallow, step, budget, area, l->area_len, words,
-                                                  l->words_len, results, l->results_len);
-    check(areas_right(l, s.refusal, 0, s.records) && (s.refusal == 0 || s.refusal == 12 || nothing_else(&s)), what);
+    chultarvi_note_scanned s =
+        l->both ? chultarvi_top_down_both(l->text, l->len, l->book, l->book_len, l->second, l->second_len, threshold, shallow, step, budget, area,
+                                          l->area_len, words, l->words_len, results, l->results_len)
+                : chultarvi_top_down(l->text, l->len, l->book, l->book_len, threshold, shallow, step, budget, area, l->area_len, words,
+                                     l->words_len, results, l->results_len);
+    check_scan(l, &s, what);
     return s;
 }
 
@@ -171,6 +219,7 @@ static void test_answers(void) {
     s = eliminate(&l, 0.9f, 0.99f, false, 0, 1, "areas of a named licence");
     check(s.refusal == 0 && s.kind == CHULTARVI_ORIGINAL && s.len == 1 && s.name[0] == 'A' && all_are(s.name, 1, 64, 0) && s.score == 1.0f &&
               s.count == 1, "a named licence: name, kind, score, count");
+    check(s.second == (form == SECOND) && s.name_at == 6 && chultarvi_name(l.book, l.second, &s) == book_a + 6, "and where its name stands");
     check(eliminate(&l, 1.0f, 0.99f, false, 0, 1, "areas at threshold 1").kind == 0, "nothing is named at a score equal to the threshold");
 }
 
@@ -397,18 +446,230 @@ static void test_budget(void) {
     check(s.refusal == 12 && s.count == full - 1, "top-down with one less");
 }
 
+/* ---- two books */
+
+typedef struct { const uint8_t *at; size_t len; } held;
+static held hold(const uint8_t *at, size_t len) {
+    held h;
+    h.at = at;
+    h.len = len;
+    return h;
+}
+static lent lend_held(const char *text, held first, held second) { return lend_both(text, strlen(text), first.at, first.len, second.at, second.len); }
+
+/* A licence with one text, its original, at `at`. Gives what stands there from `from` on. */
+static held put_licence(uint8_t *from, uint8_t *at, const char *name, const char *text) {
+    size_t name_len = strlen(name), len = strlen(text);
+    uint8_t *p = put_head(at, name_len, 1);
+    memcpy(p, name, name_len);
+    p += name_len;
+    chultarvi_text_compiled c = chultarvi_compile((const uint8_t *)text, len, area, chultarvi_area_bytes(len), words, chultarvi_area_words(len),
+                                                  p + 6, chultarvi_table_bytes(len));
+    return hold(from, (size_t)(put_head(p, c.len, 2) - from) + c.len);
+}
+
+/* Licence A is the marked one, B another text; C has A's text, after B or after A. other_a has A's name and B's text; again is A elsewhere. */
+static const char note_a[] = "My First License", text_b[] = "another text of some words";
+static held book_empty, only_a, only_b, b_then_c, a_then_c, cut_a, other_a, again;
+static void make_books(void) {
+    static uint8_t b[256], bc[512], ac[512], oa[256], aa[256];
+    book_empty = hold(book_a, 0);
+    only_a = hold(book_a, BOOK_A);
+    cut_a = hold(book_a, BOOK_A - 1);
+    only_b = put_licence(b, b, "B", text_b);
+    memcpy(bc, b, only_b.len);
+    b_then_c = put_licence(bc, bc + only_b.len, "C", note_a);
+    memcpy(ac, book_a, BOOK_A);
+    a_then_c = put_licence(ac, ac + BOOK_A, "C", note_a);
+    other_a = put_licence(oa, oa, "A", text_b);
+    again = put_licence(aa, aa, "A", note_a);
+    check(again.len == BOOK_A && memcmp(again.at, book_a, BOOK_A) == 0, "the books of the tests are made as the marked one is");
+}
+
+/* What a scan without ranges answers, and where its name stands. */
+typedef struct {
+    const char *what;
+    held first, second;
+    const char *note;
+    uint64_t budget;
+    uint32_t refusal;
+    uint64_t count;
+    bool in_second;
+    size_t at, len;
+} row;
+static void check_row(const row *r) {
+    lent l = lend_held(r->note, r->first, r->second);
+    chultarvi_note_scanned s = eliminate(&l, 0.5f, 0.5f, false, 0, r->budget, r->what);
+    const uint8_t *holder = r->in_second ? r->second.at : r->first.at;
+    check(s.refusal == r->refusal && s.count == r->count, r->what);
+    check(s.second == r->in_second && s.name_at == r->at && s.len == r->len, r->what);
+    check(chultarvi_name(r->first.at, r->second.at, &s) == (r->at ? holder + r->at : holder), r->what);
+}
+static void test_names(void) {
+    const uint64_t all = UINT64_MAX;
+    const held none = hold(0, 0);
+    const row rows[] = {
+        {"A, B", only_a, only_b, note_a, all, 0, 2, false, 6, 1},
+        {"B, A", only_b, only_a, note_a, all, 0, 2, true, 6, 1},
+        {"A, A: both books the same memory", only_a, only_a, note_a, all, 0, 2, false, 6, 1},
+        {"A, A: the same bytes elsewhere", only_a, again, note_a, all, 0, 2, false, 6, 1},
+        {"A, A: the same bytes elsewhere, in turn", again, only_a, note_a, all, 0, 2, false, 6, 1},
+        {"B and C, A", b_then_c, only_a, note_a, all, 0, 3, false, 95, 1},
+        {"B, A and C", only_b, a_then_c, note_a, all, 0, 3, true, 6, 1},
+        {"B and C, B and C", b_then_c, b_then_c, note_a, all, 0, 4, false, 95, 1},
+        {"B, B and C", only_b, b_then_c, note_a, all, 0, 3, true, 95, 1},
+        {"equal names, the second's text wins", other_a, only_a, note_a, all, 0, 2, true, 6, 1},
+        {"equal names, the first's text wins", only_a, other_a, note_a, all, 0, 2, false, 6, 1},
+        {"empty, A", book_empty, only_a, note_a, all, 0, 1, true, 6, 1},
+        {"A, empty", only_a, book_empty, note_a, all, 0, 1, false, 6, 1},
+        {"null, A", none, only_a, note_a, all, 0, 1, true, 6, 1},
+        {"A, null", only_a, none, note_a, all, 0, 1, false, 6, 1},
+        {"empty, empty", book_empty, book_empty, note_a, all, 5, 0, false, 0, 0},
+        {"A, A cut", only_a, cut_a, note_a, all, 4, 0, false, 0, 0},
+        {"A cut, A", cut_a, only_a, note_a, all, 4, 0, false, 0, 0},
+        {"empty, A cut: 4 comes before 5", book_empty, cut_a, note_a, all, 4, 0, false, 0, 0},
+        {"A cut, empty: 4 comes before 5", cut_a, book_empty, note_a, all, 4, 0, false, 0, 0},
+        {"B, A, a budget of 0", only_b, only_a, note_a, 0, 12, 0, false, 0, 0},
+        {"B, A, a budget of 1", only_b, only_a, note_a, 1, 12, 1, false, 0, 0},
+        {"B, A, a budget of 2", only_b, only_a, note_a, 2, 0, 2, true, 6, 1},
+        {"A, B, a budget of 1: the best is met, but not known to be it", only_a, only_b, note_a, 1, 12, 1, false, 0, 0},
+        {"B, A, another note", only_b, only_a, "none of it", all, 0, 2, false, 0, 0},
+        {"null, B, another note: no name is null", none, only_b, "none of it", all, 0, 1, false, 0, 0},
+    };
+    for (size_t i = 0; i < sizeof rows / sizeof *rows; i++) check_row(rows + i);
+    lent l = lend_held(note_a, only_a, only_b);
+    check(eliminate(&l, -1.0f, 0.5f, false, 0, all, "no name below 0.0").refusal == 6, "a threshold of -1.0 names nothing");
+}
+
+/* Numbers count on: what stands first in the second book has the number N1. */
+static void test_numbers(void) {
+    static const float scores[] = {1.0f, 0.0f, 1.0f};
+    lent l = lend_held(note_a, only_a, b_then_c);
+    for (uint32_t k = 0; k < 3; k++) {
+        chultarvi_view_scored v = score(&l, 0, 1, k, "areas of score, two books");
+        check(v.refusal == 0 && v.score == scores[k], "score: numbers count on");
+        chultarvi_bounds_found b = bounds(&l, 0, 1, k, "areas of bounds, two books");
+        check(b.refusal == 0 && b.score == scores[k], "bounds: numbers count on");
+    }
+    check(score(&l, 0, 1, 3, "areas, number N").refusal == 9 && bounds(&l, 0, 1, 3, "areas, number N").refusal == 9, "number N of both is refused");
+    l = lend_held(note_a, only_b, only_a);
+    check(score(&l, 0, 1, 1, "areas, stored 1").score == 1.0f && score(&l, 0, 1, 2, "areas, stored 2").refusal == 9, "stored 1 and 2 of B, A");
+    check(score(&l, 0, 3, 2, "areas, 8 before 9").refusal == 8, "a view out of range comes before the number");
+
+    static const uint32_t record[] = {1, 1, 2, 0x3f800000};
+    l = lend_held(text_2, only_b, only_a);
+    check(bounds(&l, 0, 4, 1, "areas of bounds, two books").count == 8, "marked case 2 in the second book");
+    l.results_len = 40;
+    chultarvi_note_scanned s = eliminate(&l, 0.9f, 0.99f, true, 10, UINT64_MAX, "areas of elimination, two books");
+    check(s.refusal == 0 && s.records == 1 && memcmp(results, record, 16) == 0, "elimination records the number over both");
+    l.results_len = 16;
+    s = top_down(&l, 0.9f, 0.99f, 1, UINT64_MAX, "areas of top-down, two books");
+    check(s.refusal == 0 && s.records == 1 && memcmp(results, record, 16) == 0, "top-down records the number over both");
+}
+
+/* The first refusal that applies, of two books. */
+static void test_order(void) {
+    lent l = lend_held("\x80", only_a, cut_a);
+    each_refuses(&l, 2, false, "a byte of 128 comes before an unsound second book");
+    l = lend_held(note_a, only_a, cut_a);
+    l.area_len = 0;
+    each_refuses(&l, 4, false, "an unsound second book comes before a small area");
+    check(eliminate(&l, 2.0f, 0.5f, true, 1, 1, "areas, 4 before 6").refusal == 4, "an unsound second book comes before a bad limit");
+    check(score(&l, 5, 5, 9, "areas, 4 before 8").refusal == 4, "an unsound second book comes before a view out of range");
+    l = lend_held(note_a, book_empty, book_empty);
+    l.area_len = 0;
+    each_refuses(&l, 5, false, "no text in both comes before a small area");
+    check(top_down(&l, 0.5f, 2.0f, 0, 1, "areas, 5 before 6").refusal == 5, "no text in both comes before a bad limit");
+    l = lend_held(note_a, only_b, only_a);
+    check(top_down(&l, 0.5f, 0.5f, 0, 1, "areas, 7 before 10").refusal == 7, "step 0 comes before small results");
+    check(top_down(&l, 0.5f, 0.5f, 1, 1, "areas, small results").refusal == 10, "small results over two books");
+    check(eliminate(&l, 0.5f, 0.5f, true, 1, 0, "areas, 10 before 12").refusal == 10, "small results come before the budget");
+}
+
+/* 2,048 texts, 1,024 in each book: only the last is not empty, and is the note's. */
+static void test_largest(void) {
+    static uint8_t one[16384], two[16384];
+    held first = hold(one, small_book(one, 1, CHULTARVI_STORED_MOST - 1));
+    size_t len = small_book(two, 64, CHULTARVI_STORED_MOST - 2);
+    memcpy(put_head(two + len, 45, 3), book_a + 13, 45);
+    held second = hold(two, len + 51);
+    check(chultarvi_check_book(first.at, first.len).texts == 1024 && chultarvi_check_book(second.at, second.len).texts == 1024, "1,024 texts each");
+    lent l = lend_held(note_a, first, second);
+    chultarvi_view_scored v = score(&l, 0, 1, 2046, "areas, 2,048 texts");
+    check(v.refusal == 0 && v.score == 0.0f, "the last but one of 2,048 texts");
+    check(score(&l, 0, 1, 2047, "areas, 2,048 texts").score == 1.0f, "the last of 2,048 texts");
+    check(score(&l, 0, 1, 2048, "areas, 2,048 texts").refusal == 9, "one number more");
+    check(bounds(&l, 0, 1, 2047, "areas, 2,048 texts").score == 1.0f && bounds(&l, 0, 1, 2048, "areas, 2,048 texts").refusal == 9, "and its bounds");
+    l.results_len = 4;
+    chultarvi_note_scanned s = eliminate(&l, 0.9f, 0.99f, true, 1, 2047, "areas, a budget of 2,047");
+    check(s.refusal == 12 && s.count == 2047 && s.kind == 0, "a budget of N - 1 names nothing");
+    s = eliminate(&l, 0.9f, 0.99f, true, 1, 2048, "areas, a budget of 2,048");
+    check(s.refusal == 0 && s.count == 2048 && s.kind == CHULTARVI_ALTERNATE && s.second && s.name_at == 6 && s.len == 64, "a budget of N names it");
+    s = top_down(&l, 0.9f, 0.99f, 1, UINT64_MAX, "areas, top-down over 2,048 texts");
+    check(s.refusal == 0 && s.records == 1 && results[0] == 2047, "a record of number 2,047");
+    second.len = small_book(two, 1, CHULTARVI_STORED_MOST);
+    l = lend_held(note_a, first, second);
+    each_refuses(&l, 4, false, "1,025 texts in the second book");
+    l = lend_held(note_a, second, first);
+    each_refuses(&l, 4, false, "1,025 texts in the first book");
+}
+
+/* Each book has its own 16,777,216 bytes. */
+static void test_large_books(void) {
+    large_book(big, CHULTARVI_BOOK_MOST);
+    held large = hold(big, CHULTARVI_BOOK_MOST), over = hold(big, CHULTARVI_BOOK_MOST + 1);
+    const row rows[] = {
+        {"A, a book of 16,777,216 bytes", only_a, large, note_a, UINT64_MAX, 0, 2, false, 6, 1},
+        {"a book of 16,777,216 bytes, A", large, only_a, note_a, UINT64_MAX, 0, 2, true, 6, 1},
+        {"two books of 16,777,216 bytes", large, large, note_a, UINT64_MAX, 0, 2, false, 0, 0},
+    };
+    for (size_t i = 0; i < sizeof rows / sizeof *rows; i++) check_row(rows + i);
+    large_book(big, CHULTARVI_BOOK_MOST + 1);
+    lent l = lend_held(note_a, only_a, over);
+    each_refuses(&l, 4, false, "one byte more in the second book");
+    l = lend_held(note_a, over, only_a);
+    each_refuses(&l, 4, false, "one byte more in the first book");
+}
+
+/* The overall answer is known once each text of both is scored; from the full count on nothing is stopped. */
+static void test_both_budget(void) {
+    lent l = lend_held(text_2, only_b, only_a);
+    l.results_len = 40;
+    uint64_t full = eliminate(&l, 0.6f, 0.99f, true, 10, UINT64_MAX, "areas, two books, no budget").count;
+    for (uint64_t budget = 0; budget <= full + 1; budget++) {
+        chultarvi_note_scanned s = eliminate(&l, 0.6f, 0.99f, true, 10, budget, "areas, two books, budget");
+        check(s.refusal == (budget < full ? 12 : 0) && s.count == (budget < full ? budget : full), "12 below the full count, never from there on");
+        check((s.kind != 0) == (budget >= 2) && (s.score > 0.0f) == (budget >= 2), "named once both texts are paid");
+    }
+    l.results_len = 16;
+    full = top_down(&l, 0.9f, 0.99f, 1, UINT64_MAX, "areas, two books, no budget").count;
+    check(top_down(&l, 0.9f, 0.99f, 1, full, "areas, two books, budget").refusal == 0, "top-down over two books with its own count as budget");
+    chultarvi_note_scanned s = top_down(&l, 0.9f, 0.99f, 1, full - 1, "areas, two books, budget");
+    check(s.refusal == 12 && s.count == full - 1, "top-down over two books with one less");
+}
+
 int main(void) {
     take_areas();
-    test_answers();
-    test_texts();
-    test_books();
-    test_long_name();
-    test_limits();
-    test_views();
-    test_areas();
+    for (form = ALONE; form < FORMS; form++) {
+        test_answers();
+        test_texts();
+        test_books();
+        test_long_name();
+        test_limits();
+        test_views();
+        test_areas();
+        test_budget();
+    }
+    form = ALONE;
     test_output();
     test_table_bytes();
-    test_budget();
+    make_books();
+    test_names();
+    test_numbers();
+    test_order();
+    test_largest();
+    test_large_books();
+    test_both_budget();
     printf("%d passed, %d failed\n", passed, failed);
     return failed != 0;
 }

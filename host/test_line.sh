@@ -56,6 +56,18 @@ err_has() { case $err in *"$1"*) good ;; *) bad "standard error has no: $1" ;; e
 out_has() { case $out in *"$1"*) good ;; *) bad "standard output has no: $1" ;; esac; }
 same() { cmp -s "$1" "$2" && good || bad "$1 and $2 differ"; }
 holds() { [ "$(cat "$1")" = "$2" ] && good || bad "$1 does not hold: $2"; }
+# json EXPRESSION WANT: what a JSON parser makes of the lines of standard output, each an element of `notes`
+if command -v python3 >/dev/null; then
+    json() {
+        value=$(python3 -c 'import json, os, sys
+notes = [json.loads(line) for line in open(".out", "rb")]
+print(json.dumps(eval(sys.argv[1])))' "$1" 2>&1)
+        [ "$value" = "$2" ] && good || bad "JSON: $1 is $value, not $2"
+    }
+else
+    echo 'not run here: JSON read by a parser (no python3)'
+    json() { :; }
+fi
 no_beside() { [ -z "$(find . -name '.chultarvi.*')" ] && good || { bad 'a file beside is left'; rm -f ./.chultarvi.*; }; }
 
 printf 'My First License' >license
@@ -347,6 +359,7 @@ out_is '{"note":"two","refusal":12,"message":"refused (12): stopped by the budge
 run 0 scan --json --top-down 9 a.book license
 out_has '"licence":null,"kind":null,"score":null,"scorings":'
 run 2 scan --json a.book nowhere umlaut
+json '[sorted(n) for n in notes]' '[["note", "trouble"], ["message", "note", "offset", "refusal"]]'
 out_is '{"note":"nowhere","trouble":"No such file or directory"}
 {"note":"umlaut","refusal":2,"message":"refused (2): the text is not ASCII: line 2, byte 5 is 0xc3; nothing is filtered, so change it before the scan","offset":8}'
 err_is ''
@@ -355,12 +368,178 @@ cp license "$odd"
 run 0 scan --json a.book "$odd"
 out_has "$(printf '{"note":"q\\" b\\\\ t\\tn\\nc\\u001b \\udcc2\\udc85 \303\244 \\udcff \\udced\\udca0\\udc80 \\udcc3","refusal":0')"
 [ "$(wc -l <.out)" = 1 ] && good || bad 'JSON is not one line'
+json 'os.fsencode(notes[0]["note"]) == os.fsencode("""q" b\\ t\tn\nc\x1b """) + b"\xc2\x85 \xc3\xa4 \xff \xed\xa0\x80 \xc3"' true
 run 0 scan a.book "$odd"
 out_has "$(printf 'q" b\\\\ t\\tn\\nc\\x1b \\xc2\\x85 \303\244 \\xff \\xed\\xa0\\x80 \\xc3: A')"
 printf '"\\<&>\047 original license\n' >list
 run 0 book odd.book list
 run 0 scan --json odd.book license
 out_has '"licence":"\"\\<&>'"'"'","kind":"original"'
+json 'notes[0]["licence"]' '"\"\\<&>'"'"'"'
+
+# scan: where options may stand. The first note ends them, and so does '--'
+run 0 scan a.book --no-optimize two
+out_is 'two: no licence as a whole (best score 0.6667)
+  1 scoring'
+run 0 scan --json a.book --no-optimize --threshold=0.5 two
+json '[n["licence"] for n in notes]' '["A"]'
+run 2 scan --top-down 1 a.book --passes 3 two
+err_is 'chultarvi: --passes and --no-optimize have no meaning with --top-down'
+run 2 scan a.book --budget 5
+err_is "chultarvi: scan wants a book and at least one note; $help"
+run 2 scan a.book --
+err_is "chultarvi: scan wants a book and at least one note; $help"
+run 2 scan a.book --frob two
+err_is "chultarvi: --frob: scan has no such option; $help"
+cp license ./-x
+cp license ./--json
+for words in '-- a.book -x' 'a.book -- -x' 'a.book --no-optimize -- -x'; do
+    run 0 scan $words
+    out_is '-x: A, original, score 1.0000
+  1 scoring'
+done
+run 0 scan a.book ./-x -x --json
+out_is './-x: A, original, score 1.0000
+  1 scoring
+-x: A, original, score 1.0000
+  1 scoring
+--json: A, original, score 1.0000
+  1 scoring'
+run 2 scan a.book -x
+err_is "chultarvi: -x: scan has no such option; $help"
+run 2 scan a.book "$(printf -- '-\001')" two
+err_is "chultarvi: -\\x01: scan has no such option; $help"
+run 2 scan a.book license --budget 5
+err_is 'chultarvi: --budget: cannot be read: No such file or directory; options stand before the notes
+chultarvi: 5: cannot be read: No such file or directory'
+out_has 'license: A, original, score 1.0000'
+
+# scan: a second book beside
+printf 'another text of some words' >other
+printf 'B original other\n' >list
+run 0 book b.book list
+printf 'A original other\n' >list
+run 0 book other-a.book list
+cp a.book again.book
+from_a='license: A, original, score 1.0000, from a.book
+  2 scorings'
+for words in 'a.book --beside b.book' '--beside b.book a.book' '--beside=b.book a.book' 'b.book --beside a.book' 'a.book --beside again.book' \
+    'a.book --beside a.book' 'other-a.book --beside a.book' 'a.book --beside other-a.book' '--beside b.book -- a.book' 'a.book --beside b.book --'; do
+    run 0 scan $words license
+    out_is "$from_a"
+    err_is ''
+done
+run 0 scan again.book --beside a.book license
+out_has 'A, original, score 1.0000, from again.book'
+run 0 scan a.book license
+out_is 'license: A, original, score 1.0000
+  1 scoring'
+{ cat two; printf '\n\n'; cat other; } >mixed
+run 0 scan b.book --beside a.book mixed
+out_is 'mixed: no licence as a whole (best score 0.6154)
+  line 6: B, original, score 1.0000, from b.book
+  line 2: A, original, score 1.0000, from a.book
+  39 scorings'
+run 0 scan b.book --beside a.book --top-down 1 mixed
+out_has 'mixed: ranges
+  line 2: A, original, score 1.0000, from a.book
+  line 6: B, original, score 1.0000, from b.book'
+run 0 scan --json b.book --beside a.book license mixed
+out_has '{"note":"license","refusal":0,"licence":"A","book":"a.book","kind":"original","score":1,"scorings":2,"ranges":[]}
+{"note":"mixed","refusal":0,"licence":null,"book":null,"kind":null,'
+json '[[r["licence"], r["book"], r["number"], r["first"], r["after"]] for r in notes[1]["ranges"]]' '[["B", "b.book", 0, 5, 6], ["A", "a.book", 1, 1, 2]]'
+run 0 scan --json --top-down 1 a.book --beside b.book mixed
+json '[notes[0]["licence"], notes[0]["book"], [r["number"] for r in notes[0]["ranges"]]]' '[null, null, [0, 1]]'
+run 0 scan --json a.book mixed
+json '"book" in notes[0] or any("book" in r for r in notes[0]["ranges"])' false
+
+# the second book: its name, its file, its soundness, its texts
+run 2 scan a.book --beside b.book --beside b.book license
+err_is 'chultarvi: --beside stands twice; a scan takes one book beside BOOK'
+run 2 scan --beside b.book a.book --beside again.book license
+err_is 'chultarvi: --beside stands twice; a scan takes one book beside BOOK'
+run 2 scan a.book --beside '' license
+err_is "chultarvi: --beside wants a book, not ''"
+run 2 scan a.book --beside= license
+err_is "chultarvi: --beside wants a book, not ''"
+run 2 scan a.book --beside
+err_is 'chultarvi: --beside wants a value'
+run 2 scan a.book --beside b.book
+err_is "chultarvi: scan wants a book and at least one note; $help"
+run 2 scan a.book --beside nowhere license
+err_is 'chultarvi: nowhere: cannot be read: No such file or directory'
+out_is ''
+run 2 scan --json a.book --beside . license
+err_is 'chultarvi: .: cannot be read: Is a directory'
+out_is ''
+run 1 scan a.book --beside cut.book license two
+err_is 'chultarvi: license: refused (4): the book cut.book is not sound
+chultarvi: two: refused (4): the book cut.book is not sound'
+out_is ''
+run 1 scan cut.book --beside a.book license
+err_is 'chultarvi: license: refused (4): the book cut.book is not sound'
+run 1 scan empty --beside cut.book license
+err_is 'chultarvi: license: refused (4): the book cut.book is not sound'
+run 1 scan cut.book --beside cut.book license
+err_is 'chultarvi: license: refused (4): neither book is sound'
+run 1 scan a.book --beside /dev/zero license
+err_is 'chultarvi: license: refused (4): the book /dev/zero is not sound'
+run 1 scan --json a.book --beside cut.book license
+json notes '[{"note": "license", "refusal": 4, "message": "refused (4): the book cut.book is not sound"}]'
+run 1 scan empty --beside empty license
+err_is 'chultarvi: license: refused (5): neither book has a stored text'
+run 0 scan a.book --beside empty license
+out_is 'license: A, original, score 1.0000, from a.book
+  1 scoring'
+run 0 scan empty --beside a.book license
+out_is 'license: A, original, score 1.0000, from a.book
+  1 scoring'
+run 1 scan a.book --beside b.book umlaut
+err_has 'umlaut: refused (2): the text is not ASCII: line 2, byte 5 is 0xc3'
+run 1 scan b.book --beside a.book --budget 1 license
+out_is 'license: not known as a whole; stopped by the budget
+  1 scoring'
+run 1 scan --json b.book --beside a.book --budget 1 license
+json '[notes[0][k] for k in ("refusal", "licence", "book", "score", "scorings")]' '[12, null, null, null, 1]'
+run 0 scan b.book --beside a.book --budget 2 license
+out_is "$from_a"
+run 1 scan b.book --beside a.book --budget 2 two
+out_is 'two: no licence as a whole (best score 0.6667); stopped by the budget
+  2 scorings'
+run 1 scan b.book --beside a.book --threshold 0.6 --budget 2 two
+out_is 'two: A, original, score 0.6667, from a.book; stopped by the budget
+  2 scorings'
+from a.book 0 scan b.book --beside - license
+out_has 'license: A, original, score 1.0000, from -'
+from a.book 2 scan - --beside - license
+err_is 'chultarvi: -: cannot be read: standard input is read already'
+out_is ''
+from a.book 2 scan b.book --beside - - license
+err_is 'chultarvi: -: cannot be read: standard input is read already'
+out_has 'license: A, original, score 1.0000, from -'
+cp b.book "$odd.book"
+run 0 scan a.book --beside "$odd.book" other
+out_has "$(printf 'other: B, original, score 1.0000, from q" b\\\\ t\\tn\\nc\\x1b \\xc2\\x85 \303\244 \\xff \\xed\\xa0\\x80 \\xc3.book')"
+run 0 scan --json a.book --beside "$odd.book" other
+json 'os.fsencode(notes[0]["book"]) == os.fsencode("""q" b\\ t\tn\nc\x1b """) + b"\xc2\x85 \xc3\xa4 \xff \xed\xa0\x80 \xc3.book"' true
+cp cut.book "$odd.book"
+run 1 scan --json a.book --beside "$odd.book" other
+json 'notes[0]["message"].endswith(" \\xff \\xed\\xa0\\x80 \\xc3.book is not sound")' true
+# 1,024 texts in each, and the last of all is the one
+awk 'BEGIN { for (i = 0; i < 1024; i++) printf "N%04d original other\n", i }' >list
+run 0 book most.book list
+awk 'BEGIN { for (i = 0; i < 1024; i++) printf "M%04d original %s\n", i, i < 1023 ? "other" : "license" }' >list
+run 0 book maker.book list
+run 0 scan most.book --beside maker.book license
+out_is 'license: M1023, original, score 1.0000, from maker.book
+  2048 scorings'
+run 0 scan --json most.book --beside maker.book two
+json '[[r["licence"], r["book"], r["number"]] for r in notes[0]["ranges"]]' '[["M1023", "maker.book", 2047]]'
+# the memory that README.md names, in MiB; a second book's is taken only for one
+broken memory-75 0 scan a.book license
+broken memory-75 2 scan a.book --beside b.book license
+err_has 'no memory for'
+broken memory-91 0 scan a.book --beside b.book license
 
 # what is written stands whole, or what stood there stays
 cp table old

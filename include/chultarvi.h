@@ -6,8 +6,8 @@
 
    Memory. All of it is the caller's, lent for the length of the call: nothing is allocated, kept or freed, so free it or lend it again when the
    call is back. It need not be cleared before. Areas that are written (area, words, out, results) must overlap neither each other nor text or
-   book. Text and book are only read, and may be the same. Calls keep no state, so several threads may call at once, each with areas of its own.
-   The time of a call grows with the areas lent, since they are cleared: lend no more than the text needs.
+   books. Texts and books are only read, and may be the same. Calls keep no state, so several threads may call at once, each with areas of its
+   own. The time of a call grows with the areas lent, since they are cleared: lend no more than the text needs.
 
    Answers. `refusal` is 0, or the first of these numbers that applies, in this order:
      1 text over 1,048,576 bytes    2 a byte of 128 or more         3 over 65,536 lines          4 unsound book

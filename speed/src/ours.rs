@@ -32,6 +32,8 @@ pub struct Scanned {
     pub kind: u32,
     pub len: u32,
     pub name: [u8; 64],
+    pub second: bool,
+    pub name_at: usize,
 }
 
 #[rustfmt::skip]
