@@ -6,7 +6,7 @@ ghost use mathlib.Core.Bool.{cond};
 ghost use Prim.Native.Nat.{_+_, _≤_, _<_};
 ghost use lib.Dec.{leb};
 ghost use lib.ListN.{length, take, drop};
-ghost use Rattle.rules.proofs.ShelfLaws.{partIn};
+ghost use Rattle.rules.specs.Book.{partIn};
 ghost use Rattle.detection.specs.Shelves.{shelf, texts, bookIn, Counted, BeforeOn, Stands, bodyIn, firstSpot, afterOn, fitting, placeIn};
 use crate::texts::Place;
 use crate::texts::Text;

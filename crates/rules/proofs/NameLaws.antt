@@ -22,12 +22,12 @@ use Rattle.rules.specs.Sizes.{nameMost}
 use Rattle.rules.specs.Bytes.{within}
 use Rattle.rules.specs.Search.{Stored, noText, recurse, turns}
 use Rattle.rules.specs.Scan.{Event, verdict}
-use Rattle.rules.specs.Book.{Record, recordsOf, pieces, goOn, front, entriesOf, storedKind, tableIn, storedIn, storedOf, storedFrom, stored, shelved, namesIn, namesOf, nameParts, noPart}
+use Rattle.rules.specs.Book.{Record, recordsOf, pieces, goOn, front, entriesOf, storedKind, tableIn, storedIn, storedOf, storedFrom, stored, shelved, namesIn, namesOf, nameParts, noPart, partIn}
 use Rattle.rules.specs.Refusal.{Areas}
 use Rattle.rules.specs.Jobs.{over, happened, named, namePart, answered, scan}
 use Rattle.rules.proofs.DownLaws.{Each, each-append, each-at, each-of}
 use Rattle.rules.proofs.SoundLaws.{within-from}
-use Rattle.rules.proofs.ShelfLaws.{shelved-one, shelved-empty, shelved-number, partIn, part-is-name, Lies, part-lies}
+use Rattle.rules.proofs.ShelfLaws.{shelved-one, shelved-empty, shelved-number, part-is-name, Lies, part-lies}
 use Rattle.rules.proofs.VerdictLaws.{named-one}
 
 -- ---- lent books that are read as `a` and then `b`

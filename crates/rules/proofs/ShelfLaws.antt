@@ -22,7 +22,7 @@ use Rattle.rules.specs.declared.Named.{Named}
 use Rattle.rules.specs.Jobs.{namePart}
 use Rattle.rules.specs.Sizes.{storedMost}
 use Rattle.rules.specs.Search.{Stored, noText, recurse, turns}
-use Rattle.rules.specs.Book.{number, Form, Piece, Front, front, also, goOn, pieces, recordForm, Record, recordOf, recordsOf, entriesOf, storedKind, tableIn, storedIn, storedOf, storedFrom, stored, sound, shelved, allSound, namesIn, noPart, namesOf, nameParts}
+use Rattle.rules.specs.Book.{number, Form, Piece, Front, front, also, goOn, pieces, recordForm, Record, recordOf, recordsOf, entriesOf, storedKind, tableIn, storedIn, storedOf, storedFrom, stored, sound, shelved, allSound, namesIn, noPart, namesOf, nameParts, partIn}
 use Rattle.rules.proofs.BoolLaws.{and-left, and-right}
 use Rattle.rules.proofs.DownLaws.{Each, each-append}
 use Rattle.rules.proofs.Steps.{front-cut, pieces-step}
@@ -68,7 +68,7 @@ map-at f (x ∷ xs) (suc k) h = map-at f xs k (le-of-suc-le-suc h)
 pub storedFrom-at : (n : ℕ) (book : List ℕ) (k : ℕ) → k < length (stored book) → getD (storedFrom n book) k noText ≡ renumber n (getD (stored book) k noText)
 storedFrom-at n book k h = ap (λ (ss : List Stored). getD ss k noText) (storedFrom-is n book) ∙ map-at (renumber n) (stored book) k h
 
--- ---- one book alone, or beside an empty one; two
+-- ---- the texts of one book alone, or beside an empty one; of two
 pub shelved-one : (book : List ℕ) → shelved 0 (book ∷ []) ≡ stored book
 unfolding shelved stored
 shelved-one book = append-nil (storedFrom 0 book)
@@ -140,10 +140,6 @@ shelved-number n (b ∷ bs) k h = at (ltb k (length ss)) refl (shelved-number (n
         ap (λ (i : ℕ). getD (ss ++ rest) i noText .number) (sym e) ∙ ap (λ (s : Stored). s .number) (getD-append-add ss rest j noText) ∙ i ∙ omega arith
 
 -- ---- where names stand
--- the bytes of a part
-abbrev pub partIn : List ℕ → List ℕ → Named → List ℕ
-partIn a b p = take (p .len) (drop (p .at) (cond (p .second) b a))
-
 zero≢one : _≡_ {A = ℕ} 0 1 → ⊥
 zero≢one z = omega arith
 

@@ -216,9 +216,14 @@ unfoldable pub namesOf : Bool → Option (List Record) → List Named
 namesOf second none = []
 namesOf second (some rs) = namesIn second 0 (record { second = second; at = 0; len = 0 }) rs
 
+-- of the texts of all lent books, in the same order
 unfoldable pub nameParts : Bool → List (List ℕ) → List Named
 nameParts second [] = []
 nameParts second (b ∷ bs) = namesOf second (recordsOf b) ++ nameParts true bs
+
+-- the bytes of a part, of the first book or of the second
+abbrev pub partIn : List ℕ → List ℕ → Named → List ℕ
+partIn first second p = take (p .len) (drop (p .at) (cond (p .second) second first))
 
 -- ---- compile: the table body of a text
 unfoldable pub entriesOut : List Counted → List ℕ

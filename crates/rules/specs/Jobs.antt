@@ -81,7 +81,7 @@ happened t bs lim mode b a results =
 unfoldable pub named : Limits → Best → Stored
 named lim b = cond (names lim b) (b .text) noText
 
--- where its name stands, as a part of the book that holds it: the empty part at the first book's start where none is, and no text has kind 0
+-- where its name stands, as a part of the book that holds it: where none is, the empty part at the first book's start (no text has kind 0)
 unfoldable pub namePart : List Named → Stored → Named
 namePart parts w = cond (eqb (w .kind) 0) noPart (getD parts (w .number) noPart)
 
@@ -107,7 +107,7 @@ scan t bs lim mode b a results =
 unfoldable pub resultsAfter : List ℕ → List (List ℕ) → Limits → Mode → ℕ → Areas → List ℕ → List ℕ
 resultsAfter t bs lim mode b a old = over (numbers (records (happened t bs lim mode b a (length old)))) old
 
--- ---- what each public call promises: its answer, and every lent area at exit
+-- ---- what each public call promises: its answer, and every lent area at exit; `bs` are the lent books, one or two
 abbrev pub lent : List ℕ → List ℕ → Areas
 lent bytes words = record { bytes = length bytes; words = length words }
 

@@ -66,7 +66,7 @@ containedIn books contained.Out = none
 containedIn books (contained.Nothing left) = some (record { value = none; left = left })
 containedIn books (contained.Found t r left) = some (record { value = some (record { text = textIn books t; range = r }); left = left })
 
--- a pair is a view of the lines and one of the book's texts
+-- a pair is a view of the lines and one of the stored texts
 unfoldable pub LatestStands : Shelf → ℕ → Latest → Type 0
 LatestStands books lines latest.Nothing = Unit {0}
 LatestStands books lines (latest.Pair v t) = Stands books t × (v .start ≤ v .end) × (v .end ≤ lines)

@@ -19,11 +19,11 @@ use Rattle.rules.specs.declared.Mode.the-variants.{Elimination, TopDown}
 use Rattle.rules.specs.declared.Scanned.{Scanned}
 use Rattle.rules.specs.Lines.{lines, lineCount}
 use Rattle.rules.specs.Scan.{Event, events, afford, scorings, records, numbers}
-use Rattle.rules.specs.Book.{shelved}
+use Rattle.rules.specs.Book.{shelved, partIn}
 use Rattle.rules.specs.Count.{mostElimination, mostTopDown}
 use Rattle.rules.specs.Refusal.{refusal, beforeScan, ofScan}
 use Rattle.rules.specs.Jobs.{lent, over, happened, answered, scan, resultsAfter, ScanDone}
-use Rattle.rules.proofs.ShelfLaws.{partIn, Lies}
+use Rattle.rules.proofs.ShelfLaws.{Lies}
 use Rattle.rules.proofs.NameLaws.{ReadAs, answer-lies, answer-named, answer-length}
 use Rattle.detection.specs.Shelves.{fitting}
 use Rattle.detection.proofs.ShelfLaws.{part-fits}

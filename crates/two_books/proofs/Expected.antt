@@ -13,11 +13,10 @@ use Rattle.rules.specs.declared.Mode.{Mode}
 use Rattle.rules.specs.declared.Mode.the-variants.{Elimination}
 use Rattle.rules.specs.Bytes.{text}
 use Rattle.rules.specs.Search.{view}
-use Rattle.rules.specs.Book.{written, compiled}
+use Rattle.rules.specs.Book.{partIn, written, compiled}
 use Rattle.rules.specs.Refusal.{Areas}
 use Rattle.rules.specs.Jobs.{scan, scoreJob, boundsJob}
 use Rattle.rules.proofs.Opened.{opened}
-use Rattle.rules.proofs.ShelfLaws.{partIn}
 use Rattle.questions.specs.Hex.{hexGlyph, pairs}
 use Rattle.questions.specs.Numbers.{digits, decimal, fourBytes}
 

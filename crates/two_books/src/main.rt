@@ -10,6 +10,7 @@ use jobs::score::score_both;
 use rules::Limits;
 use rules::Mode;
 use rules::Named;
+use rules::Scanned;
 use rules::View;
 use scan_job::scan;
 use scan_job::scan_both;
@@ -51,6 +52,15 @@ fn tell_part<'a>(first: &'a [u8], second: &'a [u8], part: Named) {
     print(b"\x0a");
 }
 
+fn tell_answer<'a>(first: &'a [u8], second: &'a [u8], answer: Scanned) {
+    print_number(answer.refusal);
+    print(b" ");
+    print_count(answer.count);
+    print(b" ");
+    print_number(answer.kind);
+    tell_part(first, second, answer.part);
+}
+
 fn limits() -> Limits {
     Limits {
         threshold: 0.5,
@@ -75,12 +85,7 @@ fn tell_both<'a>(note: &[u8], first: &'a [u8], second: &'a [u8], budget: u64) {
         &mut words,
         &mut results,
     );
-    print_number(answer.refusal);
-    print(b" ");
-    print_count(answer.count);
-    print(b" ");
-    print_number(answer.kind);
-    tell_part(first, second, answer.part);
+    tell_answer(first, second, answer);
 }
 
 // Elimination over one: its name's part is of this book.
@@ -99,12 +104,7 @@ fn tell_alone(note: &[u8], book: &[u8]) {
         &mut words,
         &mut results,
     );
-    print_number(answer.refusal);
-    print(b" ");
-    print_count(answer.count);
-    print(b" ");
-    print_number(answer.kind);
-    tell_part(book, &book[..0], answer.part);
+    tell_answer(book, &book[..0], answer);
 }
 
 // The whole note, of one line, against stored text k.
