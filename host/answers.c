@@ -1,12 +1,14 @@
-/* Answers the oracle's questions (oracle/README.md) by the archive: table, score, countbounds, clear, add, counteliminate, countdown. Every area
-   is filled with garbage before a call and looked at after it. Build: host/answers.sh. Nothing here is part of the gate. */
+/* Answers the oracle's questions (oracle/README.md) by the archive: table, score, countbounds, clear, add, counteliminate, countdown; behind
+   `border K` by the calls that take two books. Every area is filled with garbage before a call and looked at after it, and so is the name's part.
+   Build: host/answers.sh. Nothing here is part of the gate. */
 #include "../include/chultarvi.h"
 #include <inttypes.h>
+#include <limits.h>
 #include <stdio.h>
 #include <stdlib.h>
 #include <string.h>
 
-enum { MOST = 1 << 20, SPARE = 3 };
+enum { SPARE = 3, WORDS = 10 };
 static uint8_t book[CHULTARVI_BOOK_MOST];
 static size_t book_len;
 static char name_above[CHULTARVI_NAME_MOST + 1];
@@ -72,26 +74,47 @@ static void answer_table(const char *w) {
     printf("\n");
     free(t.bytes);
 }
-static size_t book_of(uint8_t *to, text_t licence) {
-    size_t n = put_record(to, 1, (const uint8_t *)"A", 1);
-    return n + put_table(to + n, 2, licence);
+
+/* What is lent: one book, or two. */
+typedef struct { const uint8_t *first, *second; size_t first_len, second_len; bool two; } books_t;
+#define TEXT_AND_BOOK t.bytes, t.len, b.first, b.first_len
+#define TEXT_AND_BOTH TEXT_AND_BOOK, b.second, b.second_len
+#define WORK a.area, a.bytes, a.words, a.count
+#define WORK_AND_RESULTS WORK, a.results, a.room
+
+/* the licence's own book, beside the store with a border: before it, or at border 0 behind it, and then all stored texts count first */
+static books_t beside_store(const uint8_t *own, size_t own_len, const char *border, uint32_t *number) {
+    bool behind = border && strcmp(border, "0") == 0;
+    *number = behind ? chultarvi_check_book(book, book_len).texts : 0;
+    if (behind) return (books_t){book, own, book_len, own_len, true};
+    return (books_t){own, book, own_len, book_len, border != 0};
 }
-static void answer_view(char **w, bool whole_bounds) {
+static float score_of(text_t t, books_t b, size_t start, size_t end, uint32_t number) {
+    areas_t a = lend(t.len, 0);
+    chultarvi_view_scored s = b.two ? chultarvi_score_both(TEXT_AND_BOTH, start, end, number, WORK)
+                                    : chultarvi_score(TEXT_AND_BOOK, start, end, number, WORK);
+    if (s.refusal) stop("a score is refused");
+    give_back(a, 0);
+    return s.score;
+}
+static void print_bounds(text_t t, books_t b, size_t start, size_t end, uint32_t number) {
+    areas_t a = lend(t.len, 0);
+    chultarvi_bounds_found f = b.two ? chultarvi_bounds_both(TEXT_AND_BOTH, start, end, number, WORK)
+                                     : chultarvi_bounds(TEXT_AND_BOOK, start, end, number, WORK);
+    if (f.refusal) stop("bounds are refused");
+    printf("%" PRIu64 " %" PRIu32 " %" PRIu32 " %08" PRIx32 "\n", f.count, f.first, f.after, bits(f.score));
+    give_back(a, 0);
+}
+static void answer_view(char **w, const char *border, bool whole_bounds) {
     text_t t = unhex(w[3]), licence = unhex(w[4]);
     static uint8_t one[CHULTARVI_BOOK_MOST];
-    size_t n = book_of(one, licence);
+    size_t n = put_record(one, 1, (const uint8_t *)"A", 1);
+    n += put_table(one + n, 2, licence);
+    uint32_t number;
+    books_t b = beside_store(one, n, border, &number);
     size_t start = strtoull(w[1], 0, 10), end = strtoull(w[2], 0, 10);
-    areas_t a = lend(t.len, 0);
-    if (whole_bounds) {
-        chultarvi_bounds_found b = chultarvi_bounds(t.bytes, t.len, one, n, start, end, 0, a.area, a.bytes, a.words, a.count);
-        if (b.refusal) stop("bounds are refused");
-        printf("%" PRIu64 " %" PRIu32 " %" PRIu32 " %08" PRIx32 "\n", b.count, b.first, b.after, bits(b.score));
-    } else {
-        chultarvi_view_scored s = chultarvi_score(t.bytes, t.len, one, n, start, end, 0, a.area, a.bytes, a.words, a.count);
-        if (s.refusal) stop("a score is refused");
-        printf("%08" PRIx32 "\n", bits(s.score));
-    }
-    give_back(a, 0);
+    if (whole_bounds) print_bounds(t, b, start, end, number);
+    else printf("%08" PRIx32 "\n", bits(score_of(t, b, start, end, number)));
     free(t.bytes); free(licence.bytes);
 }
 static void add(char **w) {
@@ -106,35 +129,64 @@ static void add(char **w) {
     printf("ok\n");
     free(name.bytes); free(t.bytes);
 }
-/* the stored number of the named licence: the text that scores first best is its kind's; the oracle tells its number */
-static long stored_number(const chultarvi_note_scanned *s, text_t t) {
-    uint32_t texts = chultarvi_check_book(book, book_len).texts;
+/* the store, or its licences before the border and those from it on */
+static books_t parted(const char *border) {
+    unsigned long before = border ? strtoul(border, 0, 10) : ULONG_MAX;
+    size_t at = 0;
+    for (; at < book_len; at += 6 + number_at(book + at)) if (book[at + 4] == 1 && before-- == 0) break;
+    return (books_t){book, book + at, at, book_len - at, border != 0};
+}
+/* where the name that stored text k stands under starts in the store */
+static const uint8_t *name_of(uint32_t k) {
+    const uint8_t *name = 0;
+    for (size_t at = 0; at < book_len; at += 6 + number_at(book + at)) {
+        if (book[at + 4] == 1) name = book + at + 6;
+        else if (k-- == 0) break;
+    }
+    return name;
+}
+static size_t lines_of(text_t t) {
     size_t lines = 1;
     for (size_t i = 0; i < t.len; i++) lines += t.bytes[i] == '\n';
-    for (uint32_t k = 0; k < texts; k++) {
-        areas_t a = lend(t.len, 0);
-        chultarvi_view_scored v = chultarvi_score(t.bytes, t.len, book, book_len, 0, lines, k, a.area, a.bytes, a.words, a.count);
-        give_back(a, 0);
-        if (bits(v.score) == bits(s->score)) return k;
-    }
-    return -1;
+    return lines;
 }
-static void answer_scan(char **w, bool down) {
+/* the stored number of the named licence: the text that scores first best is its kind's; the oracle tells its number */
+static uint32_t stored_number(const chultarvi_note_scanned *s, text_t t, books_t b) {
+    uint32_t texts = chultarvi_check_book(book, book_len).texts;
+    for (uint32_t k = 0; k < texts; k++) if (bits(score_of(t, b, 0, lines_of(t), k)) == bits(s->score)) return k;
+    stop("no stored text has the score of the named one");
+    return 0;
+}
+/* writes who is named, whose name must stand where the answer says: with no name that is the first book's start */
+static void print_named(const chultarvi_note_scanned *s, text_t t, books_t b) {
+    const uint8_t *name = b.first;
+    if (s->kind) {
+        uint32_t k = stored_number(s, t, b);
+        name = name_of(k);
+        printf("%" PRIu32, k);
+    } else printf("none");
+    if (chultarvi_name(b.first, b.second, s) != name || memcmp(name, s->name, s->len) != 0) stop("the name is not where it stands");
+    if (s->second != (b.two && s->kind && name >= b.second)) stop("the name is not in the book that holds it");
+}
+static void answer_scan(char **w, const char *border, bool down) {
     size_t at = down ? 5 : 6;
     text_t t = unhex(w[at]);
-    size_t lines = 1;
-    for (size_t i = 0; i < t.len; i++) lines += t.bytes[i] == '\n';
+    books_t b = parted(border);
     float threshold = unbits(w[1]), shallow = unbits(w[2]);
-    uint64_t budget = strtoull(w[at - 1], 0, 10);
+    uint64_t budget = strtoull(w[at - 1], 0, 10), step = strtoull(w[3], 0, 10);
     bool optimize = !down && strcmp(w[3], "1") == 0;
     uint16_t passes = down ? 0 : (uint16_t)strtoul(w[4], 0, 10);
-    areas_t a = lend(t.len, down ? chultarvi_top_down_results(lines) : chultarvi_elimination_results(optimize, passes));
-    chultarvi_note_scanned s = down
-        ? chultarvi_top_down(t.bytes, t.len, book, book_len, threshold, shallow, strtoull(w[3], 0, 10), budget, a.area, a.bytes, a.words, a.count, a.results, a.room)
-        : chultarvi_eliminate(t.bytes, t.len, book, book_len, threshold, shallow, optimize, passes, budget, a.area, a.bytes, a.words, a.count, a.results, a.room);
+    areas_t a = lend(t.len, down ? chultarvi_top_down_results(lines_of(t)) : chultarvi_elimination_results(optimize, passes));
+    chultarvi_note_scanned s;
+    if (down)
+        s = b.two ? chultarvi_top_down_both(TEXT_AND_BOTH, threshold, shallow, step, budget, WORK_AND_RESULTS)
+                  : chultarvi_top_down(TEXT_AND_BOOK, threshold, shallow, step, budget, WORK_AND_RESULTS);
+    else
+        s = b.two ? chultarvi_eliminate_both(TEXT_AND_BOTH, threshold, shallow, optimize, passes, budget, WORK_AND_RESULTS)
+                  : chultarvi_eliminate(TEXT_AND_BOOK, threshold, shallow, optimize, passes, budget, WORK_AND_RESULTS);
     if (s.refusal != 0 && s.refusal != 12) stop("a scan is refused");
     printf("%" PRIu32 " %" PRIu64 " %08" PRIx32 " ", s.refusal, s.count, bits(s.score));
-    if (s.kind) printf("%ld", stored_number(&s, t)); else printf("none");
+    print_named(&s, t, b);
     for (uint32_t k = 0; k < s.records; k++) {
         const uint32_t *r = a.results + 4 * k;
         printf(" ; %" PRIu32 " %" PRIu32 " %" PRIu32 " %08" PRIx32, r[0], r[1], r[2], r[3]);
@@ -144,22 +196,29 @@ static void answer_scan(char **w, bool down) {
     free(t.bytes);
 }
 
+/* `border`: the number behind that word, or null where it is not said */
+static void answer(char **w, int n, const char *border) {
+    if (!strcmp(w[0], "score") && n == 5) answer_view(w, border, false);
+    else if (!strcmp(w[0], "countbounds") && n == 5) answer_view(w, border, true);
+    else if (!strcmp(w[0], "counteliminate") && n == 7) answer_scan(w, border, false);
+    else if (!strcmp(w[0], "countdown") && n == 6) answer_scan(w, border, true);
+    else if (border) stop("no such question of two books");
+    else if (!strcmp(w[0], "table") && n == 2) answer_table(w[1]);
+    else if (!strcmp(w[0], "clear") && n == 1) { book_len = 0; name_above[0] = 0; printf("ok\n"); }
+    else if (!strcmp(w[0], "add") && n == 4) add(w);
+    else stop("no such question");
+}
+
 int main(void) {
     size_t room = 16u << 20;
     char *line = malloc(room);
     while (fgets(line, (int)room, stdin)) {
-        char *w[8] = {0}, *save = 0;
+        char *w[WORDS] = {0}, *save = 0;
         int n = 0;
-        for (char *p = strtok_r(line, " \n", &save); p && n < 8; p = strtok_r(0, " \n", &save)) w[n++] = p;
+        for (char *p = strtok_r(line, " \n", &save); p && n < WORDS; p = strtok_r(0, " \n", &save)) w[n++] = p;
         if (n == 0 || w[0][0] == '#') continue;
-        if (!strcmp(w[0], "table") && n == 2) answer_table(w[1]);
-        else if (!strcmp(w[0], "score") && n == 5) answer_view(w, false);
-        else if (!strcmp(w[0], "countbounds") && n == 5) answer_view(w, true);
-        else if (!strcmp(w[0], "clear") && n == 1) { book_len = 0; name_above[0] = 0; printf("ok\n"); }
-        else if (!strcmp(w[0], "add") && n == 4) add(w);
-        else if (!strcmp(w[0], "counteliminate") && n == 7) answer_scan(w, false);
-        else if (!strcmp(w[0], "countdown") && n == 6) answer_scan(w, true);
-        else stop("no such question");
+        if (!strcmp(w[0], "border") && n > 2) answer(w + 2, n - 2, w[1]);
+        else answer(w, n, 0);
         fflush(stdout);
     }
     return 0;

@@ -1,17 +1,23 @@
 /* Calls the archive as it is told: a call on standard input, what came of it on standard output, until the input ends. oracle/rows.py asks.
-   Every number is a u64, little-endian. A call: the sixteen numbers below, then what text, book, area, words, out and results hold. The answer:
-   ten numbers, the 64 bytes of the name, whether the bytes behind a buffer have changed, then what the six hold now. An empty buffer is lent as a
-   null pointer. */
+   Every number is a u64, little-endian. A call: the eighteen numbers below, then what text, both books, area, words, out and results hold; of the
+   books only the first is lent, or both, or the first twice. The answer: ten numbers, the 64 bytes of the name and where it stands, whether
+   chultarvi_name finds it elsewhere, whether the bytes behind a buffer have changed, then what the seven hold now. An empty buffer is lent as a null
+   pointer. */
 #include "../include/chultarvi.h"
 #include <stdio.h>
 #include <stdlib.h>
 #include <string.h>
 
 enum { CHECK, COMPILE, SCORE, BOUNDS, ELIMINATE, DOWN };
-enum { TEXT, BOOK, AREA, WORDS, OUT, RESULTS, BUFFERS };
+enum { TEXT, BOOK, SECOND, AREA, WORDS, OUT, RESULTS, BUFFERS };
+enum { ONE, TWO, SAME };
 enum { FENCE = 64, FENCE_BYTE = 0xd7 };
-typedef struct { uint64_t job, start, end, number, threshold, shallow, optimize, passes, step, budget, len[BUFFERS]; } call;
-typedef struct { uint64_t refusal, texts, len, first, after, score, count, records, kind, name_len; uint8_t name[64]; uint64_t crossed; } reply;
+typedef struct { uint64_t job, start, end, number, threshold, shallow, optimize, passes, step, budget, books, len[BUFFERS]; } call;
+typedef struct {
+    uint64_t refusal, texts, len, first, after, score, count, records, kind, name_len;
+    uint8_t name[64];
+    uint64_t second, name_at, misplaced, crossed;
+} reply;
 static uint8_t *buffer[BUFFERS];
 
 static size_t bytes_of(const call *c, int i) { return (size_t)c->len[i] * (i == WORDS || i == RESULTS ? 4 : 1); }
@@ -46,37 +52,56 @@ static float float_of(uint64_t bits) { uint32_t b = (uint32_t)bits; float x; mem
 static uint32_t bits_of(float x) { uint32_t b; memcpy(&b, &x, 4); return b; }
 static void *lent(const call *c, int i) { return c->len[i] ? buffer[i] : 0; }
 
+static const uint8_t *second_book(const call *c) { return c->books == ONE ? 0 : lent(c, c->books == SAME ? BOOK : SECOND); }
+
+/* what several calls are lent, all of a `c` */
+#define TEXT_AND_BOOK lent(c, TEXT), c->len[TEXT], lent(c, BOOK), c->len[BOOK]
+#define TEXT_AND_BOTH TEXT_AND_BOOK, second_book(c), c->len[SECOND]
+#define VIEW c->start, c->end, (uint32_t)c->number
+#define LIMITS float_of(c->threshold), float_of(c->shallow)
+#define PASSES c->optimize != 0, (uint16_t)c->passes, c->budget
+#define STEPS c->step, c->budget
+#define WORK lent(c, AREA), c->len[AREA], lent(c, WORDS), c->len[WORDS]
+#define WORK_AND_RESULTS WORK, lent(c, RESULTS), c->len[RESULTS]
+
 static void view_job(const call *c, reply *r) {
-    const uint8_t *text = lent(c, TEXT), *book = lent(c, BOOK);
     if (c->job == SCORE) {
-        chultarvi_view_scored s = chultarvi_score(text, c->len[TEXT], book, c->len[BOOK], c->start, c->end, (uint32_t)c->number, lent(c, AREA),
-                                                  c->len[AREA], lent(c, WORDS), c->len[WORDS]);
+        chultarvi_view_scored s = c->books == ONE ? chultarvi_score(TEXT_AND_BOOK, VIEW, WORK) : chultarvi_score_both(TEXT_AND_BOTH, VIEW, WORK);
         r->refusal = s.refusal, r->score = bits_of(s.score);
     } else {
-        chultarvi_bounds_found b = chultarvi_bounds(text, c->len[TEXT], book, c->len[BOOK], c->start, c->end, (uint32_t)c->number, lent(c, AREA),
-                                                    c->len[AREA], lent(c, WORDS), c->len[WORDS]);
+        chultarvi_bounds_found b = c->books == ONE ? chultarvi_bounds(TEXT_AND_BOOK, VIEW, WORK) : chultarvi_bounds_both(TEXT_AND_BOTH, VIEW, WORK);
         r->refusal = b.refusal, r->first = b.first, r->after = b.after, r->score = bits_of(b.score), r->count = b.count;
     }
 }
+/* Does chultarvi_name point elsewhere than at the name, inside the lent book that holds it? Without a name: than at the first book's start. */
+static bool misplaced(const call *c, const chultarvi_note_scanned *s) {
+    const uint8_t *first = lent(c, BOOK), *second = second_book(c), *holder = s->second ? second : first;
+    size_t held = holder ? (size_t)c->len[s->second ? SECOND : BOOK] : 0;
+    if (s->len == 0) return s->second || s->name_at != 0 || chultarvi_name(first, second, s) != first;
+    if (s->len > sizeof s->name || s->name_at > held || s->len > held - s->name_at) return true;
+    const uint8_t *name = chultarvi_name(first, second, s);
+    return name != holder + s->name_at || memcmp(name, s->name, s->len) != 0;
+}
+static chultarvi_note_scanned scanned(const call *c) {
+    if (c->job == ELIMINATE)
+        return c->books == ONE ? chultarvi_eliminate(TEXT_AND_BOOK, LIMITS, PASSES, WORK_AND_RESULTS)
+                               : chultarvi_eliminate_both(TEXT_AND_BOTH, LIMITS, PASSES, WORK_AND_RESULTS);
+    return c->books == ONE ? chultarvi_top_down(TEXT_AND_BOOK, LIMITS, STEPS, WORK_AND_RESULTS)
+                           : chultarvi_top_down_both(TEXT_AND_BOTH, LIMITS, STEPS, WORK_AND_RESULTS);
+}
 static void scan_job(const call *c, reply *r) {
-    const uint8_t *text = lent(c, TEXT), *book = lent(c, BOOK);
-    float threshold = float_of(c->threshold), shallow = float_of(c->shallow);
-    chultarvi_note_scanned s =
-        c->job == ELIMINATE
-            ? chultarvi_eliminate(text, c->len[TEXT], book, c->len[BOOK], threshold, shallow, c->optimize != 0, (uint16_t)c->passes, c->budget,
-                                  lent(c, AREA), c->len[AREA], lent(c, WORDS), c->len[WORDS], lent(c, RESULTS), c->len[RESULTS])
-            : chultarvi_top_down(text, c->len[TEXT], book, c->len[BOOK], threshold, shallow, c->step, c->budget, lent(c, AREA), c->len[AREA],
-                                 lent(c, WORDS), c->len[WORDS], lent(c, RESULTS), c->len[RESULTS]);
+    chultarvi_note_scanned s = scanned(c);
     r->refusal = s.refusal, r->records = s.records, r->count = s.count, r->score = bits_of(s.score), r->kind = s.kind, r->name_len = s.len;
     memcpy(r->name, s.name, sizeof s.name);
+    r->second = s.second, r->name_at = s.name_at, r->misplaced = misplaced(c, &s);
 }
 static void answer(const call *c, reply *r) {
+    if (c->books > SAME || (c->books == SAME && c->len[SECOND] != c->len[BOOK])) stop("no such books");
     if (c->job == CHECK) {
         chultarvi_book_checked b = chultarvi_check_book(lent(c, BOOK), c->len[BOOK]);
         r->refusal = b.refusal, r->texts = b.texts;
     } else if (c->job == COMPILE) {
-        chultarvi_text_compiled t = chultarvi_compile(lent(c, TEXT), c->len[TEXT], lent(c, AREA), c->len[AREA], lent(c, WORDS), c->len[WORDS],
-                                                      lent(c, OUT), c->len[OUT]);
+        chultarvi_text_compiled t = chultarvi_compile(lent(c, TEXT), c->len[TEXT], WORK, lent(c, OUT), c->len[OUT]);
         r->refusal = t.refusal, r->len = t.len;
     } else if (c->job == SCORE || c->job == BOUNDS) view_job(c, r);
     else if (c->job == ELIMINATE || c->job == DOWN) scan_job(c, r);

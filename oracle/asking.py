@@ -1,7 +1,8 @@
 """Makes questions for hold.py and rows.py: calls of the five jobs, sound and with faults, each area filled with garbage.
 
 A plan is a question without its areas. For each area it holds by how much it is longer than needed (below 0: shorter), so that a fault of the text
-keeps the others right. `filled` makes the question. A fault is named by the refusal that it should bring; whether it does, the model says.
+keeps the others right. `filled` makes the question. A fault is named by the refusal that it should bring; whether it does, the model says. Plans of
+the jobs that scan or look at a view have one book or, where `two` is said, two.
 """
 
 import copy
@@ -17,6 +18,12 @@ WHOLE = 2**64 - 1
 MARKED_TEXT = b"copyright 20xx me irl\n// My First License\nfn hello() {\n ..."
 SCANS = ("eliminate", "down")
 JOBS = tuple(model.REFUSALS)
+OF_TWO = ("score", "bounds", *SCANS)  # the jobs that take two books
+
+
+def jobs(two):
+    return OF_TWO if two else JOBS
+
 
 # ---- books -------------------------------------------------------------------------------------------------------------------------------
 
@@ -42,7 +49,7 @@ def book_records(rng, texts):
             name = stored.name
             out.append((1, name.encode("ascii")))
         out.append((stored.kind, model.compiled(stored.text.encode("ascii"))))
-    return out + aliases(rng)
+    return out + (aliases(rng) if out else [])
 
 
 def aliases(rng):
@@ -102,7 +109,7 @@ def other_bytes(rng, book):
     elif how == 4:
         del book[i]
     else:
-        book[0:4] = struct.pack("<I", rng.choice([2**32 - 6, 2**32 - 1, len(book), len(book) - 6, len(book) - 5, 0]))
+        book[0:4] = struct.pack("<I", rng.choice([2**32 - 6, 2**32 - 1, len(book), max(0, len(book) - 6), max(0, len(book) - 5), 0]))
     return bytes(book)
 
 
@@ -133,12 +140,36 @@ def limits(rng, plan):
     return rng.choice(some + met * 2), rng.choice(some + [model.bits_of(0.99), model.bits_of(1.0)] + met)
 
 
-def sound_plan(rng, job, lines=9):
-    """A plan that is not refused; its book has 2 to 5 stored texts."""
-    shelf = compare.shelf(rng)
-    plan = types.SimpleNamespace(job=job, records=book_records(rng, shelf), start=0, end=0, number=0, threshold=0, shallow=0)
-    plan.text = compare.note(rng, shelf, lines).encode("ascii") if rng.random() < 0.75 else compare.text(rng).encode("ascii")
-    plan.book = book_of(plan.records)
+def renamed(rng, texts):
+    """The same texts under other licences."""
+    names = sorted({s.name for s in texts})
+    others = sorted(rng.sample(compare.NAMES, len(names)))
+    return [s._replace(name=others[names.index(s.name)]) for s in texts]
+
+
+def two_shelves(rng):
+    """The shelves of two books: one shelf parted at a licence, which leaves a side empty or not, also exchanged; or two with names, texts or both in
+    common."""
+    first, how = compare.shelf(rng), rng.randrange(4)
+    if how < 2:
+        sides = compare.parted(first, rng.randint(0, compare.licences(first)))
+        return sides if how else sides[::-1]
+    second = first if how == 2 else compare.shelf(rng)
+    if rng.random() < 0.5:
+        second = renamed(rng, second)
+    return first, [s._replace(text=rng.choice(first).text) if rng.random() < 0.3 else s for s in second]
+
+
+def sound_plan(rng, job, lines=9, two=False):
+    """A plan that is not refused; its book has 2 to 5 stored texts, and two books together up to 10."""
+    shelves = two_shelves(rng) if two else (compare.shelf(rng),)
+    texts = [s for shelf in shelves for s in shelf]
+    plan = types.SimpleNamespace(job=job, records=[book_records(rng, shelf) for shelf in shelves], start=0, end=0, number=0, threshold=0, shallow=0)
+    plan.text = compare.note(rng, texts, lines).encode("ascii") if rng.random() < 0.75 else compare.text(rng).encode("ascii")
+    plan.same = two and rng.random() < 0.1 and bool(plan.records[0])
+    if plan.same:
+        plan.records[1] = plan.records[0]
+    plan.books = [book_of(records) for records in plan.records]
     plan.optimize, plan.passes, plan.step = rng.random() < 0.85, rng.choice([0, 1, 2, 2, 3, 4]), rng.choice([1, 1, 2, 2, 3, 4, 5, 7, WHOLE])
     plan.slack = {area: slack(rng) for area in ("area", "words", "out", "results")}
     plan.budget, plan.sizes = WHOLE, None
@@ -146,7 +177,7 @@ def sound_plan(rng, job, lines=9):
         plan.threshold, plan.shallow = limits(rng, plan)
     if job in ("score", "bounds"):
         plan.start, plan.end = compare.any_view(rng, plan.text.count(b"\n") + 1)
-        plan.number = rng.randrange(len(model.shelf_or_none(plan.book)))
+        plan.number = rng.randrange(len(model.shelved(plan.books)))
     return plan
 
 
@@ -157,8 +188,8 @@ def slack(rng):
 def question(plan, job=None):
     """The question with areas just as long as needed, of zeros, and without an output."""
     q = model.Question(
-        job or plan.job, plan.text, plan.book, start=plan.start, end=plan.end, number=plan.number, threshold=plan.threshold, shallow=plan.shallow,
-        optimize=plan.optimize, passes=plan.passes, step=plan.step, budget=plan.budget,
+        job or plan.job, plan.text, tuple(plan.books), plan.same, start=plan.start, end=plan.end, number=plan.number, threshold=plan.threshold,
+        shallow=plan.shallow, optimize=plan.optimize, passes=plan.passes, step=plan.step, budget=plan.budget,
     )  # fmt: skip
     n = len(q.text)
     return dataclasses.replace(q, area=bytes(8 * n + 64), words=bytes(4 * (12 * n + 64)), results=bytes(4 * model.results_need(q)))
@@ -215,13 +246,19 @@ def many_lines(rng, plan):
     few(rng, plan)
 
 
+def other_books(rng, plan, make):
+    """Puts what is made of its records in the place of the book, or of one of two, or of both."""
+    for i in rng.choice([(0,), (1,), (0, 1)]) if len(plan.books) == 2 else (0,):
+        plan.books[i], plan.same = make(rng, plan.records[i]), False
+
+
 def bad_book(rng, plan):
-    plan.book = unsound_book(rng, plan.records)
+    other_books(rng, plan, unsound_book)
 
 
 def no_book(rng, plan):
-    if model.shelf_or_none(plan.book) is not None:
-        plan.book = b""
+    """Of each that is sound, so that beside an unsound one 4 is still due."""
+    plan.books = [b"" if model.shelf_or_none(book) is not None else book for book in plan.books]
 
 
 OUTSIDE = [0x80000001, 0xBF800000, 0x3F800001, 0x40000000, 0x7F800000, 0xFF800000, 0x7FC00000, 0xFFC00001, 0x7F800001, 0xFFFFFFFF]
@@ -245,7 +282,7 @@ def bad_view(rng, plan):
 
 
 def bad_number(rng, plan):
-    texts = len(model.shelf_or_none(plan.book) or [])
+    texts = len(model.shelved(plan.books))
     plan.number = rng.choice([texts, texts, texts + 1, texts + rng.randint(0, 99), 2**31, 2**32 - 1])
 
 
@@ -270,28 +307,28 @@ FAULT = {
 }  # fmt: skip
 
 
-def faulty(rng, job, refusal, more=0.3, lines=9, largest=True):
+def faulty(rng, job, refusal, more=0.3, lines=9, largest=True, two=False):
     """A plan that should be refused so, and often has faults that come later. Without `largest` none that makes a text long."""
-    plan = sound_plan(rng, job, lines)
+    plan = sound_plan(rng, job, lines, two)
     for n in model.REFUSALS[job]:
         if n == refusal or (n > refusal and rng.random() < more and (largest or n not in (1, 3))):
             FAULT[n](rng, plan)
     return plan
 
 
-def two_faults(rng, job, first, second, lines=9):
+def two_faults(rng, job, first, second, lines=9, two=False):
     """A plan with exactly these two faults, as far as one does not bring another."""
-    plan = sound_plan(rng, job, lines)
+    plan = sound_plan(rng, job, lines, two)
     for n in (first, second):
         FAULT[n](rng, plan)
     return plan
 
 
-def budgeted(rng, job, lines=9):
-    """One scan under several budgets: none, one, around N, just short of its count, its count, one more, all."""
-    plan = sound_plan(rng, job, lines)
-    whole, texts = model.answered(question(plan)), len(model.shelf_or_none(plan.book))
-    budgets = {0, 1, texts - 1, texts, texts + 1, whole.count - 1, whole.count, whole.count + 1, rng.randint(0, whole.count), WHOLE}
+def budgeted(rng, job, lines=9, two=False):
+    """One scan under several budgets: none, one, around the texts of the first book and of all, around its count, one between, all."""
+    plan = sound_plan(rng, job, lines, two)
+    whole, texts = model.answered(question(plan)), {len(model.shelved(plan.books[:i])) for i in (1, 2)}
+    budgets = {0, 1, rng.randint(0, whole.count), WHOLE} | {mark + by for mark in {whole.count, *texts} for by in (-1, 0, 1)}
     for budget in sorted(b for b in budgets if b >= 0):
         yield altered(plan, budget=budget, slack={area: slack(rng) for area in plan.slack})
 

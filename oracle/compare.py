@@ -5,8 +5,8 @@
 
 The oracle beside this file (README.md) answers each question with the original's own code. Each answer becomes a row, what the definitions
 compute and what the oracle says, of a trial crate in a temporary folder; antt computes the rows there, a batch of them in one statement by
-`refl`. A batch that fails is taken apart, row by row, and each row that differs is printed with its input. Exit status: 0 no row differs,
-1 some do, 2 the comparison could not be made.
+`refl`. A batch that fails is taken apart, row by row, and each row that differs is printed with its input. The oracle has one store; the definitions
+are lent its licences in one book, or in two that part them anywhere. Exit status: 0 no row differs, 1 some do, 2 the comparison could not be made.
 """
 
 import argparse
@@ -23,6 +23,8 @@ import sys
 import tempfile
 import time
 
+import model
+
 HERE = os.path.dirname(os.path.abspath(__file__))
 REPOSITORY = os.path.dirname(HERE)
 
@@ -36,7 +38,7 @@ USES = """\
 use Prim.Native.Nat.{ℕ}
 use Prim.Native.String.{String}
 use mathlib.Core.Path.{_≡_, refl}
-use mathlib.Core.Bool.{true, false}
+use mathlib.Core.Bool.{Bool, true, false, cond}
 use mathlib.Core.List.{List, [], _∷_, _++_, map}
 use lib.ListN.{length, take, drop, replicate}
 use lib.Ieee.{Float, toBits, ofBits, binary32}
@@ -45,7 +47,7 @@ use Rattle.rules.specs.Lines.{lines}
 use Rattle.rules.specs.Passes.{aggressive}
 use Rattle.rules.specs.Search.{view, viewed}
 use Rattle.rules.specs.Scan.{events, scorings, records, verdict, numbers}
-use Rattle.rules.specs.Book.{stored, compiled}
+use Rattle.rules.specs.Book.{shelved, compiled}
 use Rattle.rules.specs.Refusal.{Areas}
 use Rattle.rules.specs.Jobs.{scoreJob, boundsJob, named, scan, resultsAfter}
 use Rattle.rules.specs.declared.Limits.{Limits}
@@ -77,25 +79,28 @@ room = record { bytes = 100_000; words = 100_000 }
 pub bits : Float → ℕ
 bits x = toBits binary32 x
 
+pub bit : Bool → ℕ
+bit b = cond b 1 0
+
 -- of the lines from a up to e against the stored text k: refusal, score bits
-pub scoreRow : String → ℕ → ℕ → String → ℕ → List ℕ → Row
-scoreRow t a e book k w =
-    let r = scoreJob (text t) (text book) (view a e) k room in
+pub scoreRow : String → ℕ → ℕ → List (List ℕ) → ℕ → List ℕ → Row
+scoreRow t a e books k w =
+    let r = scoreJob (text t) books (view a e) k room in
     record { got = r .refusal ∷ bits (r .score) ∷ []; want = w }
 
 -- refusal, count, first line, line after last, score bits
-pub boundsRow : String → ℕ → ℕ → String → ℕ → List ℕ → Row
-boundsRow t a e book k w =
-    let r = boundsJob (text t) (text book) (view a e) k room in
+pub boundsRow : String → ℕ → ℕ → List (List ℕ) → ℕ → List ℕ → Row
+boundsRow t a e books k w =
+    let r = boundsJob (text t) books (view a e) k room in
     record { got = r .refusal ∷ r .count ∷ r .first ∷ r .after ∷ bits (r .score) ∷ []; want = w }
 
 pub limits : ℕ → ℕ → Limits
 limits threshold shallow = record { threshold = ofBits binary32 threshold; shallow = ofBits binary32 shallow }
 
 -- a whole scan: count, overall score bits, kind, records, the name's length, the name, then each record's four numbers
-pub scanRow : String → String → Limits → Mode → List ℕ → Row
-scanRow t book lim mode w =
-    let es = events lim mode (stored (text book)) (lines (text t)) in
+pub scanRow : String → List (List ℕ) → Limits → Mode → List ℕ → Row
+scanRow t books lim mode w =
+    let es = events lim mode (shelved 0 books) (lines (text t)) in
     let who = named lim (verdict es) in
     record {
       got =
@@ -104,20 +109,20 @@ scanRow t book lim mode w =
       want = w;
     }
 
--- the public scan, with a budget and a results area of n sevens: refusal, count, overall score bits, kind, records, the name's length, the
--- name's 64 bytes, then the area after it
-pub jobRow : String → String → Limits → Mode → ℕ → ℕ → List ℕ → Row
-jobRow t book lim mode budget n w =
-    let r = scan (text t) (text book) lim mode budget room n in
+-- the public scan, with a budget and a results area of n sevens: refusal, count, overall score bits, kind, records, the name's length, its part
+-- (second, at, length), the name's 64 bytes, then the area after it
+pub jobRow : String → List (List ℕ) → Limits → Mode → ℕ → ℕ → List ℕ → Row
+jobRow t books lim mode budget n w =
+    let r = scan (text t) books lim mode budget room n in
     record {
       got =
-          r .refusal ∷ r .count ∷ bits (r .score) ∷ r .kind ∷ r .records ∷ r .len ∷
-          r .name ++ resultsAfter (text t) (text book) lim mode budget room (replicate n 7);
+          r .refusal ∷ r .count ∷ bits (r .score) ∷ r .kind ∷ r .records ∷ r .len ∷ bit (r .part .second) ∷ r .part .at ∷ r .part .len ∷
+          r .name ++ resultsAfter (text t) books lim mode budget room (replicate n 7);
       want = w;
     }
 """
 
-UNFOLDING = "linesRow viewRow tableRow room bits scoreRow boundsRow limits scanRow jobRow opened"
+UNFOLDING = "linesRow viewRow tableRow room bits bit scoreRow boundsRow limits scanRow jobRow opened"
 
 
 # ---- the oracle --------------------------------------------------------------------------------------------------------------------------
@@ -198,7 +203,7 @@ class Row:
         self.call, self.want, self.told, self.named = call, want, told, named
 
     def term(self):
-        return f"{self.call} {self.want if isinstance(self.want, str) else numbers(self.want)}"
+        return f"{self.call} {self.want if isinstance(self.want, str) else listed(self.want)}"
 
 
 def quoted(text):
@@ -209,8 +214,13 @@ def quoted(text):
     return '"' + "".join(escaped.get(c) or (c if " " <= c <= "~" else f"\\u{{{ord(c):x}}}") for c in text) + '"'
 
 
-def numbers(values):
-    return "(" + "".join(f"{v} ∷ " for v in values) + "[])"
+def listed(terms):
+    return "(" + "".join(f"{term} ∷ " for term in terms) + "[])"
+
+
+def lent(books):
+    """The list of these books."""
+    return listed(f"text {quoted(book)}" for book in books)
 
 
 # ---- the trial crate ---------------------------------------------------------------------------------------------------------------------
@@ -320,7 +330,7 @@ def differing_parts(trial, row):
     at = 0
     for name, part in itertools.groupby(row.named):
         size = len(list(part))
-        statements[f"part{at}"] = ("", f"take {size} (drop {at} ({row.term()} .got)) ≡ {numbers(row.want[at : at + size])}", "")
+        statements[f"part{at}"] = ("", f"take {size} (drop {at} ({row.term()} .got)) ≡ {listed(row.want[at : at + size])}", "")
         names[f"part{at}"] = name
         at += size
     return [names[part] for part in trial.failures(statements)]
@@ -452,6 +462,17 @@ def shelf(rng):
     return out
 
 
+def licences(texts):
+    """How many licences these stored texts have."""
+    return sum(s.kind == 2 for s in texts)
+
+
+def parted(texts, border):
+    """The stored texts of the licences before the border, counted from 0, and those from it on."""
+    starts = [i for i, s in enumerate(texts) if s.kind == 2] + [len(texts)]
+    return texts[: starts[border]], texts[starts[border] :]
+
+
 def note(rng, texts, most):
     """Up to so many lines: pieces of stored texts, other words, blank lines and lines about copyright."""
     lines = []
@@ -499,7 +520,7 @@ class Maker:
 
     def rows(self, kind, how_many):
         stream = "texts" if kind in ("lines", "whole") else kind
-        rng = random.Random(f"{self.seed} {stream}")
+        rng, self.borders = random.Random(f"{self.seed} {stream}"), random.Random(f"{self.seed} {stream} borders")
         return [getattr(self, kind)(rng, i) for i in range(how_many)]
 
     # passes and tables
@@ -530,37 +551,43 @@ class Maker:
         return Row(f"tableRow {quoted(t)}", quoted(self.oracle.body(t)), f"table of {t!r}")
 
     # stored texts
-    def book(self, rng):
-        """Fills the oracle's store; gives the stored texts and their book."""
+    def books(self, rng):
+        """Fills the oracle's store; gives the stored texts and their book, or two books that part them."""
         texts = shelf(rng)
         self.oracle.ask("clear")
+        for s in texts:
+            self.oracle.ask("add", hexed(s.name), s.kind, hexed(s.text))
+        sides = parted(texts, self.borders.randint(0, licences(texts))) if self.borders.random() < 0.5 else (texts,)
+        self.told["books: lent two at once"] += len(sides) == 2
+        return texts, [self.book(rng, side) for side in sides]
+
+    def book(self, rng, texts):
         out = b""
         for i, s in enumerate(texts):
-            self.oracle.ask("add", hexed(s.name), s.kind, hexed(s.text))
             if s.kind == 2:
                 out += piece(1, s.name.encode("ascii"))
             out += piece(s.kind, self.oracle.body(s.text))
             last = i + 1 == len(texts) or texts[i + 1].kind == 2
             if last and rng.random() < 0.2:
                 out += piece(5, b"alias")
-        return texts, out
+        return out
 
     def setting(self, rng, most):
-        texts, book = self.book(rng)
+        texts, books = self.books(rng)
         t = note(rng, texts, most)
-        return texts, book, t, len(self.oracle.lines(t))
+        return texts, books, t, len(self.oracle.lines(t))
 
     # scores and bounds
     def score(self, rng, i):
-        texts, book, t, n = self.setting(rng, 6)
+        texts, books, t, n = self.setting(rng, 6)
         k = rng.randrange(len(texts))
         start, end = any_view(rng, n) if rng.random() < 0.5 else (0, n)
         want = self.oracle.ask("scores", start, end, hexed(t)).split(" ")[k]
         told = f"score of view {start} to {end} of {t!r} against {texts[k].text!r}"
-        return Row(f"scoreRow {quoted(t)} {start} {end} {quoted(book)} {k}", [0, int(want, 16)], told, ["refusal", "score bits"])
+        return Row(f"scoreRow {quoted(t)} {start} {end} {lent(books)} {k}", [0, int(want, 16)], told, ["refusal", "score bits"])
 
     def bounds(self, rng, i):
-        texts, book, t, n = self.setting(rng, 14)
+        texts, books, t, n = self.setting(rng, 14)
         k = rng.randrange(len(texts))
         start, end = any_view(rng, n) if rng.random() < 0.4 else (0, n)
         asked = (start, end, hexed(t), hexed(texts[k].text))
@@ -569,7 +596,7 @@ class Maker:
         self.agree(told, " ".join(found), lambda: self.oracle.ask("bounds", *asked))
         want = [0, int(count), int(found[0]), int(found[1]), int(found[2], 16)]
         named = ["refusal", "count", "first line", "line after last", "score bits"]
-        return Row(f"boundsRow {quoted(t)} {start} {end} {quoted(book)} {k}", want, told, named)
+        return Row(f"boundsRow {quoted(t)} {start} {end} {lent(books)} {k}", want, told, named)
 
     def agree(self, told, counted, draw):
         """The original's own answer must be the counted copy's, once its ties fall so."""
@@ -589,22 +616,22 @@ class Maker:
         return threshold, shallow
 
     def eliminate_setting(self, rng):
-        texts, book, t, n = self.setting(rng, 12)
+        texts, books, t, n = self.setting(rng, 12)
         everything = self.counted(f"counteliminate {ZERO:08x} {ONE:08x} 1 4 {WHOLE} {hexed(t)}")
         threshold, shallow = self.limits(rng, [everything.score] + [r[3] for r in everything.records])
         optimize, passes = int(rng.random() < 0.85), rng.choice([0, 1, 2, 2, 3, 3, 4])
         mode = ELIMINATION.format(optimize="true" if optimize else "false", passes=passes)
         before = f"{threshold:08x} {shallow:08x} {optimize} {passes}"
         need = 4 * passes if optimize else 0
-        return Setting(texts, book, t, threshold, shallow, mode, "eliminate", before, need)
+        return Setting(texts, books, t, threshold, shallow, mode, "eliminate", before, need)
 
     def down_setting(self, rng):
         step = rng.choice([1, 1, 2, 3, 4, 5, 6, 7, WHOLE])
-        texts, book, t, n = self.setting(rng, 5 if step == 1 else 8 if step == 2 else 12)
+        texts, books, t, n = self.setting(rng, 5 if step == 1 else 8 if step == 2 else 12)
         scores = [int(x, 16) for _ in range(3) for x in self.oracle.ask("scores", *any_view(rng, n), hexed(t)).split(" ")]
         threshold, shallow = self.limits(rng, [max(scores), rng.choice(scores)])
         before = f"{threshold:08x} {shallow:08x} {step}"
-        return Setting(texts, book, t, threshold, shallow, TOP_DOWN.format(step=step), "down", before, 4 * n)
+        return Setting(texts, books, t, threshold, shallow, TOP_DOWN.format(step=step), "down", before, 4 * n)
 
     def counted(self, question):
         head, *records = self.oracle.ask(question).split(" ; ")
@@ -639,8 +666,10 @@ class Maker:
         name, licence = a.licence(s.texts)
         room = s.need + rng.randint(0, 3)
         area = (a.flat() + [7] * room)[:room]
-        want = [a.refusal, a.count, a.score, licence, len(a.records), len(name), *name.ljust(64, "\0").encode("ascii"), *area]
-        named = ["refusal", "count", "score bits", "kind", "records", "length of the name"] + ["name"] * 64 + record_names(a)
+        part = model.NO_PART if a.named is None else model.shelved(s.books)[a.named].part
+        want = [a.refusal, a.count, a.score, licence, len(a.records), len(name), *part, *name.ljust(64, "\0").encode("ascii"), *area]
+        named = ["refusal", "count", "score bits", "kind", "records", "length of the name", *["part of the name"] * 3]
+        named += ["name"] * 64 + record_names(a)
         named += ["results past the records"] * (len(want) - len(named))
         return Row(f"jobRow {s.call()} {budget} {room}", want, f"{s.told()}, budget {budget}", named)
 
@@ -654,16 +683,17 @@ class Maker:
         self.told["scans: scorings"] += a.count
 
 
-class Setting(collections.namedtuple("Setting", "texts book text threshold shallow mode word before need")):
+class Setting(collections.namedtuple("Setting", "texts books text threshold shallow mode word before need")):
     def question(self, budget):
         return f"count{self.word} {self.before} {budget} {hexed(self.text)}"
 
     def call(self):
-        return f"{quoted(self.text)} {quoted(self.book)} (limits {self.threshold:#x} {self.shallow:#x}) {self.mode}"
+        return f"{quoted(self.text)} {lent(self.books)} (limits {self.threshold:#x} {self.shallow:#x}) {self.mode}"
 
     def told(self):
         texts = ", ".join(f"{s.name} {s.kind} {s.text!r}" for s in self.texts)
-        return f"{self.mode} at {self.threshold:08x} {self.shallow:08x} of {self.text!r}, stored: {texts}"
+        books = " and ".join(f"{len(book)} bytes" for book in self.books)
+        return f"{self.mode} at {self.threshold:08x} {self.shallow:08x} of {self.text!r}, stored: {texts}, in books of {books}"
 
 
 class Counted(collections.namedtuple("Counted", "refusal count score named records")):

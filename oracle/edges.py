@@ -1,6 +1,7 @@
 """Each limit of document 01 with its neighbours, as plans of asking.py: one below, the limit itself, one above, and the refusal that is due.
 
-`small` has those that the definitions can be computed on; `large` those of long texts, many lines and a large book.
+`small` has those that the definitions can be computed on, `both` those of two books; `large` those of long texts, many lines and large books, and
+each form of a book as either of two.
 """
 
 import collections
@@ -9,20 +10,19 @@ import random
 import types
 
 import model
-from asking import MARKED_BOOK, MARKED_TEXT, WHOLE, record, table_body
+from asking import MARKED_BOOK, MARKED_TEXT, OF_TWO, WHOLE, record, table_body
 
-Edge = collections.namedtuple("Edge", "what plan refusal")
+Edge = collections.namedtuple("Edge", "what plan refusal more", defaults=({},))  # `more`: other fields of the answer that are due
 NEAR = (-1, 0, 1)
-WITH_TEXT = ("compile", "score", "bounds", "eliminate", "down")
-WITH_BOOK = WITH_TEXT[1:]
-SCANS = WITH_TEXT[3:]
-NINETY, ALMOST = model.bits_of(0.9), model.bits_of(0.99)
+WITH_TEXT = ("compile", *OF_TWO)
+VIEWS, SCANS = OF_TWO[:2], OF_TWO[2:]
+HALF, NINETY, ALMOST = model.bits_of(0.5), model.bits_of(0.9), model.bits_of(0.99)
 
 
 def marked(job, slack=None, **fields):
     """The marked text 2 and the marked book: the whole text in view, areas as long as needed."""
-    plan = types.SimpleNamespace(job=job, text=MARKED_TEXT, book=MARKED_BOOK, start=0, end=None, number=0, threshold=NINETY, shallow=ALMOST)
-    plan.optimize, plan.passes, plan.step, plan.budget, plan.sizes = True, 10, 1, WHOLE, None
+    plan = types.SimpleNamespace(job=job, text=MARKED_TEXT, books=(MARKED_BOOK,), start=0, end=None, number=0, threshold=NINETY, shallow=ALMOST)
+    plan.same, plan.optimize, plan.passes, plan.step, plan.budget, plan.sizes = False, True, 10, 1, WHOLE, None
     plan.slack = {"area": 0, "words": 0, "out": 0, "results": 0, **(slack or {})}
     vars(plan).update(fields)
     if plan.end is None:
@@ -34,24 +34,28 @@ def due(bad, refusal):
     return refusal if bad else 0
 
 
+def licence(name, text):
+    return record(1, name) + record(2, model.compiled(text))
+
+
 # ---- lent areas --------------------------------------------------------------------------------------------------------------------------
 
 
-def areas():
-    for job, text, by in itertools.product(WITH_TEXT, (MARKED_TEXT, b"", b"x", b"a b\n" * 5), NEAR):
-        yield Edge("8n+64", marked(job, {"area": by}, text=text), due(by < 0, 10))
-        yield Edge("12n+64", marked(job, {"words": by}, text=text), due(by < 0, 10))
-        yield Edge("8n+64", marked(job, {"area": by, "words": 9}, text=text), due(by < 0, 10))
-        yield Edge("12n+64", marked(job, {"area": 9, "words": by}, text=text), due(by < 0, 10))
+def areas(jobs=WITH_TEXT, texts=(MARKED_TEXT, b"", b"x", b"a b\n" * 5), **fields):
+    for job, text, by in itertools.product(jobs, texts, NEAR):
+        yield Edge("8n+64", marked(job, {"area": by}, text=text, **fields), due(by < 0, 10))
+        yield Edge("12n+64", marked(job, {"words": by}, text=text, **fields), due(by < 0, 10))
+        yield Edge("8n+64", marked(job, {"area": by, "words": 9}, text=text, **fields), due(by < 0, 10))
+        yield Edge("12n+64", marked(job, {"area": 9, "words": by}, text=text, **fields), due(by < 0, 10))
 
 
-def results():
-    for passes, by in itertools.product((0, 1, 2, 10, 65535), NEAR):
-        yield Edge("4P", marked("eliminate", {"results": by}, passes=passes), due(by < 0 and passes > 0, 10))
-        yield Edge("4P", marked("eliminate", {"results": by}, passes=passes, optimize=False), 0)
-        yield Edge("4P", marked("eliminate", {"results": by}, passes=passes, budget=9), due(passes > 0, 10 if by < 0 else 12))
-    for text, step, by in itertools.product((MARKED_TEXT, b"", b"\n", b"my first license\n" * 6), (1, 2, WHOLE), NEAR):
-        yield Edge("4L", marked("down", {"results": by}, text=text, step=step), due(by < 0, 10))
+def results(all_passes=(0, 1, 2, 10, 65535), texts=(MARKED_TEXT, b"", b"\n", b"my first license\n" * 6), steps=(1, 2, WHOLE), **fields):
+    for passes, by in itertools.product(all_passes, NEAR):
+        yield Edge("4P", marked("eliminate", {"results": by}, passes=passes, **fields), due(by < 0 and passes > 0, 10))
+        yield Edge("4P", marked("eliminate", {"results": by}, passes=passes, optimize=False, **fields), 0)
+        yield Edge("4P", marked("eliminate", {"results": by}, passes=passes, budget=9, **fields), due(passes > 0, 10 if by < 0 else 12))
+    for text, step, by in itertools.product(texts, steps, NEAR):
+        yield Edge("4L", marked("down", {"results": by}, text=text, step=step, **fields), due(by < 0, 10))
 
 
 def output():
@@ -65,9 +69,9 @@ def output():
 
 def each(what, book, bad, **fields):
     """A book asked about by the check and by each job that takes one."""
-    yield Edge(what, marked("check", book=book), due(bad, 4))
-    for job in WITH_BOOK:
-        yield Edge(what, marked(job, book=book, **fields), due(bad, 4))
+    yield Edge(what, marked("check", books=(book,)), due(bad, 4))
+    for job in OF_TWO:
+        yield Edge(what, marked(job, books=(book,), **fields), due(bad, 4))
 
 
 def names():
@@ -134,29 +138,32 @@ def forms():
 
 def book_forms():
     for book, good in forms():
-        yield Edge("the form of a book", marked("check", book=book), due(not good, 4))
+        yield Edge("the form of a book", marked("check", books=(book,)), due(not good, 4))
         if book:
-            yield Edge("the form of a book", marked("score", book=book), due(not good, 4))
+            yield Edge("the form of a book", marked("score", books=(book,)), due(not good, 4))
 
 
-NO_TABLE = record(3, bytes(8))
-
-
-def many_texts(texts):
-    return record(1, b"A") + record(2, MARKED_BOOK[13:]) + NO_TABLE * (texts - 1)
+def many_texts(texts, at=0):
+    """A licence of so many stored texts, or no licence: all have no words but the one at this number."""
+    bodies = (MARKED_BOOK[13:] if i == at else EMPTY for i in range(texts))
+    return b"".join((record(3, body) if i else record(1, b"A") + record(2, body)) for i, body in enumerate(bodies))
 
 
 def stored_texts():
     for by in NEAR:
         texts = model.STORED_MOST + by
         book, bad = many_texts(texts), by > 0
-        yield Edge("1,024 texts", marked("check", book=book), due(bad, 4))
-        for near in NEAR:
-            yield Edge("1,024 texts", marked("score", book=book, number=texts + near), 4 if bad else due(near >= 0, 9))
-            yield Edge("1,024 texts", marked("bounds", book=book, number=texts + near), 4 if bad else due(near >= 0, 9))
-            plan = marked("eliminate", book=book, optimize=False, budget=texts + near)
-            yield Edge("1,024 texts", plan, 4 if bad else due(near < 0, 12))
-            yield Edge("1,024 texts", marked("down", book=book, step=WHOLE, budget=texts + near), 4 if bad else due(near < 0, 12))
+        yield Edge("1,024 texts", marked("check", books=(book,)), due(bad, 4))
+        yield from numbered("1,024 texts", (book,), [texts + near for near in NEAR], texts, bad)
+
+
+def numbered(what, books, marks, texts, bad):
+    """So many stored texts, or books that are unsound: around these marks the stored number, and the budget where each text is scored once."""
+    for mark in marks:
+        for job in VIEWS:
+            yield Edge(what, marked(job, books=books, number=mark), 4 if bad else due(mark >= texts, 9))
+        yield Edge(what, marked("eliminate", books=books, optimize=False, budget=mark), 4 if bad else due(mark < texts, 12))
+        yield Edge(what, marked("down", books=books, step=WHOLE, budget=mark), 4 if bad else due(mark < texts, 12))
 
 
 # ---- texts, settings -----------------------------------------------------------------------------------------------------------------------
@@ -169,10 +176,16 @@ def bytes_of_texts():
 
 
 def views():
-    for job, (start, end) in itertools.product(("score", "bounds"), itertools.product((0, 1, 3, 4, 5, WHOLE), repeat=2)):
+    for job, (start, end) in itertools.product(VIEWS, itertools.product((0, 1, 3, 4, 5, WHOLE), repeat=2)):
         yield Edge("a view up to L", marked(job, start=start, end=end), due(not start <= end <= 4, 8))
-    for job, texts, by in itertools.product(("score", "bounds"), (1, 2, 5), NEAR):
-        yield Edge("the stored number N", marked(job, book=many_texts(texts), number=texts + by), due(by >= 0, 9))
+    for job, texts, by in itertools.product(VIEWS, (1, 2, 5), NEAR):
+        yield Edge("the stored number N", marked(job, books=(many_texts(texts),), number=texts + by), due(by >= 0, 9))
+
+
+def searches():
+    """Three lines, of which the second alone scores less than the first: narrowed, the search would miss the end."""
+    book = licence(b"A", b"a b c d e f g h")
+    yield Edge("a search of width 3", marked("bounds", text=b"a b\nq\nc d e f g h", books=(book,)), 0, {"first": 2, "after": 3})
 
 
 LIMITS = {0: 0, 0x80000000: 0, 1: 0, 0x80000001: 6, 0x3F7FFFFF: 0, 0x3F800000: 0, 0x3F800001: 6, 0x7F800000: 6, 0x7F800001: 6, 0x7FC00000: 6}
@@ -196,7 +209,115 @@ def budgets():
 
 
 def small():
-    for make in (areas, results, output, names, totals, book_forms, stored_texts, bytes_of_texts, views, settings, budgets):
+    for make in (areas, results, output, names, totals, book_forms, stored_texts, bytes_of_texts, views, searches, settings, budgets):
+        yield from make()
+
+
+# ---- two books -----------------------------------------------------------------------------------------------------------------------------
+
+
+NOTE, CUT = b"My First License", MARKED_BOOK[:-1]
+ANOTHER, MORE = licence(b"B", b"another text of some words"), licence(b"C", NOTE)
+TWO = ANOTHER, MARKED_BOOK
+CASES = [  # of request #101: two books, note, budget; refusal, count, the name's part
+    ((MARKED_BOOK, ANOTHER), NOTE, 9, 0, 2, (0, 6, 1)),
+    (TWO, NOTE, 9, 0, 2, (1, 6, 1)),
+    ((MARKED_BOOK, MARKED_BOOK), NOTE, 9, 0, 2, (0, 6, 1)),
+    ((ANOTHER + MORE, MARKED_BOOK), NOTE, 9, 0, 3, (0, 95, 1)),
+    ((ANOTHER, MARKED_BOOK + MORE), NOTE, 9, 0, 3, (1, 6, 1)),
+    ((b"", MARKED_BOOK), NOTE, 9, 0, 1, (1, 6, 1)),
+    ((MARKED_BOOK, b""), NOTE, 9, 0, 1, (0, 6, 1)),
+    ((b"", b""), NOTE, 9, 5, 0, (0, 0, 0)),
+    ((MARKED_BOOK, CUT), NOTE, 9, 4, 0, (0, 0, 0)),
+    ((b"", CUT), NOTE, 9, 4, 0, (0, 0, 0)),
+    (TWO, NOTE, 1, 12, 1, (0, 0, 0)),
+    (TWO, NOTE, 2, 0, 2, (1, 6, 1)),
+    (TWO, b"none of it", 9, 0, 2, (0, 0, 0)),
+]
+
+
+def cases():
+    flat = {"shallow": HALF, "optimize": False, "passes": 0}
+    for books, text, budget, refusal, count, part in CASES:
+        plan = marked("eliminate", books=books, text=text, threshold=HALF, budget=budget, **flat)
+        yield Edge("the cases of #101", plan, refusal, {"count": count, "part": part})
+    # no text is best where all is refused, though 0.0 is above this threshold
+    yield Edge("the cases of #101", marked("eliminate", books=TWO, text=NOTE, threshold=0xBF800000, **flat), 6, {"part": (0, 0, 0)})
+    yield Edge("the cases of #101", marked("down", books=TWO, text=NOTE, threshold=HALF), 0, {"records": 1, "part": (0, 0, 0)})
+    yield Edge("the cases of #101", marked("score", books=TWO, text=NOTE, number=1), 0, {"score": model.bits_of(1.0)})
+    yield Edge("the cases of #101", marked("score", books=TWO, text=NOTE, number=2), 9)
+
+
+PAIRS = {  # two books, and the refusal that they bring
+    (CUT, MARKED_BOOK): 4, (MARKED_BOOK, CUT): 4, (CUT, CUT): 4, (CUT, b""): 4, (b"", CUT): 4, (b"", b""): 5, (b"", MARKED_BOOK): 0,
+    (MARKED_BOOK, b""): 0,
+}  # fmt: skip
+
+
+def pairs():
+    for job, (books, refusal) in itertools.product(OF_TWO, PAIRS.items()):
+        yield Edge("4 of either, 5 of both", marked(job, books=books), refusal)
+    for job in OF_TWO:
+        yield Edge("one book lent twice", marked(job, books=(ANOTHER + MORE,) * 2, same=True, number=3 * (job in VIEWS)), 0)
+
+
+def parts():
+    """The winner's name: of each length, behind other licences, over variants and aliases, equal or lower in the second book."""
+    words = model.compiled(NOTE)
+    for size in (1, 63, 64, 65):
+        yield (ANOTHER, record(1, b"n" * size) + record(2, words)), due(size > 64, 4), (1, 6, size)
+    for kind in (3, 4):
+        variant = record(1, b"D") + record(2, EMPTY) + record(kind, words) + record(5, b"alias")
+        yield (MARKED_BOOK[:7] + record(2, EMPTY), ANOTHER + variant + licence(b"E", b"a b")), 0, (1, 95, 1)
+        yield (ANOTHER + variant + licence(b"E", b"a b"), MARKED_BOOK), 0, (0, 95, 1)
+    yield (licence(b"A", b"a b"), MARKED_BOOK), 0, (1, 6, 1)
+    yield (MORE, MARKED_BOOK), 0, (0, 6, 1)
+    yield (licence(b"Z", b"a b"), MARKED_BOOK + MORE), 0, (1, 6, 1)
+
+
+def name_parts():
+    for books, refusal, part in parts():
+        told = {} if refusal else {"part": part, "name_len": part[2]}
+        yield Edge("the name's part", marked("eliminate", books=books, text=NOTE, optimize=False), refusal, told)
+
+
+def paid():
+    """The counts are reckoned by hand: each of N texts, four for the bounds of one line, each text again; in top-down two views of N, then four."""
+    shapes = ((TWO, 2, (1, 6, 1)), (TWO[::-1], 2, (0, 6, 1)), ((b"", MARKED_BOOK), 1, (1, 6, 1)), ((ANOTHER + MORE, MARKED_BOOK), 3, (0, 95, 1)))
+    for books, texts, part in shapes:
+        for budget in range(2 * texts + 6):
+            plan = marked("eliminate", books=books, text=NOTE, shallow=model.bits_of(1.0), passes=1, budget=budget)
+            yield Edge("N as budget", plan, due(budget < 2 * texts + 4, 12), {"part": part if budget >= texts else (0, 0, 0)})
+    for budget in range(10):
+        yield Edge("N as budget", marked("down", books=TWO, text=NOTE, budget=budget), due(budget < 8, 12), {"part": (0, 0, 0)})
+
+
+def around(*numbers):
+    return sorted({number + by for number in numbers for by in NEAR if number + by >= 0})
+
+
+def counted_on():
+    for one, other in ((2, 3), (0, 2), (3, 0)):
+        books, texts = (many_texts(one), many_texts(other, 1)), one + other
+        yield from numbered("N1 and N", books, around(one, texts), texts, False)
+    most = model.STORED_MOST
+    for one, other, marks in ((most, most, around(most, 2 * most)), (most, most - 1, (2 * most - 2, 2 * most - 1)), (1, most, (most, most + 1))):
+        books = many_texts(one), many_texts(other, other - 1)
+        yield from numbered("1,024 texts each", books, marks, one + other, False)
+    for one, other in ((most, most + 1), (most + 1, most), (most - 1, most + 1), (0, most + 1)):
+        yield from numbered("1,024 texts each", (many_texts(one), many_texts(other)), (0,), one + other, True)
+
+
+def over_together():
+    """Two books that are together larger than one may be."""
+    half = large_book(model.BOOK_MOST // 2 + 1)
+    yield Edge("16,777,216 bytes each", marked("score", books=(half, half), number=1), 0)
+
+
+def both():
+    yield from areas(OF_TWO, (MARKED_TEXT,), books=TWO)
+    yield from results((0, 2), (MARKED_TEXT,), (1,), books=TWO)
+    for make in (cases, pairs, name_parts, paid, counted_on, over_together):
         yield from make()
 
 
@@ -229,7 +350,7 @@ def many_lines():
         for text in (b"\n" * (lines - 1), b"a\n" * (lines - 2) + b"my first license\n"):
             last = {"start": lines - 9, "end": lines}
             yield Edge("65,536 lines", marked("compile", text=text), due(bad, 3))
-            for job in ("score", "bounds"):
+            for job in VIEWS:
                 yield Edge("65,536 lines", marked(job, text=text, **last), due(bad, 3))
                 yield Edge("65,536 lines", marked(job, text=text, start=lines - 9, end=lines + 1), due(True, 3 if bad else 8))
             yield Edge("65,536 lines", marked("eliminate", text=text, passes=1), due(bad, 3))
@@ -253,6 +374,20 @@ def large_books():
         yield from each("a book of 16,777,216 bytes", large_book(model.BOOK_MOST + by), by > 0)
 
 
+def large_pairs():
+    for one, other in ((0, 0), (-1, 0), (0, 1), (1, 0)):
+        books = tuple(large_book(model.BOOK_MOST + by) for by in (one, other))
+        for job in ("score", "eliminate"):
+            plan = marked(job, books=books, number=1, optimize=False)
+            yield Edge("16,777,216 bytes each", plan, due(max(one, other) > 0, 4))
+
+
+def forms_of_either():
+    for book, good in forms():
+        for books in ((MARKED_BOOK, book), (book, MARKED_BOOK)):
+            yield Edge("the form of either book", marked("score", books=books), due(not good, 4))
+
+
 def large():
-    for make in (long_texts, many_lines, large_books):
+    for make in (long_texts, many_lines, large_books, large_pairs, forms_of_either):
         yield from make()

@@ -5,8 +5,9 @@
 
 Each question becomes a row of a trial crate in a temporary folder (compare.py's): what the definitions say to it, by the functions that the
 contracts of the jobs name, and what the model answers. antt computes the rows; one that differs is refused and printed. First a wrong row for each
-part of each job's answer is tried, which must be refused. A text over 1,048,576 bytes is too long to compute on, so refusal 1 is stated and
-proved over all of them. The original Rust is not asked. Exit status: 0 no row differs, 1 some do, 2 the comparison could not be made.
+part of each job's answer is tried, which must be refused. The jobs are lent a list of books: one, or in the kinds that begin with `two books` two
+(`--only two` takes all of these). A text over 1,048,576 bytes is too long to compute on, so refusal 1 is stated and proved over all of them. The
+original Rust is not asked. Exit status: 0 no row differs, 1 some do, 2 the comparison could not be made.
 """
 
 import argparse
@@ -28,13 +29,13 @@ HEAD = """\
 use Prim.Native.Nat.{ℕ, zero, suc, _+_, _*_, _%_, _<_}
 use Prim.Native.String.{String}
 use mathlib.Core.Path.{_≡_, refl}
-use mathlib.Core.Bool.{true, false}
+use mathlib.Core.Bool.{Bool, true, false, cond}
 use mathlib.Core.List.{List, [], _∷_, _++_, map}
 use lib.ListN.{length, replicate}
 use lib.Ieee.{Float, toBits, ofBits, binary32}
 use Rattle.rules.specs.Bytes.{text}
 use Rattle.rules.specs.Search.{view}
-use Rattle.rules.specs.Jobs.{lent, areaAfter, check, compile, outputAfter, scoreJob, boundsJob, happened, scan, resultsAfter}
+use Rattle.rules.specs.Jobs.{lent, areaAfter, check, compile, outputAfter, scoreJob, boundsJob, happened, answered, scan, resultsAfter}
 use Rattle.rules.specs.declared.Limits.{Limits}
 use Rattle.rules.specs.declared.Mode.{Mode}
 use Rattle.rules.specs.declared.Mode.the-variants.{Elimination, TopDown}
@@ -50,26 +51,26 @@ pub long-compile : (t : List ℕ) (a : Areas) (o : ℕ) → textMost < length t 
 unfolding compile refusal ofCompile beforeCompile ofText
 long-compile t a o h = simp (lt-ltb textMost (length t) h)
 
-pub long-score : (t book : List ℕ) (v : View) (k : ℕ) (a : Areas) → textMost < length t →
-    scoreJob t book v k a ≡ record { refusal = 1; score = nought }
+pub long-score : (t : List ℕ) (bs : List (List ℕ)) (v : View) (k : ℕ) (a : Areas) → textMost < length t →
+    scoreJob t bs v k a ≡ record { refusal = 1; score = nought }
 unfolding scoreJob refusal ofView ofText
-long-score t book v k a h = simp (lt-ltb textMost (length t) h)
+long-score t bs v k a h = simp (lt-ltb textMost (length t) h)
 
-pub long-bounds : (t book : List ℕ) (v : View) (k : ℕ) (a : Areas) → textMost < length t →
-    boundsJob t book v k a ≡ record { refusal = 1; first = 0; after = 0; score = nought; count = 0 }
+pub long-bounds : (t : List ℕ) (bs : List (List ℕ)) (v : View) (k : ℕ) (a : Areas) → textMost < length t →
+    boundsJob t bs v k a ≡ record { refusal = 1; first = 0; after = 0; score = nought; count = 0 }
 unfolding boundsJob refusal ofView ofText
-long-bounds t book v k a h = simp (lt-ltb textMost (length t) h)
+long-bounds t bs v k a h = simp (lt-ltb textMost (length t) h)
 
-pub long-scan : (t book : List ℕ) (lim : Limits) (mode : Mode) (b : ℕ) (a : Areas) (r : ℕ) → textMost < length t →
-    scan t book lim mode b a r .refusal ≡ 1
-unfolding scan refusal ofScan beforeScan ofText
-long-scan t book lim mode b a r h = simp (lt-ltb textMost (length t) h)
+pub long-scan : (t : List ℕ) (bs : List (List ℕ)) (lim : Limits) (mode : Mode) (b : ℕ) (a : Areas) (r : ℕ) → textMost < length t →
+    scan t bs lim mode b a r .refusal ≡ 1
+unfolding scan answered refusal ofScan beforeScan ofText
+long-scan t bs lim mode b a r h = simp (lt-ltb textMost (length t) h)
 
 -- and nothing has happened in it
-pub long-nothing : (t book : List ℕ) (lim : Limits) (mode : Mode) (b : ℕ) (a : Areas) (r : ℕ) → textMost < length t →
-    happened t book lim mode b a r ≡ []
+pub long-nothing : (t : List ℕ) (bs : List (List ℕ)) (lim : Limits) (mode : Mode) (b : ℕ) (a : Areas) (r : ℕ) → textMost < length t →
+    happened t bs lim mode b a r ≡ []
 unfolding happened refusal ofScan beforeScan ofText
-long-nothing t book lim mode b a r h = simp (lt-ltb textMost (length t) h)
+long-nothing t bs lim mode b a r h = simp (lt-ltb textMost (length t) h)
 
 pub record Row : Type 0 where
   pub got : List ℕ
@@ -82,6 +83,9 @@ garbage m x (suc n) = x ∷ garbage m ((x * 5 + 3) % m) n
 
 pub bits : Float → ℕ
 bits x = toBits binary32 x
+
+pub bit : Bool → ℕ
+bit b = cond b 1 0
 
 pub limits : ℕ → ℕ → Limits
 limits threshold shallow = record { threshold = ofBits binary32 threshold; shallow = ofBits binary32 shallow }
@@ -100,32 +104,32 @@ compileRow t b a out w =
     }
 
 -- refusal, score bits; both areas at exit
-pub scoreRow : List ℕ → List ℕ → ℕ → ℕ → ℕ → List ℕ → List ℕ → List ℕ → Row
-scoreRow t book s e k b a w =
-    let r = scoreJob t book (view s e) k (lent b a) in
+pub scoreRow : List ℕ → List (List ℕ) → ℕ → ℕ → ℕ → List ℕ → List ℕ → List ℕ → Row
+scoreRow t bs s e k b a w =
+    let r = scoreJob t bs (view s e) k (lent b a) in
     record { got = r .refusal ∷ bits (r .score) ∷ areaAfter (r .refusal) b ++ areaAfter (r .refusal) a; want = w }
 
 -- refusal, first line, line after last, score bits, count; both areas at exit
-pub boundsRow : List ℕ → List ℕ → ℕ → ℕ → ℕ → List ℕ → List ℕ → List ℕ → Row
-boundsRow t book s e k b a w =
-    let r = boundsJob t book (view s e) k (lent b a) in
+pub boundsRow : List ℕ → List (List ℕ) → ℕ → ℕ → ℕ → List ℕ → List ℕ → List ℕ → Row
+boundsRow t bs s e k b a w =
+    let r = boundsJob t bs (view s e) k (lent b a) in
     record {
       got = r .refusal ∷ r .first ∷ r .after ∷ bits (r .score) ∷ r .count ∷ areaAfter (r .refusal) b ++ areaAfter (r .refusal) a;
       want = w;
     }
 
--- refusal, count, score bits, kind, records, the name's length, the name's 64 bytes; the results and both areas at exit
-pub scanRow : List ℕ → List ℕ → Limits → Mode → ℕ → List ℕ → List ℕ → List ℕ → List ℕ → Row
-scanRow t book lim mode budget b a results w =
-    let r = scan t book lim mode budget (lent b a) (length results) in
+-- refusal, count, score bits, kind, records, the name's length, its part, the name's 64 bytes; the results and both areas at exit
+pub scanRow : List ℕ → List (List ℕ) → Limits → Mode → ℕ → List ℕ → List ℕ → List ℕ → List ℕ → Row
+scanRow t bs lim mode budget b a results w =
+    let r = scan t bs lim mode budget (lent b a) (length results) in
     record {
       got =
-          r .refusal ∷ r .count ∷ bits (r .score) ∷ r .kind ∷ r .records ∷ r .len ∷ r .name ++
-          resultsAfter t book lim mode budget (lent b a) results ++ areaAfter (r .refusal) b ++ areaAfter (r .refusal) a;
+          r .refusal ∷ r .count ∷ bits (r .score) ∷ r .kind ∷ r .records ∷ r .len ∷ bit (r .part .second) ∷ r .part .at ∷ r .part .len ∷ r .name ++
+          resultsAfter t bs lim mode budget (lent b a) results ++ areaAfter (r .refusal) b ++ areaAfter (r .refusal) a;
       want = w;
     }
 """
-UNFOLDING = "garbage bits limits checkRow compileRow scoreRow boundsRow scanRow opened"
+UNFOLDING = "garbage bits bit limits checkRow compileRow scoreRow boundsRow scanRow opened"
 
 # ---- questions and answers as antt writes them ---------------------------------------------------------------------------------------------
 
@@ -155,8 +159,8 @@ def area_term(area, width, written=0):
     elif all(y == (x * 5 + 3) % MODULUS[width] for x, y in zip(rest, rest[1:])):
         tail = f"garbage {MODULUS[width]} {rest[0]} {len(rest)}"
     else:
-        tail = compare.numbers(rest)
-    return f"({compare.numbers(front)} ++ {tail})" if front else f"({tail})"
+        tail = compare.listed(rest)
+    return f"({compare.listed(front)} ++ {tail})" if front else f"({tail})"
 
 
 def text_term(text):
@@ -171,29 +175,29 @@ def text_term(text):
 def called(q):
     """The call of the row, without what is wanted."""
     if q.job == "check":
-        return f"checkRow {text_term(q.book)}"
+        return f"checkRow {text_term(q.books[0])}"
     text, areas = text_term(q.text), f"{area_term(q.area, 1)} {area_term(q.words, 4)}"
     if q.job == "compile":
         return f"compileRow {text} {areas} {area_term(q.out, 1)}"
-    book = text_term(q.book)
+    books = compare.listed(map(text_term, q.books))
     if q.job in ("score", "bounds"):
-        return f"{q.job}Row {text} {book} {q.start} {q.end} {q.number} {areas}"
+        return f"{q.job}Row {text} {books} {q.start} {q.end} {q.number} {areas}"
     mode = f"(Elimination {str(q.optimize).lower()} {q.passes})" if q.job == "eliminate" else f"(TopDown {q.step})"
-    return f"scanRow {text} {book} (limits {q.threshold} {q.shallow}) {mode} {q.budget} {areas} {area_term(q.results, 4)}"
+    return f"scanRow {text} {books} (limits {q.threshold} {q.shallow}) {mode} {q.budget} {areas} {area_term(q.results, 4)}"
 
 
 def wanted(q, a):
     """The model's answer as the row has it."""
     both = f"{area_term(a.area, 1)} ++ {area_term(a.words, 4)}"
     if q.job == "check":
-        return compare.numbers([a.refusal, a.texts])
+        return compare.listed([a.refusal, a.texts])
     if q.job == "compile":
-        return f"({compare.numbers([a.refusal, a.len])} ++ {area_term(a.out, 1, a.len)} ++ {both})"
+        return f"({compare.listed([a.refusal, a.len])} ++ {area_term(a.out, 1, a.len)} ++ {both})"
     if q.job == "score":
-        return f"({compare.numbers([a.refusal, a.score])} ++ {both})"
+        return f"({compare.listed([a.refusal, a.score])} ++ {both})"
     if q.job == "bounds":
-        return f"({compare.numbers([a.refusal, a.first, a.after, a.score, a.count])} ++ {both})"
-    head = compare.numbers([a.refusal, a.count, a.score, a.kind, a.records, a.name_len, *a.name])
+        return f"({compare.listed([a.refusal, a.first, a.after, a.score, a.count])} ++ {both})"
+    head = compare.listed([a.refusal, a.count, a.score, a.kind, a.records, a.name_len, *a.part, *a.name])
     return f"({head} ++ {area_term(a.results, 4, 4 * a.records)} ++ {both})"
 
 
@@ -209,33 +213,36 @@ def numbers_of(a):
 
 # ---- wrong rows, each of which must be refused -----------------------------------------------------------------------------------------------
 
+SCANNED = ("refusal", "count", "score", "kind", "records", "name_len", "second", "at", "len", "name", "results", "area", "words")
 PARTS = {
     "check": ("refusal", "texts"),
     "compile": ("refusal", "len", "out", "area", "words"),
     "score": ("refusal", "score", "area", "words"),
     "bounds": ("refusal", "first", "after", "score", "count", "area", "words"),
-    "eliminate": ("refusal", "count", "score", "kind", "records", "name_len", "name", "results", "area", "words"),
-    "down": ("refusal", "count", "score", "kind", "records", "name_len", "name", "results", "area", "words"),
+    "eliminate": SCANNED,
+    "down": SCANNED,
 }
 
 
-def spoiled(a, part):
-    """The answer with one part wrong: a number one higher, or the last element of an area."""
+def spoiled(a, job, part):
+    """The answer with one part wrong: a number one higher, or the last element of an area. A scan's second, at and len are the name's part."""
+    if job in asking.SCANS and part in model.Part._fields:
+        return dataclasses.replace(a, part=a.part._replace(**{part: getattr(a.part, part) + 1}))
     value = getattr(a, part)
     wrong = value + 1 if isinstance(value, int) else value[:-1] + bytes([value[-1] ^ 1])
     return dataclasses.replace(a, **{part: wrong})
 
 
 def controls(trial, seed):
-    """How many wrong rows were tried. Each must be refused."""
+    """How many wrong rows were tried, with one book and with two. Each must be refused."""
     statements = {}
-    for job, parts in PARTS.items():
-        rng = asking.stream(seed, f"controls {job}")
-        plan = edges.marked(job, {"area": 2, "words": 2, "out": 2, "results": 2}, text=b"my first license", passes=1)
-        q = asking.filled(rng, plan, garbage)
+    for job, books in [(job, (edges.MARKED_BOOK,)) for job in PARTS] + [(job, edges.TWO) for job in asking.OF_TWO]:
+        rng, slack = asking.stream(seed, f"controls {job}"), {"area": 2, "words": 2, "out": 2, "results": 2}
+        q = asking.filled(rng, edges.marked(job, slack, text=b"my first license", books=books, passes=1), garbage)
         a = model.answered(q)
-        for part in parts:
-            statements[f"{job}-{part}".replace("_", "-")] = row(q, spoiled(a, part))
+        for part in PARTS[job]:
+            name = f"{job}-{part}".replace("_", "-") + "-of-two" * (len(books) == 2)
+            statements[name] = row(q, spoiled(a, job, part))
     refused = trial.failures({name: compare.batch_statement(name, [wrong]) for name, wrong in statements.items()})
     if set(refused) != set(statements):
         raise Trouble(f"wrong rows were not refused: {', '.join(set(statements) - set(refused))}")
@@ -245,43 +252,56 @@ def controls(trial, seed):
 # ---- rows ----------------------------------------------------------------------------------------------------------------------------------
 
 
-def answers(rng, rows):
-    for job in asking.JOBS:
-        for _ in range(rows):
-            yield asking.sound_plan(rng, job, LINES)
+def times(rows, scale):
+    return max(1, round(rows * scale))
 
 
-def refusals(rng, rows):
-    """All but 1, whose text is too long to compute on: the laws in the head stand for it. 3 takes long, so there are few."""
-    for job in asking.JOBS:
+def answers(rng, scale, two):
+    for job in asking.jobs(two):
+        for _ in range(times(12 if two else 25, scale)):
+            yield asking.sound_plan(rng, job, LINES[two], two)
+
+
+def refusals(rng, scale, two):
+    """All but 1, whose text is too long to compute on: the laws in the head stand for it. 3 takes long, so there are few, and none of two books."""
+    for job in asking.jobs(two):
         for refusal in model.REFUSALS[job]:
-            for _ in range(0 if refusal == 1 else 1 if refusal == 3 else rows):
-                yield asking.faulty(rng, job, refusal, lines=LINES, largest=False)
+            few = {1: 0, 3: 0 if two else 1}
+            for _ in range(few.get(refusal, times(6 if two else 12, scale))):
+                yield asking.faulty(rng, job, refusal, lines=LINES[two], largest=False, two=two)
 
 
-def budgets(rng, scans):
+def budgets(rng, scale, two):
     for job in asking.SCANS:
-        for _ in range(scans):
-            yield from asking.budgeted(rng, job, LINES)
+        for _ in range(times(4 if two else 8, scale)):
+            yield from asking.budgeted(rng, job, LINES[two], two)
 
 
-def books(rng, rows):
-    for _ in range(rows):
-        plan = asking.sound_plan(rng, "check")
-        plan.book = asking.any_book(rng, plan.records)
+def books(rng, scale, two):
+    for _ in range(times(100 if two else 300, scale)):
+        plan = asking.sound_plan(rng, "score" if two else "check", LINES[two], two)
+        asking.other_books(rng, plan, asking.any_book)
         yield plan
 
 
-def limits(rng, rows):
-    """The edges that antt can compute on: no results of 65,535 passes, and no book of a thousand texts (damaged/proofs/LimitCases.antt has that)."""
-    for edge in itertools.islice(edges.small(), rows):
-        if edge.plan.passes < 1000 and len(edge.plan.book) < 5000:
+def limits(rng, scale, two):
+    """The edges that antt can compute on: no results of 65,535 passes, and no book of a thousand texts (damaged/proofs/LimitCases.antt has that).
+    At a scale below 1 only some of them."""
+    for edge in itertools.islice(edges.both() if two else edges.small(), 0, None, max(1, round(1 / scale))):
+        if edge.plan.passes < 1000 and all(len(book) < 5000 for book in edge.plan.books):
             yield edge.plan
 
 
-KINDS = {"answers": (answers, 25), "refusals": (refusals, 12), "budgets": (budgets, 8), "books, sound or not": (books, 300), "edges": (limits, None)}
-LINES = 5  # of a text, at most
+MAKERS = {"answers": answers, "refusals": refusals, "budgets": budgets, "books, sound or not": books, "edges": limits}
+KINDS = {kind: (make, False) for kind, make in MAKERS.items()} | {f"two books: {kind}": (make, True) for kind, make in MAKERS.items()}
+LINES = {False: 5, True: 3}  # of a text, at most; with two books each view costs more
+MOST_SCORINGS = 120
 ROWS_A_RUN = 150
+
+
+def short(q):
+    """Is it a scan of not too many scorings for antt, or none?"""
+    return model.answered(dataclasses.replace(q, budget=asking.WHOLE)).count <= MOST_SCORINGS
 
 
 def held(trial, questions, met):
@@ -289,7 +309,7 @@ def held(trial, questions, met):
     rows = []
     for q in questions:
         a = model.answered(q)
-        met[q.job, a.refusal] += 1
+        met[q.job, len(q.books), a.refusal] += 1
         rows.append(row(q, a))
     found = compare.all_differing(trial, rows, 1, ROWS_A_RUN)
     lost = [pair for pair in found if re.search("step limit|deep recursion", pair[1])]
@@ -301,24 +321,25 @@ def held(trial, questions, met):
 def main():
     options = argparse.ArgumentParser(description="Holds the model against the definitions.")
     options.add_argument("--seed", default="1", help="another seed gives other questions (default 1)")
-    options.add_argument("--scale", type=float, default=1.0, help="so many times the random rows (default 1)")
-    options.add_argument("--only", default=",".join(KINDS), help="kinds of rows, with commas between: " + ", ".join(KINDS))
+    options.add_argument("--scale", type=float, default=1.0, help="so many times the random rows, below 1 also of the edges (default 1)")
+    options.add_argument("--only", default=",".join(KINDS), help="kinds of rows, or how they begin, with commas between: " + "; ".join(KINDS))
     options.add_argument("--keep", action="store_true", help="keep the temporary folder")
     options = options.parse_args()
     began, trial, met, table = time.monotonic(), Trial(options.keep, HEAD, UNFOLDING), collections.Counter(), []
     try:
         print(f"{controls(trial, options.seed)} wrong rows were tried first, and each was refused", flush=True)
         for kind in [k for k in KINDS if any(k.startswith(only) for only in options.only.split(","))]:
-            make, rows = KINDS[kind]
+            make, two = KINDS[kind]
             rng = asking.stream(options.seed, f"hold {kind}")
-            plans = make(rng, rows and max(1, round(rows * options.scale)))
-            table.append(held(trial, (asking.filled(rng, plan, garbage) for plan in plans), met))
+            questions = (asking.filled(rng, plan, garbage) for plan in make(rng, options.scale, two))
+            table.append(held(trial, filter(short, questions), met))
             rows, differ, lost = table[-1]
-            print(f"{kind:20} {rows:6} rows {differ:4} differ {lost:4} not computed   {time.monotonic() - began:5.0f} s", flush=True)
+            print(f"{kind:31} {rows:6} rows {differ:4} differ {lost:4} not computed   {time.monotonic() - began:5.0f} s", flush=True)
     finally:
         trial.close()
-    for job, numbers in model.REFUSALS.items():
-        print(f"{job:20} by refusal " + ", ".join(f"{n}: {met[job, n]}" for n in [0, *numbers]))
+    for books in (1, 2):
+        for job in asking.jobs(books == 2):
+            print(f"{f'{job}, books: {books}':31} by refusal " + ", ".join(f"{n}: {met[job, books, n]}" for n in [0, *model.REFUSALS[job]]))
     rows, differ, lost = map(sum, zip(*table))
     print(f"seed {options.seed}: {rows} rows, {differ} differ, {lost} not computed")
     return 1 if differ else 2 if lost else 0

@@ -1,4 +1,5 @@
-"""A second reading of document 01, in plain Python: what each of the five jobs answers, and what each lent area holds at exit.
+"""A second reading of document 01 and of the requests that have landed (#101), in plain Python: what each of the five jobs answers, and what each
+lent area holds at exit.
 
 Written from the document, with the definitions known, but by other means: regular expressions for the passes, dictionaries for the tables, exact
 fractions for the scores, generators for the scans. Slow, and no part of the library. hold.py holds it against the definitions, rows.py holds
@@ -142,7 +143,9 @@ class Note:
 
 # ---- the book ----------------------------------------------------------------------------------------------------------------------------
 
-Stored = collections.namedtuple("Stored", "number name kind table")
+Part = collections.namedtuple("Part", "second at len")  # where a name stands: in the second book or not, from which byte on, how many bytes
+NO_PART = Part(0, 0, 0)
+Stored = collections.namedtuple("Stored", "number name kind table part")
 
 
 class Unsound(Exception):
@@ -161,12 +164,13 @@ def taken(book, place, size):
 
 
 def records_in(book):
+    """The kind of each record, where its body starts, and the body."""
     place, out = 0, []
     while place < len(book):
-        head, place = taken(book, place, 6)
+        head, start = taken(book, place, 6)
         length, kind = struct.unpack("<IH", head)
-        body, place = taken(book, place, length)
-        out.append((kind, body))
+        body, place = taken(book, start, length)
+        out.append((kind, start, body))
     return out
 
 
@@ -186,19 +190,20 @@ def table_in(body):
 
 
 def shelf_of(book):
-    """The stored texts of a sound book."""
+    """The stored texts of a sound book, numbered in it."""
     need(len(book) <= BOOK_MOST)
     records = records_in(book)
-    need(all(1 <= kind <= 5 for kind, _ in records))
-    need(re.fullmatch("(123*4*5*)*", "".join(str(kind) for kind, _ in records)))
+    need(all(1 <= kind <= 5 for kind, _, _ in records))
+    need(re.fullmatch("(123*4*5*)*", "".join(str(kind) for kind, _, _ in records)))
     names, shelf = [], []
-    for kind, body in records:
+    for kind, start, body in records:
         if kind in (1, 5):
             need(re.fullmatch(rb"[!-~]{1,64}", body))
         if kind == 1:
             names.append(body)
+            part = Part(0, start, len(body))
         if kind in (2, 3, 4):
-            shelf.append(Stored(len(shelf), names[-1], kind, table_in(body)))
+            shelf.append(Stored(len(shelf), names[-1], kind, table_in(body), part))
     need(all(a < b for a, b in zip(names, names[1:])))
     need(len(shelf) <= STORED_MOST)
     return shelf
@@ -210,6 +215,15 @@ def shelf_or_none(book):
         return shelf_of(book)
     except Unsound:
         return None
+
+
+def shelved(books):
+    """The stored texts of the lent books, one or two, each of them sound: numbers count on from the first into the second."""
+    shelf = []
+    for second, book in enumerate(books):
+        for text in shelf_or_none(book) or []:
+            shelf.append(text._replace(number=len(shelf), part=text.part._replace(second=second)))
+    return shelf
 
 
 # ---- search and scans: generators of events, a scoring before it is made; what they find is what they return ---------------------------------
@@ -302,12 +316,13 @@ def top_down(note, shelf, q):
 
 @dataclasses.dataclass(frozen=True)
 class Question:
-    """A call of a job: `check`, `compile`, `score`, `bounds`, `eliminate` or `down`. What a job does not take it does not look at. Areas are
-    given by what they hold before; words and results as the bytes of their numbers, four each."""
+    """A call of a job: `check`, `compile`, `score`, `bounds`, `eliminate` or `down`. What a job does not take it does not look at. The last four
+    take one book or two, `check` takes one. Areas are given by what they hold before; words and results as the bytes of their numbers, four each."""
 
     job: str
     text: bytes = b""
-    book: bytes = b""
+    books: tuple = (b"",)
+    same: bool = False  # two books are one piece of memory, lent twice
     area: bytes = b""
     words: bytes = b""
     out: bytes = b""
@@ -338,6 +353,7 @@ class Answer:
     kind: int = 0
     name_len: int = 0
     name: bytes = bytes(NAME_MOST)
+    part: Part = NO_PART  # of the book that holds the name
     area: bytes = b""
     words: bytes = b""
     out: bytes = b""
@@ -367,12 +383,12 @@ APPLIES = {
     1: lambda q: len(q.text) > TEXT_MOST,
     2: lambda q: not q.text.isascii(),
     3: lambda q: line_count(q) > LINES_MOST,
-    4: lambda q: shelf_or_none(q.book) is None,
-    5: lambda q: not shelf_or_none(q.book),
+    4: lambda q: any(shelf_or_none(book) is None for book in q.books),
+    5: lambda q: not shelved(q.books),
     6: lambda q: not in_unit(q.threshold) or not in_unit(q.shallow),
     7: lambda q: q.step == 0,
     8: lambda q: not 0 <= q.start <= q.end <= line_count(q),
-    9: lambda q: q.number >= len(shelf_or_none(q.book)),
+    9: lambda q: q.number >= len(shelved(q.books)),
     10: small,
 }
 REFUSALS = {
@@ -398,12 +414,12 @@ def compile_job(q, a):
 
 
 def score_job(q, a):
-    note, text = Note(lines_of(q.text)), shelf_or_none(q.book)[q.number]
+    note, text = Note(lines_of(q.text)), shelved(q.books)[q.number]
     a.score = bits_of(score(note.table(q.start, q.end), text.table))
 
 
 def bounds_job(q, a):
-    events = bounds(Note(lines_of(q.text)), q.start, q.end, shelf_or_none(q.book)[q.number])
+    events = bounds(Note(lines_of(q.text)), q.start, q.end, shelved(q.books)[q.number])
     while True:
         try:
             next(events)
@@ -417,7 +433,7 @@ def bounds_job(q, a):
 def scan_job(q, a):
     scan = elimination if q.job == "eliminate" else top_down
     numbers = b""
-    for event in scan(Note(lines_of(q.text)), shelf_or_none(q.book), q):
+    for event in scan(Note(lines_of(q.text)), shelved(q.books), q):
         if event is SCORING:
             if a.count == q.budget:
                 a.refusal = 12
@@ -426,7 +442,8 @@ def scan_job(q, a):
         elif isinstance(event, Overall):
             a.score = bits_of(event.score)
             if event.score > of_bits(q.threshold):
-                a.kind, a.name_len, a.name = event.text.kind, len(event.text.name), event.text.name.ljust(NAME_MOST, b"\0")
+                a.kind, a.name_len, a.part = event.text.kind, len(event.text.name), event.text.part
+                a.name = event.text.name.ljust(NAME_MOST, b"\0")
         else:
             a.records += 1
             numbers += struct.pack("<IIII", event.number, event.first, event.after, bits_of(event.score))
@@ -443,7 +460,7 @@ def answered(q):
     if a.refusal:
         return a
     if q.job == "check":
-        a.texts = len(shelf_or_none(q.book))
+        a.texts = len(shelved(q.books))
         return a
     WORK[q.job](q, a)
     a.area, a.words = bytes(len(q.area)), bytes(len(q.words))

@@ -4,9 +4,10 @@
     oracle/rows.py [--seed N] [--scale X] [--quick]
 
 Asks target/rows (built and run by host/rows.sh) and the model the same questions, and compares everything that the call answers and leaves. Every
-area is filled with garbage first and is often longer than needed; text, book and the bytes behind each buffer must be as they were. Each refusal
-of each job must be met at least 20 times, and each limit must bring the refusal that edges.py says. Prints one line for each kind of row; the
-last line is 'N passed, M failed'. Exit status: 0 none failed, 1 some did, 2 the comparison could not be made.
+area is filled with garbage first and is often longer than needed; text, books and the bytes behind each buffer must be as they were, and the name's
+part must hold the name. Each refusal of each job, of one book and of two, must be met at least 20 times, and each limit must bring the refusal that
+edges.py says. Prints one line for each kind of row; the last line is 'N passed, M failed'. Exit status: 0 none failed, 1 some did, 2 the comparison
+could not be made.
 """
 
 import argparse
@@ -25,9 +26,10 @@ import edges
 import model
 from compare import Trouble
 
-BUFFERS = ("text", "book", "area", "words", "out", "results")
+AREAS = ("area", "words", "out", "results")
 NUMBERS = ("refusal", "texts", "len", "first", "after", "score", "count", "records", "kind", "name_len")
-REPLY = struct.Struct(f"<{len(NUMBERS)}Q{model.NAME_MOST}sQ")
+REPLY = struct.Struct(f"<{len(NUMBERS)}Q{model.NAME_MOST}s4Q")
+ONE, TWO, SAME = range(3)  # books that are lent
 LEAST = 20  # times that each refusal of each job is met
 SHOWN = 10
 
@@ -46,26 +48,31 @@ class Archive:
         return out
 
     def ask(self, q):
-        """The answer, and what else has changed that must not."""
-        held = [getattr(q, buffer) for buffer in BUFFERS]
-        lengths = [len(b) // (4 if name in ("words", "results") else 1) for name, b in zip(BUFFERS, held)]
+        """The answer, and what is not as it must be besides."""
+        held = {"text": q.text, "book": q.books[0], "second": b"".join(q.books[1:]), **{area: getattr(q, area) for area in AREAS}}
+        lengths = [len(b) // (4 if name in ("words", "results") else 1) for name, b in held.items()]
         settings = (q.start, q.end, q.number, q.threshold, q.shallow, q.optimize, q.passes, q.step, q.budget)
-        call = struct.pack("<16Q", asking.JOBS.index(q.job), *settings, *lengths) + b"".join(held)
+        books = SAME if q.same else TWO if len(q.books) == 2 else ONE
+        call = struct.pack("<18Q", asking.JOBS.index(q.job), *settings, books, *lengths) + b"".join(held.values())
         try:
             self.process.stdin.write(call)
             self.process.stdin.flush()
         except BrokenPipeError:
             raise Trouble("target/rows is not built, or broke off") from None
-        *numbers, name, crossed = REPLY.unpack(self.read(REPLY.size))
-        after = {buffer: self.read(len(b)) for buffer, b in zip(BUFFERS, held)}
-        spoiled = [what for what in ("text", "book") if after.pop(what) != getattr(q, what)] + ["behind a buffer"] * bool(crossed)
-        return model.Answer(**dict(zip(NUMBERS, numbers)), name=name, **after), spoiled
+        *numbers, name, second, name_at, misplaced, crossed = REPLY.unpack(self.read(REPLY.size))
+        after = {buffer: self.read(len(b)) for buffer, b in held.items()}
+        faults = [f"changed: {what}" for what in ("text", "book", "second") if after.pop(what) != held[what]]
+        faults += ["changed: behind a buffer"] * bool(crossed) + ["chultarvi_name is not the name in the lent book that holds it"] * bool(misplaced)
+        told = dict(zip(NUMBERS, numbers))
+        return model.Answer(**told, name=name, part=model.Part(second, name_at, told["name_len"]), **after), faults
 
 
 # ---- what is told --------------------------------------------------------------------------------------------------------------------------
 
 
 def shortened(value):
+    if isinstance(value, tuple) and not isinstance(value, model.Part):
+        return " and ".join(map(shortened, value))
     if isinstance(value, bytes) and len(value) > 300:
         return f"{value[:150]!r}..{value[-50:]!r} ({len(value)} bytes)"
     return repr(value)
@@ -73,12 +80,13 @@ def shortened(value):
 
 def told(q):
     parts = ((f.name, getattr(q, f.name)) for f in dataclasses.fields(q))
-    return ", ".join(f"{name} of {len(value)} bytes" if name in BUFFERS[2:] else f"{name} {shortened(value)}" for name, value in parts)
+    return ", ".join(f"{name} of {len(value)} bytes" if name in AREAS else f"{name} {shortened(value)}" for name, value in parts)
 
 
 def several(q):
     """Do two or more rows of the table of refusals apply?"""
-    numbers = [n for n in model.REFUSALS[q.job] if n <= 10 and (n not in (5, 9) or model.shelf_or_none(q.book) is not None)]
+    unsound = 4 in model.REFUSALS[q.job] and model.APPLIES[4](q)  # then it is not known how many texts there are
+    numbers = [n for n in model.REFUSALS[q.job] if n <= 10 and not (n in (5, 9) and unsound)]
     return sum(bool(model.APPLIES[n](q)) for n in numbers) > 1
 
 
@@ -98,92 +106,102 @@ class Tally:
 
     def hold(self, kind, q, due):
         want = model.answered(q)
-        got, spoiled = self.archive.ask(q)
+        got, faults = self.archive.ask(q)
         self.rows[kind] += 1
         self.several += several(q)
-        self.met[q.job, want.refusal] += 1
+        self.met[q.job, len(q.books), want.refusal] += 1
         self.met_by_kind.setdefault(kind, collections.Counter())[want.refusal] += 1
-        faults = list(apart(want, got)) + [f"changed: {what}" for what in spoiled]
-        if due is not None and want.refusal != due:
-            faults.append(f"the edge should bring {due}, and the model says {want.refusal}")
+        faults += apart(want, got)
+        faults += [f"{field} should be {x}, and the model says {said}" for field, x in due.items() if (said := getattr(want, field)) != x]
         if faults:
             self.failed[kind] += 1
             if sum(self.failed.values()) <= SHOWN:
                 print(f"\nDIFFERS: {kind}: {told(q)}\n  " + "\n  ".join(faults))
 
     def require(self):
-        """Each refusal of each job, and an answer of each, is met so often."""
-        for job, refusals in model.REFUSALS.items():
-            for refusal in [0, *refusals]:
-                if self.met[job, refusal] < LEAST:
+        """Each refusal of each job, and an answer of each, is met so often, with one book and with two."""
+        for job, books in FORMS:
+            for refusal in [0, *model.REFUSALS[job]]:
+                met = self.met[job, books, refusal]
+                if met < LEAST:
                     self.failed["refusals"] += 1
-                    print(f"refusal {refusal} of {job} is met {self.met[job, refusal]} times, not {LEAST}")
+                    print(f"refusal {refusal} of {job} with {BOOKS[books]} is met {met} times, not {LEAST}")
 
     def table(self):
         for kind, rows in self.rows.items():
             met = ", ".join(f"{n}: {count}" for n, count in sorted(self.met_by_kind[kind].items()))
-            print(f"{kind:28} {rows:6} rows {self.failed[kind]:4} differ   by refusal {met}")
-        for job, refusals in model.REFUSALS.items():
-            print(f"{job:28} " + ", ".join(f"{n}: {self.met[job, n]}" for n in [0, *refusals]))
+            print(f"{kind:34} {rows:6} rows {self.failed[kind]:4} differ   by refusal {met}")
+        for job, books in FORMS:
+            met = ", ".join(f"{n}: {self.met[job, books, n]}" for n in [0, *model.REFUSALS[job]])
+            print(f"{f'{job}, {BOOKS[books]}':34} {met}")
 
 
-# ---- rows: a kind, a question, and the refusal that is due where it is an edge -------------------------------------------------------------
+# ---- rows: a kind, a question, and the fields of the answer that are due where they are known ----------------------------------------------
+
+BOOKS = {1: "one book", 2: "two books"}
+FORMS = [(job, 1 + two) for two in (False, True) for job in asking.jobs(two)]
 
 
-def answers(seed, rows):
-    for job in asking.JOBS:
-        rng = asking.stream(seed, f"answers {job}")
+def answers(rng, rows, job, two):
+    for _ in range(rows):
+        yield asking.sound_plan(rng, job, two=two), {}
+
+
+def refusals(rng, rows, job, two):
+    for refusal in model.REFUSALS[job]:
         for _ in range(rows):
-            yield "answers", asking.filled(rng, asking.sound_plan(rng, job)), None
+            yield asking.faulty(rng, job, refusal, two=two), {}
 
 
-def refusals(seed, rows):
-    for job in asking.JOBS:
-        for refusal in model.REFUSALS[job]:
-            rng = asking.stream(seed, f"refusals {job} {refusal}")
-            for _ in range(rows):
-                yield "refusals", asking.filled(rng, asking.faulty(rng, job, refusal)), None
+def pairs(rng, rows, job, two):
+    """Each two refusals of a job at once; the first is due. One empty book is sound, so there 4 and 5 have no such row."""
+    for first, second in itertools.combinations(model.REFUSALS[job], 2):
+        for _ in range(rows if two or (first, second) != (4, 5) else 0):
+            yield asking.two_faults(rng, job, first, second, two=two), {"refusal": first}
 
 
-def pairs(seed, rows):
-    """Each two refusals of a job at once; the first is due. An empty book is sound, so 4 and 5 have no such row."""
-    for job in asking.JOBS:
-        for first, second in itertools.combinations(model.REFUSALS[job], 2):
-            rng = asking.stream(seed, f"pairs {job} {first} {second}")
-            for _ in range(rows if (first, second) != (4, 5) else 0):
-                yield "two refusals at once", asking.filled(rng, asking.two_faults(rng, job, first, second)), first
+def budgets(rng, scans, job, two):
+    for _ in range(scans if job in asking.SCANS else 0):
+        for plan in asking.budgeted(rng, job, two=two):
+            yield plan, {}
 
 
-def budgets(seed, scans):
-    for job in asking.SCANS:
-        rng = asking.stream(seed, f"budgets {job}")
-        for _ in range(scans):
-            for plan in asking.budgeted(rng, job):
-                yield "budgets", asking.filled(rng, plan), None
+def books(rng, rows, job, two):
+    """Of one book most by its check, which does nothing else."""
+    for _ in range(3 * rows if job == "check" else 0 if job == "compile" else rows):
+        plan = asking.sound_plan(rng, job, two=two)
+        asking.other_books(rng, plan, asking.any_book)
+        yield plan, {}
 
 
-def books(seed, rows):
-    rng = asking.stream(seed, "books")
-    for i in range(rows):
-        plan = asking.sound_plan(rng, asking.JOBS[i % 7] if i % 7 in (2, 3, 4, 5) else "check")
-        plan.book = asking.any_book(rng, plan.records)
-        yield "books, sound or not", asking.filled(rng, plan), None
+# each kind of random row: what makes those of a job, how many times, and of two books
+RANDOM = {
+    "answers": (answers, 200, 100),
+    "refusals": (refusals, 60, 30),
+    "two refusals at once": (pairs, 10, 5),
+    "budgets": (budgets, 200, 100),
+    "books, sound or not": (books, 286, 250),
+}
+
+
+def random_rows(seed, scale):
+    for (kind, (make, *times)), (job, books) in itertools.product(RANDOM.items(), FORMS):
+        rng = asking.stream(seed, f"{kind} {job} {books}")
+        for plan, due in make(rng, max(1, round(times[books - 1] * scale)), job, books == 2):
+            yield f"{kind}, {BOOKS[books]}", asking.filled(rng, plan), due
 
 
 def limits(seed, found):
     rng = asking.stream(seed, "limits")
     for edge in found:
-        yield edge.what, asking.filled(rng, edge.plan), edge.refusal
+        due = {"refusal": edge.refusal, **edge.more}
+        yield edge.what + ", two books" * (len(edge.plan.books) == 2), asking.filled(rng, edge.plan), due
 
 
 def rows(seed, scale, large):
     """All rows: so many times the random ones, and the large edges or not."""
-    yield from answers(seed, max(1, round(200 * scale)))
-    yield from refusals(seed, max(1, round(60 * scale)))
-    yield from pairs(seed, max(1, round(10 * scale)))
-    yield from budgets(seed, max(1, round(200 * scale)))
-    yield from books(seed, max(1, round(2000 * scale)))
-    yield from limits(seed, itertools.chain(edges.small(), edges.large() if large else []))
+    yield from random_rows(seed, scale)
+    yield from limits(seed, itertools.chain(edges.small(), edges.both(), edges.large() if large else []))
 
 
 QUICK = 0.05

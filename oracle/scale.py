@@ -10,14 +10,17 @@ Asks the original (oracle/README.md) and target/answers (host/answers.sh) the sa
   short     the table of every text of up to five bytes over an alphabet in which each byte means something to some pass
   files     the table of each copyright file of the installed Debian packages to 10,000 bytes, and scans of them against a store of common licences
 
-The original's unordered ties are settled in its answers as oracle/README.md says. Every area is filled with garbage before a call, and
-target/answers stops where one is not as it must be after it. Prints the number of cases of each kind, and each difference.
+Every question on a view or a scan is asked of target/answers twice: with one book, and behind `border K` with two, which the original's one store
+decides as well. The original's unordered ties are settled in its answers as oracle/README.md says. Every area is filled with garbage before a call,
+and target/answers stops where one is not as it must be after it, or where the name's part is not the named licence's. Prints the number of cases of
+each kind, and each difference.
 """
 
 import argparse
 import glob
 import itertools
 import os
+import platform
 import random
 import subprocess
 import sys
@@ -30,47 +33,64 @@ from compare import ONE, WHOLE, Oracle, Trouble, bits, hexed
 ALPHABET = "aC4 \n$-"
 SHORT = 5
 FILE_MOST = 10000  # bytes; the original takes long for more
+VIEWS, SCANS = ("score", "countbounds"), ("counteliminate", "countdown")
 
 
 class Ours:
     def __init__(self):
         if subprocess.run([os.path.join(compare.REPOSITORY, "host", "answers.sh")]).returncode != 0:
             raise Trouble("target/answers is not built")
-        program = os.path.join(compare.REPOSITORY, "target", "answers")
-        self.process = subprocess.Popen([program], stdin=subprocess.PIPE, stdout=subprocess.PIPE, text=True)
+        runner = os.environ.get("RUN", "" if platform.machine() == "x86_64" else "qemu-x86_64")  # as in host/build.sh
+        program = [*runner.split(), os.path.join(compare.REPOSITORY, "target", "answers")]
+        self.process = subprocess.Popen(program, stdin=subprocess.PIPE, stdout=subprocess.PIPE, text=True)
 
     def ask(self, question):
         self.process.stdin.write(question + "\n")
         self.process.stdin.flush()
-        return self.process.stdout.readline().rstrip("\n")
+        answer = self.process.stdout.readline()
+        if not answer.endswith("\n"):
+            raise Trouble(f"target/answers stops at: {question[:400]}")
+        return answer.rstrip("\n")
 
 
 class Tally:
-    def __init__(self):
-        self.asked = Counter()
-        self.differing = 0
+    """Holds our answers against the original's. The borders are drawn by the seed that the run starts with."""
 
-    def hold(self, question, theirs, ours):
-        self.asked[question.split(" ")[0]] += 1
+    def __init__(self, ours, seed):
+        self.ours, self.rng = ours, random.Random(f"{seed} borders")
+        self.asked, self.differing, self.licences = Counter(), 0, 0
+
+    def hold(self, question, theirs):
+        """With one book; and where two can be lent with two, parted anywhere, also before the first licence and behind the last."""
+        word, *rest = question.split(" ")
+        self.licences = 0 if word == "clear" else self.licences + (word == "add" and rest[1] == "2")
+        self.compare(word, question, theirs)
+        if word in VIEWS + SCANS:
+            border = self.rng.randint(0, self.licences if word in SCANS else 1)
+            self.compare(f"{word}, two books", f"border {border} {question}", theirs)
+
+    def compare(self, kind, question, theirs):
+        ours = self.ours.ask(question)
+        self.asked[kind] += 1
         if theirs != ours:
             self.differing += 1
             print(f"differs: {question[:400]}\n  original {theirs[:300]}\n  ours     {ours[:300]}")
 
 
-def lists(tally, oracle, ours, first, seeds):
+def lists(tally, oracle, first, seeds):
     for seed in range(first, first + seeds):
         for make in (replay.replay_tables, replay.replay_scans):
             out = replay.List(oracle)
             make(out, random.Random(f"{seed} {make.__name__}"))
             questions = [q for q in out.questions if q and not q.startswith("#")]
             for question, answer in zip(questions, out.answers, strict=True):
-                tally.hold(question, answer, ours.ask(question))
+                tally.hold(question, answer)
 
 
-def tables(tally, oracle, ours, texts):
+def tables(tally, oracle, texts):
     for text in texts:
         question = f"table {hexed(text)}"
-        tally.hold(question, oracle.ask(question), ours.ask(question))
+        tally.hold(question, oracle.ask(question))
 
 
 def short():
@@ -87,9 +107,9 @@ def installed():
             yield text
 
 
-def files(tally, oracle, ours):
+def files(tally, oracle):
     texts = list(dict.fromkeys(installed()))
-    tables(tally, oracle, ours, texts)
+    tables(tally, oracle, texts)
     questions = ["clear"]
     for i, text in enumerate(replay.licences()):
         questions.append(f"add {hexed(f'L{i:02}')} 2 {hexed(text)}")
@@ -97,7 +117,7 @@ def files(tally, oracle, ours):
         questions.append(f"counteliminate {bits(0.8):08x} {ONE:08x} 1 3 {WHOLE} {hexed(text)}")
         questions.append(f"counteliminate {bits(0.5):08x} {bits(0.7):08x} 1 2 40 {hexed(text)}")
     for question in questions:
-        tally.hold(question, oracle.ask(question), ours.ask(question))
+        tally.hold(question, oracle.ask(question))
 
 
 def main():
@@ -105,12 +125,12 @@ def main():
     options.add_argument("--seeds", type=int, default=100)
     options.add_argument("--first", type=int, default=1)
     options = options.parse_args()
-    tally, oracle, ours = Tally(), Oracle(), Ours()
-    lists(tally, oracle, ours, options.first, options.seeds)
-    tables(tally, oracle, ours, short())
-    files(tally, oracle, ours)
+    oracle, tally = Oracle(), Tally(Ours(), options.first)
+    lists(tally, oracle, options.first, options.seeds)
+    tables(tally, oracle, short())
+    files(tally, oracle)
     for kind, count in sorted(tally.asked.items()):
-        print(f"{kind:15} {count:8}")
+        print(f"{kind:25} {count:8}")
     print(f"{sum(tally.asked.values())} cases, {tally.differing} differences")
     return 1 if tally.differing else 0
 

@@ -16,6 +16,11 @@ import compare
 import model
 import rows
 
+# places of model.py, and a test that is added to the first
+UNSOUND = "any(shelf_or_none(book) is None for book in q.books)"
+BEST_OVERALL = "    text, value = yield from best(note, 0, whole, shelf)\n    yield Overall(text, value)\n"
+TWO_NAMES = "any(a.name {} b.name for a in shelved(q.books[:1]) for b in shelved(q.books[1:]))"
+
 # what it is, what stands in model.py, what stands there instead
 WRONG = [
     ("areas of 8n+63", "8 * n + 64", "8 * n + 63"),
@@ -86,6 +91,38 @@ WRONG = [
     ("a word in capitals", "[a-z0-9_]+ [a-z0-9_]+", "[A-Za-z0-9_]+ [a-z0-9_]+"),
     ("distinct not looked at", "distinct == len(counts) and", ""),
     ("a score rounded down", "math.ldexp(round(", "math.ldexp(int("),
+    ("numbers that start again in the second book", "number=len(shelf), part=", "part="),
+    ("4 of the first book only", "for book in q.books)", "for book in q.books[:1])"),
+    ("4 of the second book only", "for book in q.books)", "for book in q.books[-1:])"),
+    ("4 only of both", "any(shelf_or_none(book) is None for", "all(shelf_or_none(book) is None for"),
+    ("5 where either book is empty", "not shelved(q.books)", "not all(map(shelf_or_none, q.books))"),
+    ("5 where the first book is empty", "not shelved(q.books)", "not shelved(q.books[:1])"),
+    ("5 of an empty book before 4 of the other", UNSOUND, f"{UNSOUND} and b'' not in q.books"),
+    ("N of the first book in 9", "q.number >= len(shelved(q.books))", "q.number >= len(shelved(q.books[:1]))"),
+    ("N of the second book in 9", "q.number >= len(shelved(q.books))", "q.number >= len(shelved(q.books[-1:]))"),
+    ("N of the first book in the budget", BEST_OVERALL, """\
+    found = yield from best(note, 0, whole, [text for text in shelf if not text.part.second])
+    if found:
+        yield Overall(*found)
+    other = yield from best(note, 0, whole, [text for text in shelf if text.part.second])
+    text, value = other if found is None or (other and other[1] > found[1]) else found
+    yield Overall(text, value)
+"""),
+    ("ties to the second book", "value > found[1]", "(value, text.part.second) > (found[1], found[0].part.second)"),
+    ("names that must rise from one book into the other", UNSOUND, f"{UNSOUND} or {TWO_NAMES.format('>=')}"),
+    ("no equal names in both", UNSOUND, f"{UNSOUND} or {TWO_NAMES.format('==')}"),
+    ("1,024 texts in both together", UNSOUND, f"{UNSOUND} or len(shelved(q.books)) > STORED_MOST"),
+    ("16,777,216 bytes in both together", UNSOUND, f"{UNSOUND} or sum(map(len, q.books)) > BOOK_MOST"),
+    ("the part of the first book always", "part=text.part._replace(second=second)", "part=text.part"),
+    ("the part of the second book in one", "part=text.part._replace(second=second)", "part=text.part._replace(second=1)"),
+    ("the part at the record's start", "Part(0, start, len(body))", "Part(0, start - 6, len(body))"),
+    ("the part of the book's first name", "part = Part(0, start, len(body))", "part = Part(0, 6, len(body))"),
+    ("the part of the book's last name", "STORED_MOST)\n    return shelf", "STORED_MOST)\n    return [text._replace(part=part) for text in shelf]"),
+    ("the part counted on into the second book", "second=second)", "second=second, at=text.part.at + second * len(books[0]))"),
+    ("a part without a name", "a.score = bits_of(event.score)", "a.score, a.part = bits_of(event.score), event.text.part"),
+    ("a part before N are paid", "a.refusal = 12\n", "a.refusal, a.part = 12, a.part if a.score else shelved(q.books)[0].part\n"),
+    ("no part with 12", "a.refusal = 12\n", "a.refusal, a.part = 12, NO_PART\n"),
+    ("the part of the last record", "a.records += 1", "a.records, a.part = a.records + 1, shelved(q.books)[event.number].part"),
 ]  # fmt: skip
 
 
