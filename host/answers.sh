@@ -1,6 +1,7 @@
 #!/bin/sh
 # shellcheck disable=SC1091,SC2086,SC2154
-# Builds the archive and the program that answers the oracle's questions by it (x86-64).
+# Builds target/answers, where it is missing or older than what it is made of, and runs it: it answers the oracle's questions by the archive.
 set -eu
 . "$(dirname "$0")/build.sh"
 need_driver answers
+exec $RUN target/answers

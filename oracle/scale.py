@@ -3,7 +3,7 @@
 
     oracle/scale.py [--seeds N] [--first K]
 
-Asks the original (oracle/README.md) and target/answers (host/answers.sh) the same questions and compares the answers line by line:
+Asks the original (oracle/README.md) and target/answers (built and run by host/answers.sh) the same questions and compares the answers line by line:
 
   lists     replay.py's lists of tables, scores, bounds and scans, made anew for each of N seeds (default 100): passes by the tables that
             they end in, scores by their bits, counts and budgets, both scans
@@ -20,7 +20,6 @@ import argparse
 import glob
 import itertools
 import os
-import platform
 import random
 import subprocess
 import sys
@@ -38,11 +37,8 @@ VIEWS, SCANS = ("score", "countbounds"), ("counteliminate", "countdown")
 
 class Ours:
     def __init__(self):
-        if subprocess.run([os.path.join(compare.REPOSITORY, "host", "answers.sh")]).returncode != 0:
-            raise Trouble("target/answers is not built")
-        runner = os.environ.get("RUN", "" if platform.machine() == "x86_64" else "qemu-x86_64")  # as in host/build.sh
-        program = [*runner.split(), os.path.join(compare.REPOSITORY, "target", "answers")]
-        self.process = subprocess.Popen(program, stdin=subprocess.PIPE, stdout=subprocess.PIPE, text=True)
+        program = os.path.join(compare.REPOSITORY, "host", "answers.sh")
+        self.process = subprocess.Popen([program], stdin=subprocess.PIPE, stdout=subprocess.PIPE, text=True)
 
     def ask(self, question):
         self.process.stdin.write(question + "\n")
