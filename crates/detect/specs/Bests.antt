@@ -5,7 +5,7 @@ use mathlib.Core.List.{List}
 use mathlib.Core.Option.{Option, none, some}
 use Prim.Native.Nat.{ℕ, _<_}
 use lib.ListN.{length}
-use mathlib.Core.Bool.{true, false, _||_, cond}
+use mathlib.Core.Bool.{Bool, true, false, _||_, cond}
 use lib.Dec.{T, eqb}
 use lib.Ieee.{Float, lt}
 use Rattle.rules.specs.declared.View.{View}
@@ -39,6 +39,11 @@ ChosenStands books (Found b left) = Stands books (b .text)
 pub record Betters (best next r : Best) : Type 0 where
   pub is : (books : Shelf) → bestIn books r ≡ better (bestIn books best) (bestIn books next)
   pub stands : (books : Shelf) → Stands books (next .text) → ((best .text .text .kind ≡ 0 → ⊥) → Stands books (best .text)) → Stands books (r .text)
+
+-- whether it is the next
+pub record Beats (best next : Best) (r : Bool) : Type 0 where
+  pub yes : r ≡ true → Betters best next next
+  pub no : r ≡ false → Betters best next best
 
 -- what the next text has to beat, by the best's kind and score: the floor, where ties with it do, as long as none reaches it; then the best
 unfoldable pub toBeat : Float → ℕ → Float → Floor

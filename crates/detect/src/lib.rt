@@ -8,7 +8,7 @@ ghost use Rattle.slices.specs.Classes.{classTable};
 ghost use Rattle.rules.specs.Table.{nought};
 ghost use Rattle.detection.specs.Shelves.{shelf, Counted};
 ghost use Rattle.license.specs.Ready.{Laid, Tabled, tableOver};
-ghost use Rattle.detect.specs.Bests.{Betters, toBeat, BestOf, BestAbove, BestDone};
+ghost use Rattle.detect.specs.Bests.{Beats, toBeat, BestOf, BestAbove, BestDone};
 use detection::shelf::Counts;
 use detection::shelf::Shelved;
 use detection::shelf::after_on;
@@ -59,19 +59,17 @@ pub fn no_best() -> Best
     Best { text, value }
 }
 
-// The next text where it scores strictly higher: ties to the earliest.
-pub fn better_of(best: Best, next: Best) -> Best
-    ensures { λ r. ⌜ Betters best next r ⌝ }
+// Whether the next text is the better one: where it scores strictly higher, so ties go to the earliest. Its answer is no struct, since most texts
+// do not win, and the best would be copied for each.
+pub fn beats(best: Best, next: Best) -> bool
+    ensures { λ r. ⌜ Beats best next r ⌝ }
 {
     let held = best.text;
     let text = held.text;
     if text.kind == 0 {
-        return next;
+        return true;
     }
-    if best.value.score < next.value.score {
-        return next;
-    }
-    best
+    best.value.score < next.value.score
 }
 
 // What the next text has to beat: the floor, where ties with it do, as long as no text reaches it; then the best so far.
@@ -121,8 +119,11 @@ pub fn best_of<'a>(
         let c = charge(area, words, n, t, body, least, left);
         left = c.left;
         let value = c.value;
-        best = better_of(best, Best { text, value });
+        let next = Best { text, value };
         spot = after_on(text);
+        if beats(best, next) {
+            best = next;
+        }
     }
     Chosen::Found(best, left)
 }

@@ -53,32 +53,54 @@ charge-requires c κs =
     let start = found .before .before .before .before .before .before .before .before .before .before .before .before in
     (start .pre .0, (rw (c .before .body-of .ensures) (found .next-on .ensures .0 .found .is .sound), omega (arith, found .before .if2 .left)))
 
-better-of-requires : tie.Need-better-of-requires Inv-loop μ-loop
-better-of-requires c κs = search needs
-
 after-on-requires : tie.Need-after-on-requires Inv-loop μ-loop
 after-on-requires c κs =
-    let found = c .before .before .before .before .before in
+    let found = c .before .before .before .before in
     let start = found .before .before .before .before .before .before .before .before .before .before .before .before in
     let s = shelf (now (start .args .book)) (now (start .args .second)) in
     let t = found .next-on .ensures .0 in
     (t .found .below, omega (arith, stands-inside s _ t, counted-most s _ (start .pre .1)))
 
+beats-requires : tie.Need-beats-requires Inv-loop μ-loop
+beats-requires c κs = search needs
+
 loop-less : tie.Need-loop-less Inv-loop μ-loop
 loop-less c =
-    let found = c .before .before .before .before .before .before in
-    omega (arith, found .next-on .ensures .1, found .before .before .if1 .taken, ap (λ (x : Spot). x .number) (c .after-on .ensures))
+    let past = c .before .before in
+    let found = past .before .before .before .before .before in
+    omega (arith, found .next-on .ensures .1, found .before .before .if1 .taken, ap (λ (x : Spot). x .number) (past .after-on .ensures))
 
 loop-again : tie.Need-loop-again Inv-loop μ-loop
 loop-again c =
-    let charged = c .before .before .before in
+    let told = c .before in
+    let past = told .before in
+    let charged = past .before .before in
     let beat = charged .before in
     let lent = beat .before in
     let found = lent .before in
     let start = found .before .before .before .before .before .before .before .before .before .before .before .before in
     walk-step (found .before .before .before .before .before .loop .inv) (start .args .texts .all) (start .pre .1 .all) _ _ _ _ _ _ (found .before .before .if1 .taken) (omega (arith, found .before .if2 .left))
-    (found .next-on .ensures) (beat .to-beat .ensures) (rw (lent .body-of .ensures) at (charged .charge .ensures .0)) (c .before .better-of .ensures)
-    (charged .charge .ensures .1) (c .after-on .ensures)
+    (found .next-on .ensures) (beat .to-beat .ensures) (rw (lent .body-of .ensures) at (charged .charge .ensures .0)) (told .beats .ensures .yes (c .if3 .taken))
+    (charged .charge .ensures .1) (past .after-on .ensures)
+
+loop-less-2 : tie.Need-loop-less-2 Inv-loop μ-loop
+loop-less-2 c =
+    let past = c .before .before in
+    let found = past .before .before .before .before .before in
+    omega (arith, found .next-on .ensures .1, found .before .before .if1 .taken, ap (λ (x : Spot). x .number) (past .after-on .ensures))
+
+loop-again-2 : tie.Need-loop-again-2 Inv-loop μ-loop
+loop-again-2 c =
+    let told = c .before in
+    let past = told .before in
+    let charged = past .before .before in
+    let beat = charged .before in
+    let lent = beat .before in
+    let found = lent .before in
+    let start = found .before .before .before .before .before .before .before .before .before .before .before .before in
+    walk-step (found .before .before .before .before .before .loop .inv) (start .args .texts .all) (start .pre .1 .all) _ _ _ _ _ _ (found .before .before .if1 .taken) (omega (arith, found .before .if2 .left))
+    (found .next-on .ensures) (beat .to-beat .ensures) (rw (lent .body-of .ensures) at (charged .charge .ensures .0)) (told .beats .ensures .no (c .if3 .left))
+    (charged .charge .ensures .1) (past .after-on .ensures)
 
 returns-2 : tie.Need-returns-2 Inv-loop μ-loop
 returns-2 c =
@@ -99,8 +121,10 @@ best-of-spec =
     body-of-requires
     to-beat-requires
     charge-requires
-    better-of-requires
     after-on-requires
+    beats-requires
     loop-less
     loop-again
+    loop-less-2
+    loop-again-2
     returns-2)
