@@ -3,8 +3,8 @@
 // The recorded input is text 2, and the recorded output document 01's three lines. Assumes nothing but the C library's read and write.
 ghost use Prim.Native.Nat.{_≤_};
 ghost use lib.ListN.{length};
-use detection::check::check_book;
-use detection::texts::stored_at;
+use detection_check::check_book;
+use detection_texts::texts::stored_at;
 use libc::STDIN_FILENO;
 use rules::Limits;
 use rules::Mode;

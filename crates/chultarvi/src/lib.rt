@@ -6,18 +6,18 @@ ghost use Rattle.rules.specs.Search.{view};
 ghost use Rattle.rules.specs.declared.Mode.the-variants.{Elimination, TopDown};
 ghost use Rattle.chultarvi.specs.Answers.{answerOf};
 ghost use Rattle.rules.specs.Jobs.{ScoreDone, BoundsDone, ScanDone, check, CompileDone};
+use bounds_job::bounds_both;
+use bounds_job::bounds_of;
 use compile::compile;
-use detection::check::check_book;
-use jobs::bounds::bounds_both;
-use jobs::bounds::bounds_of;
-use jobs::score::score_both;
-use jobs::score::score_view;
+use detection_check::check_book;
 use rules::Limits;
 use rules::Mode;
 use rules::Scanned;
 use rules::View;
 use scan_job::scan;
 use scan_job::scan_both;
+use score_job::score_both;
+use score_job::score_view;
 
 // Document 01's number of the refusal, 0 for none; and N.
 #[repr(C)]

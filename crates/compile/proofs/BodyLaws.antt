@@ -7,7 +7,7 @@ use Prim.Native.Nat.{ℕ, _+_, _-_, _≤_, _<_}
 use native.Mathlib.Omega.{arith}
 use lib.Dec.{ltb}
 use lib.ListN.{length, take, drop, replicate}
-use lib.Seq.{slice, take-all}
+use lib.Seq.{take-all}
 use borrow.Author.Tests.{lt-ltb, le-ltb}
 use Rattle.lists.specs.Wrote.{Wrote}
 use Rattle.lists.proofs.SliceLaws.{part-slice}
@@ -19,10 +19,10 @@ use Rattle.rules.specs.Table.{Table, bigrams, tableOf, viewTable}
 use Rattle.rules.specs.Book.{tableOut, compiled}
 use Rattle.rules.specs.Jobs.{over}
 use Rattle.rules.proofs.RefusalLaws.{lines-count}
-use Rattle.ngram.specs.Tables.{tableAt}
-use Rattle.license.specs.declared.views.Viewed.{Viewed}
-use Rattle.license.specs.Ready.{Tabled, behind, tableOver}
-use Rattle.license.proofs.ViewLaws.{chargeable}
+use Rattle.ngram_table.specs.Tables.{tableAt}
+use Rattle.license_views.specs.declared.Viewed.{Viewed}
+use Rattle.license_views.specs.Tabled.{Tabled, behind, tableOver}
+use Rattle.license_charge.proofs.ChargeLaws.{chargeable}
 use Rattle.compile.specs.Bodied.{Bodied}
 
 -- ---- the table as it is lent

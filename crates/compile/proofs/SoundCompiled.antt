@@ -15,8 +15,8 @@ use Rattle.rules.specs.Book.{tableIn, entriesOf, soundTable, compiled}
 use Rattle.rules.specs.Refusal.{refusal, ofText}
 use Rattle.rules.proofs.GrowthLaws.{aggressive-length, bigrams-length, lines-size}
 use Rattle.rules.proofs.WordLaws.{aggressive-words}
-use Rattle.preproc_lines.proofs.CountLaws.{passed-length}
-use Rattle.ngram.proofs.SoundBody.{body-sound, body-again}
+use Rattle.preproc_test.proofs.CountLaws.{passed-length}
+use Rattle.ngram_body.proofs.SoundBody.{body-sound, body-again}
 
 module _ (t : List ℕ) (e : refusal (ofText t) ≡ 0) where
   abbrev processed : List ℕ

@@ -3,7 +3,7 @@
 // Assumes nothing.
 ghost use Prim.Native.Nat.{_+_, _≤_};
 ghost use lib.ListN.{length};
-use detection::check::check_book;
+use detection_check::check_book;
 use libc::STDOUT_FILENO;
 use questions::hex::put_byte;
 use questions::numbers::put_number;

@@ -5,11 +5,12 @@
 // The expected signs, in stdout, are not this code's: they are the definition `check` of the crate rules, computed by antt. For each list
 // of books below (all cuts; for each place all 256 values; the made books) one equation `signs of the books = a list of numbers` was
 // stated, the books and the numbers written out, and antt accepted each by `refl` with every definition unfolded. Assumes nothing.
+ghost use Prim.Native.Nat.{_<_};
+
 mod limit;
 
-ghost use Prim.Native.Nat.{_<_};
 use crate::limit::limit_of_texts;
-use detection::check::check_book;
+use detection_check::check_book;
 use libc::STDOUT_FILENO;
 use rules::Checked;
 

@@ -15,8 +15,8 @@ use Rattle.rules.specs.Search.{Stored, Best, better}
 use Rattle.rules.specs.Refusal.{unit}
 use Rattle.rules.proofs.BoolLaws.{cond-of}
 use Rattle.rules.proofs.FloatOrder.{lt-between}
-use Rattle.ngram.specs.Floors.{beats, Judged}
-use Rattle.ngram.proofs.FloorLaws.{beats-lowest}
+use Rattle.floors.specs.Floors.{beats, Judged}
+use Rattle.ngram_score.proofs.FloorLaws.{beats-lowest}
 use Rattle.detect.specs.Bests.{toBeat, Alike, same, both-below}
 
 -- ---- the better of two, by its cases

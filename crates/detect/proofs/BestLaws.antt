@@ -27,17 +27,18 @@ use Rattle.rules.specs.Table.{Table, nought, valueOf, viewTable}
 use Rattle.rules.specs.Search as rules
 use Rattle.rules.specs.Search.{Stored, noText, Made, _>>=_, scored, better, noBest, bestFrom, viewed, recurse, turns}
 use Rattle.rules.specs.Book.{number, tableIn, entriesOf, pieces, goOn, front}
-use Rattle.detection.specs.declared.shelf.Counts.{Counts}
-use Rattle.detection.specs.declared.shelf.Shelved.{Shelved}
-use Rattle.detection.specs.declared.shelf.Spot.{Spot}
-use Rattle.detection.specs.Shelves.{Shelf, texts, Counted, BeforeOn, Stands, bodyIn, textIn, firstSpot, afterOn}
-use Rattle.detection.proofs.ShelfLaws.{stands-text, before-both, after-stands}
-use Rattle.preproc_lines.specs.Entries.{linesAt}
-use Rattle.ngram.specs.declared.scores.Floor.{Floor}
-use Rattle.ngram.specs.Floors.{Judged}
-use Rattle.license.specs.Ready.{Held, tableOfBody}
-use Rattle.license.specs.Pay.{Paid, pay}
-use Rattle.license.proofs.PayLaws.{pay-done, pay-one, pay-none}
+use Rattle.detection_shelf.specs.declared.Counts.{Counts}
+use Rattle.detection_shelf.specs.declared.Shelved.{Shelved}
+use Rattle.detection_shelf.specs.declared.Spot.{Spot}
+use Rattle.detection_shelf.specs.Shelves.{Shelf, texts, Counted, BeforeOn, Stands, bodyIn, textIn, firstSpot, afterOn}
+use Rattle.detection_shelf.proofs.ShelfLaws.{stands-text, before-both, after-stands}
+use Rattle.preproc_table.specs.Entries.{linesAt}
+use Rattle.floors.specs.declared.Floor.{Floor}
+use Rattle.floors.specs.Floors.{Judged}
+use Rattle.license_notes.specs.Laid.{Held}
+use Rattle.detection_shelf.specs.Bodies.{tableOfBody}
+use Rattle.license_charge.specs.Pay.{Paid, pay}
+use Rattle.license_charge.proofs.PayLaws.{pay-done, pay-one, pay-none}
 use Rattle.detect.specs.declared.Best.{Best}
 use Rattle.detect.specs.declared.Chosen.{Chosen}
 use Rattle.detect.specs.declared.Chosen.the-variants as chosen

@@ -12,12 +12,12 @@ use Rattle.rules.specs.declared.View.{View}
 use Rattle.rules.specs.Refusal.{unit}
 use Rattle.rules.specs.Table.{Table}
 use Rattle.rules.specs.Search as rules
-use Rattle.rules.specs.Search.{Stored, better, noBest, bestFrom}
-use Rattle.preproc_lines.specs.Entries.{linesAt}
-use Rattle.detection.specs.Shelves.{Shelf, texts, Stands, textIn}
-use Rattle.ngram.specs.declared.scores.Floor.{Floor}
-use Rattle.license.specs.Ready.{Held}
-use Rattle.license.specs.Pay.{Paid, pay}
+use Rattle.rules.specs.Search.{better, noBest, bestFrom}
+use Rattle.preproc_table.specs.Entries.{linesAt}
+use Rattle.detection_shelf.specs.Shelves.{Shelf, texts, Stands, textIn}
+use Rattle.floors.specs.declared.Floor.{Floor}
+use Rattle.license_notes.specs.Laid.{Held}
+use Rattle.license_charge.specs.Pay.{Paid, pay}
 use Rattle.detect.specs.declared.Best.{Best}
 use Rattle.detect.specs.declared.Chosen.{Chosen}
 use Rattle.detect.specs.declared.Chosen.the-variants.{Out, Found}

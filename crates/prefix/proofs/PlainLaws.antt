@@ -1,10 +1,10 @@
 -- Lines hold no newline, and so no prefix of them does.
 -- Assumes nothing.
-use mathlib.Core.Path.{_≡_, refl, sym, ap, _∙_}
-use mathlib.Core.Bool.{Bool, true, false, cond, not, _&&_}
+use mathlib.Core.Path.{_≡_, refl}
+use mathlib.Core.Bool.{Bool, true, false, cond, not}
 use mathlib.Core.List.{List, [], _∷_, _++_}
 use Prim.Native.Nat.{ℕ, zero, suc, _-_}
-use lib.Dec.{ltb, eqb}
+use lib.Dec.{ltb}
 use lib.ListN.{length, take, drop}
 use Rattle.rules.specs.Bytes.{newline, every, lead, trim, space}
 use Rattle.rules.specs.Prefix.{common, prefixes}
@@ -13,8 +13,8 @@ use Rattle.rules.specs.Search.{viewed}
 use Rattle.rules.proofs.BoolLaws.{and-left, and-right, and-both}
 use Rattle.slices.specs.Ends.{keptLen}
 use Rattle.slices.proofs.EndLaws.{trim-part}
-use Rattle.prefix.specs.Listing.{plain, plainLines}
-use Rattle.prefix.proofs.ShareLaws.{common-front}
+use Rattle.prefix_list.specs.Listing.{plain, plainLines}
+use Rattle.prefix_list.proofs.ShareLaws.{common-front}
 
 abbrev other : ℕ → Bool
 other x = not (newline x)

@@ -8,17 +8,13 @@ ghost use lib.ListN.{length, take};
 ghost use Rattle.rules.specs.Sizes.{textMost, byteArea, wordArea};
 ghost use Rattle.rules.specs.Search.{viewed};
 ghost use Rattle.slices.specs.Classes.{classTable};
-ghost use Rattle.preproc_lines.specs.Entries.{linesAt, Apart};
-ghost use Rattle.prefix.specs.Listing.{plainLines};
-ghost use Rattle.prefix.specs.Choice.{Strips};
-
-pub mod choice;
-pub mod list;
-
-use crate::choice::Common;
-use crate::choice::choose;
-use crate::choice::home;
-use crate::list::list_prefixes;
+ghost use Rattle.preproc_table.specs.Entries.{linesAt, Apart};
+ghost use Rattle.prefix_list.specs.Listing.{plainLines};
+ghost use Rattle.prefix_choice.specs.Choice.{Strips};
+use prefix_choice::Common;
+use prefix_choice::choose;
+use prefix_list::home;
+use prefix_list::list_prefixes;
 use rules::View;
 
 // What pass 1 strips from the view's lines, as bytes of the lines' region [n, 4n): the list of prefixes at 4n is written over later.

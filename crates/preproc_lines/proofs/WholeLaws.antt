@@ -24,9 +24,9 @@ use Rattle.rules.proofs.RefusalLaws.{lines-count}
 use Rattle.slices.specs.declared.ends.Span.{Span}
 use Rattle.slices.proofs.EndLaws.{lead-most}
 use Rattle.preproc_lines.specs.Placed.{Placed}
-use Rattle.preproc_lines.specs.Entries.{startAt, endAt, lineAt, linesFrom, linesAt, written, Apart}
+use Rattle.preproc_table.specs.Entries.{startAt, endAt, lineAt, linesFrom, linesAt, written, Apart}
 use Rattle.preproc_lines.specs.Normalised.{Normalised}
-use Rattle.preproc_lines.proofs.EntryLaws.{start-written, end-written, start-other, end-other, lines-more, lines-same, lines-length, up-to}
+use Rattle.preproc_table.proofs.EntryLaws.{start-written, end-written, start-other, end-other, lines-more, lines-same, lines-length, up-to}
 
 -- ---- the pieces from a place on; behind the end there is none
 pub restOf : ℕ → List ℕ → List (List ℕ)

@@ -5,7 +5,7 @@ use mathlib.Core.List.{List}
 use Prim.Native.Nat.{ℕ, _*_}
 use lib.ListN.{length}
 use Rattle.rules.specs.Lines.{lines, lineCount}
-use Rattle.preproc_lines.specs.Entries.{linesAt, Apart}
+use Rattle.preproc_table.specs.Entries.{linesAt, Apart}
 
 -- all lines are there, in A = [n, 4n), one byte or more apart
 pub record Normalised (text area table : List ℕ) (r : ℕ) : Type 0 where

@@ -1,10 +1,5 @@
-// The test of a text, the line passes over it, and its line table in the lent areas.
+// The line passes over a text, and its lines in the lent areas.
 // From detection/preproc.rs of spdx 0.13.6 (Copyright 2018-2019 Amazon.com, Inc. or its affiliates. All Rights Reserved.
 // SPDX-License-Identifier: Apache-2.0), changed. Assumes nothing.
 pub mod line;
-pub mod passes;
-pub mod signs;
-pub mod table;
-pub mod test;
-pub mod urls;
 pub mod whole;

@@ -6,9 +6,9 @@ ghost use Prim.Native.Nat.{_+_, _*_, _≤_};
 ghost use lib.ListN.{length};
 ghost use Rattle.slices.specs.Classes.{classTable};
 ghost use Rattle.preproc_lines.specs.Placed.{Filled, Placed};
-use crate::passes::drop_into;
-use crate::signs::join_signs;
-use crate::urls::blackbox_urls;
+use preproc_runs::drop_into;
+use preproc_signs::join_signs;
+use preproc_urls::blackbox_urls;
 use slices::ends::Span;
 use slices::ends::bare;
 

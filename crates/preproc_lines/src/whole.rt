@@ -1,17 +1,15 @@
-// All lines of a text, normalised into the byte area, with the line table; and lines made blank again.
+// All lines of a text, normalised into the byte area, with the line table.
 // From detection/preproc.rs and license.rs of spdx 0.13.6 (Copyright 2018-2019 Amazon.com, Inc. or its affiliates. All Rights Reserved.
 // SPDX-License-Identifier: Apache-2.0), changed: its vectors of strings are places in one lent area. Assumes nothing.
 ghost use mathlib.Core.Path.{_≡_};
-ghost use Prim.Native.Nat.{_*_, _≤_};
+ghost use Prim.Native.Nat.{_≤_};
 ghost use lib.ListN.{length};
 ghost use Rattle.rules.specs.Sizes.{byteArea, wordArea};
 ghost use Rattle.rules.specs.Refusal.{refusal, ofText};
 ghost use Rattle.slices.specs.Classes.{classTable};
-ghost use Rattle.preproc_lines.specs.Entries.{Blanked};
 ghost use Rattle.preproc_lines.specs.Normalised.{Normalised};
 use crate::line::put_line;
-use crate::table::blank_line;
-use crate::table::set_line;
+use preproc_table::set_line;
 use slices::lead::line_len;
 
 // The lines of the text, from its own length on in the area, one byte or more apart; answers how many. Each line is walked a constant
@@ -35,16 +33,4 @@ pub fn normalise(class: &[u8; 256], text: &[u8], area: &mut [u8], table: &mut [u
         count += 1;
     }
     count
-}
-
-// The lines from a up to e are made blank: white-out, which touches the table only. One walk.
-pub fn blank_lines(table: &mut [u32], a: usize, e: usize)
-    requires { ⌜ (a ≤ e) × (2 * e ≤ length (now table)) ⌝ }
-    ensures { λ r. ⌜ Blanked a e (now (table .entry)) (now (table .exit)) ⌝ }
-{
-    let mut i = a;
-    while i < e {
-        blank_line(table, i);
-        i += 1;
-    }
 }

@@ -16,8 +16,8 @@ use Rattle.slices.specs.Classes.{inClass, classTable}
 use Rattle.slices.specs.Ends.{Bare}
 use Rattle.slices.proofs.EndLaws.{bare-within, bare-trim}
 use Rattle.slices.proofs.KindLaws.{by-table, space-table, vertical-table, kept-table}
-use Rattle.preproc_lines.specs.Capped.{capped}
-use Rattle.preproc_lines.proofs.PassLaws.{vertical-capped}
+use Rattle.preproc_runs.specs.Capped.{capped}
+use Rattle.preproc_runs.proofs.PassLaws.{vertical-capped}
 use Rattle.preproc_view.specs.Rows.{Stands, firstPasses, lastPasses}
 
 module _ (t : List ℕ) (e : t ≡ classTable) where

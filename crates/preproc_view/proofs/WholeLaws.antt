@@ -15,10 +15,10 @@ use Rattle.rules.specs.Passes.{passes, aggressive}
 use Rattle.rules.proofs.BoolLaws.{cond-of}
 use Rattle.rules.proofs.GrowthLaws.{trim-length}
 use Rattle.slices.specs.declared.ends.Span.{Span}
-use Rattle.preproc_lines.specs.Entries.{startAt, endAt, lineAt, linesFrom, Apart}
-use Rattle.preproc_lines.proofs.EntryLaws.{lines-same}
-use Rattle.preproc_view.specs.declared.join.Prefix.{Prefix}
-use Rattle.preproc_view.specs.Joins.{bytesOf, left, viewLines, Below, Joined}
+use Rattle.preproc_table.specs.Entries.{startAt, endAt, lineAt, linesFrom, Apart}
+use Rattle.preproc_table.proofs.EntryLaws.{lines-same}
+use Rattle.preproc_join.specs.declared.Prefix.{Prefix}
+use Rattle.preproc_join.specs.Joins.{bytesOf, left, viewLines, Below, Joined}
 use Rattle.preproc_view.specs.Rows.{Stands}
 use Rattle.preproc_view.specs.Whole.{viewAt, Ready, Chosen, Processed}
 use Rattle.preproc_view.proofs.RowLaws.{stands-lent}

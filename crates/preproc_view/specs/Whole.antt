@@ -10,9 +10,9 @@ use Rattle.rules.specs.Prefix.{withoutPrefix}
 use Rattle.rules.specs.Passes.{aggressive}
 use Rattle.slices.specs.declared.ends.Span.{Span}
 use Rattle.slices.specs.Classes.{classTable}
-use Rattle.preproc_lines.specs.Entries.{linesFrom, Apart}
-use Rattle.preproc_view.specs.declared.join.Prefix.{Prefix}
-use Rattle.preproc_view.specs.Joins.{left}
+use Rattle.preproc_table.specs.Entries.{linesFrom, Apart}
+use Rattle.preproc_join.specs.declared.Prefix.{Prefix}
+use Rattle.preproc_join.specs.Joins.{left}
 use Rattle.preproc_view.specs.Rows.{Stands}
 
 -- the lines of the view

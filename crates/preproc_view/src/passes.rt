@@ -3,7 +3,7 @@
 // SPDX-License-Identifier: Apache-2.0), changed: its replacements, as walks over lent memory. Assumes that the lent table is that of the
 // classes.
 ghost use mathlib.Core.Path.{_≡_};
-ghost use mathlib.Core.Bool.{true, false};
+ghost use mathlib.Core.Bool.{true};
 ghost use mathlib.Core.List.{map};
 ghost use Prim.Native.Nat.{_≤_, _<_};
 ghost use lib.Dec.{eqb};
@@ -13,12 +13,12 @@ ghost use Rattle.rules.specs.Passes.{lowered, hit, withoutCopyright};
 ghost use Rattle.rules.specs.Passes;
 ghost use Rattle.slices.specs.Classes.{classTable};
 ghost use Rattle.preproc_view.specs.Rows.{Stands, firstPasses, lastPasses};
-use crate::copyright::hit_a;
-use crate::copyright::hit_len;
-use crate::title::title_len;
-use preproc_lines::passes::cap_runs;
-use preproc_lines::passes::join_runs;
-use preproc_lines::passes::keep_in;
+use preproc_copyright::hit_a;
+use preproc_copyright::hit_len;
+use preproc_runs::cap_runs;
+use preproc_runs::join_runs;
+use preproc_runs::keep_in;
+use preproc_title::title_len;
 use slices::class::in_class;
 use slices::ends::Span;
 use slices::ends::bare;

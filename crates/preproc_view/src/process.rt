@@ -8,9 +8,9 @@ ghost use Prim.Native.Nat.{_*_, _≤_};
 ghost use lib.Seq.{slice};
 ghost use Rattle.rules.specs.Prefix.{strip, withoutPrefix};
 ghost use Rattle.preproc_view.specs.Whole.{Ready, Chosen, Processed, viewAt};
-use crate::join::Prefix;
-use crate::join::join_lines;
 use crate::passes::passes;
+use preproc_join::Prefix;
+use preproc_join::join_lines;
 use rules::View;
 use slices::ends::Span;
 

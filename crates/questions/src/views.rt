@@ -1,7 +1,7 @@
 // Whether a question's text is let through and its view lies within it. Assumes nothing.
 ghost use mathlib.Core.Path.{_≡_};
 ghost use Rattle.questions.specs.Views.{viewFits};
-use preproc_lines::test::test_text;
+use preproc_test::test_text;
 
 pub fn view_fits(text: &[u8], start: usize, end: usize) -> bool
     ensures { λ r. ⌜ r ≡ viewFits start end (now (text .entry)) ⌝ }

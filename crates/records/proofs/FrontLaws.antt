@@ -3,19 +3,19 @@
 --     framed-whole                             from the code's answer, the definition's case
 -- Assumes nothing.
 use mathlib.Core.Path.{_≡_, refl, sym, ap, _∙_}
-use mathlib.Core.Bool.{Bool, true, false, cond}
+use mathlib.Core.Bool.{Bool, true, cond}
 use mathlib.Core.List.{List, [], _∷_}
 use Prim.Native.Nat.{ℕ, zero, suc, _+_, _*_, _-_, _≤_, _<_}
 use native.Mathlib.Nat.{not-suc-le-zero, le-of-suc-le-suc}
 use native.Mathlib.Omega.{arith}
 use lib.Dec.{leb}
-use lib.ListN.{length, take, drop, length-drop, length-take}
+use lib.ListN.{length, take, drop, length-drop}
 use lib.Seq.{drop-drop, length-take-le}
 use borrow.Author.Tests.{le-leb, lt-leb}
 use Rattle.lists.proofs.SliceLaws.{drop-done, part-slice}
 use Rattle.rules.specs.Book.{number, Form, Piece, Front, front, end, whole, broken, recordForm, recordOf, At, placed as placedAt, recordAt, entryForm, entryOf}
-use Rattle.rules.proofs.Steps.{Cut, front-cut}
-use Rattle.records.specs.Places.{formOf, framed, entryFramed}
+use Rattle.rules.proofs.Steps.{front-cut}
+use Rattle.records.specs.Places.{framed, entryFramed}
 use Rattle.records.specs.declared.pieces.PieceAt.the-variants as piece
 use Rattle.records.specs.declared.pieces.EntryAt.the-variants as entry
 

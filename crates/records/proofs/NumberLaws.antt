@@ -7,11 +7,11 @@
 use mathlib.Core.Path.{_≡_, refl, sym, ap, _∙_}
 use mathlib.Core.List.{List, [], _∷_, _++_, append-assoc}
 use Prim.Native.Nat.{ℕ, zero, suc, _+_, _*_, _/_, _%_, _^_, _≤_, _<_}
-use native.Mathlib.Nat.{zero-add, suc-add, add-assoc, mul-zero, mul-assoc, mul-comm, div-one, pow-suc, pow-succ', div-div-eq-div-mul, mod-eq-of-lt, one-le-pow}
+use native.Mathlib.Nat.{zero-add, suc-add, mul-zero, mul-assoc, div-one, pow-suc, pow-succ', div-div-eq-div-mul, mod-eq-of-lt, one-le-pow}
 use native.Mathlib.Omega.{arith}
 use lib.Arith.{mod-mul}
-use lib.ListN.{length, getD, take, drop, length-append, length-drop, length-take}
-use lib.Seq.{drop-drop, take-all, take-append-add, drop-append-add, take-at, drop-at, length-take-le}
+use lib.ListN.{length, getD, take, drop, length-append}
+use lib.Seq.{drop-drop, take-at, drop-at, length-take-le}
 use Rattle.lists.proofs.SliceLaws.{drop-next}
 use Rattle.rules.specs.Book.{number, written}
 use Rattle.records.specs.Written.{putAt}

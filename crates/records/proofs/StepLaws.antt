@@ -1,7 +1,7 @@
 -- The records of a book, and the entries of a table body, from a place on: none at the end, none where one breaks off, and else the one
 -- that stands there before those from the place after it on.
 -- Assumes nothing.
-use mathlib.Core.Path.{_≡_, refl, sym, ap, _∙_}
+use mathlib.Core.Path.{_≡_, refl, ap, _∙_}
 use mathlib.Core.List.{List, []}
 use mathlib.Core.Option.{Option, none, some}
 use Prim.Native.Nat.{ℕ, _+_, _≤_, _<_}
@@ -9,7 +9,7 @@ use native.Mathlib.Omega.{arith}
 use lib.ListN.{length, take, drop}
 use lib.Seq.{drop-drop}
 use Rattle.rules.specs.Prefix.{Counted}
-use Rattle.rules.specs.Book.{number, Form, Piece, Front, front, also, goOn, pieces, recordForm, Record, recordOf, recordsOf, At, placed, recordAt, entryForm, entryOf}
+use Rattle.rules.specs.Book.{number, Form, Piece, Front, front, also, goOn, pieces, recordForm, recordOf, recordsOf, At, placed, recordAt, entryForm, entryOf}
 use Rattle.rules.proofs.Steps.{pieces-step}
 use Rattle.records.specs.Places.{framed, entryFramed}
 use Rattle.records.specs.declared.pieces.EntryAt.the-variants as entry

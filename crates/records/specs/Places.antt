@@ -1,7 +1,6 @@
 -- The code's answers at a place, as the definitions have them: for each case of an enum the definition's case and values.
 -- Assumes nothing.
 use Prim.Native.Nat.{ℕ, _+_}
-use mathlib.Core.List.{List}
 use lib.ListN.{length}
 use Rattle.rules.specs.Book.{Form, Front, At, entryOf}
 use Rattle.records.specs.declared.pieces.PieceAt.{PieceAt}

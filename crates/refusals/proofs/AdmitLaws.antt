@@ -10,7 +10,7 @@
 use mathlib.Core.Path.{_≡_, refl, sym, ap, _∙_}
 use mathlib.Core.Bool.{Bool, true, false, not, _&&_, _||_, cond}
 use mathlib.Core.List.{List, [], _∷_, _++_}
-use Prim.Native.Nat.{ℕ, suc, _+_, _≤_, _<_}
+use Prim.Native.Nat.{ℕ, suc, _+_, _≤_}
 use native.Mathlib.Omega.{arith}
 use lib.Dec.{leb, ltb, eqb}
 use lib.ListN.{length}
@@ -32,11 +32,11 @@ use Rattle.rules.proofs.ShelfLaws.{two-length}
 use Rattle.rules.proofs.BoolLaws.{and-left, and-right}
 use Rattle.rules.proofs.DownLaws.{Each}
 use Rattle.rules.proofs.RefusalLaws.{refusal-first, refusal-then, refusal-most}
-use Rattle.preproc_lines.specs.declared.test.Tested.{Tested}
-use Rattle.preproc_lines.specs.Counts.{AsTested}
-use Rattle.detection.specs.declared.shelf.Counts.{Counts}
-use Rattle.detection.specs.Shelves.{Shelf, booksOf, Lends, texts, Counted}
-use Rattle.detection.proofs.ShelfLaws.{lent-read}
+use Rattle.preproc_test.specs.declared.Tested.{Tested}
+use Rattle.preproc_test.specs.Counts.{AsTested}
+use Rattle.detection_shelf.specs.declared.Counts.{Counts}
+use Rattle.detection_shelf.specs.Shelves.{Shelf, booksOf, Lends, texts, Counted}
+use Rattle.detection_shelf.proofs.ShelfLaws.{lent-read}
 use Rattle.refusals.specs.declared.Admitted.{Admitted}
 use Rattle.refusals.specs.Admits.{Admits, AdmitsBooks, Through, ViewThrough, ScanThrough, smallFor, viewRows, scanRows}
 

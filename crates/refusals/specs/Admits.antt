@@ -12,7 +12,7 @@ use Rattle.rules.specs.declared.View.{View}
 use Rattle.rules.specs.Sizes.{textMost, linesMost, byteArea, wordArea}
 use Rattle.rules.specs.Lines.{lineCount}
 use Rattle.rules.specs.Refusal.{Row, row, refusal, Areas, ofText, ofBooks, ofView, beforeScan, unit, stepZero, resultsNeed}
-use Rattle.detection.specs.Shelves.{Shelf, booksOf, texts, Counted}
+use Rattle.detection_shelf.specs.Shelves.{Shelf, booksOf, texts, Counted}
 use Rattle.refusals.specs.declared.Admitted.{Admitted}
 
 pub record Admits (t : List ℕ) (books : Shelf) (rows : List Row) (r : Admitted) : Type 0 where

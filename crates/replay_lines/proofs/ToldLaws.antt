@@ -1,6 +1,6 @@
 -- The answer line by line, and its length.
 -- Assumes nothing.
-use mathlib.Core.Path.{_≡_, refl, sym, _∙_}
+use mathlib.Core.Path.{_≡_, refl, _∙_}
 use mathlib.Core.Bool.{Bool, true, false, cond}
 use mathlib.Core.List.{List, [], _∷_, _++_}
 use Prim.Native.Nat.{ℕ, zero, suc, _+_, _-_, _*_, _≤_, _<_}
@@ -17,7 +17,7 @@ use Rattle.rules.specs.Refusal.{refusal, ofText}
 use Rattle.questions.specs.Hex.{hexed}
 use Rattle.questions.specs.Fields.{textOf}
 use Rattle.questions.proofs.HexLaws.{hexed-length}
-use Rattle.preproc_lines.specs.Entries.{startAt, endAt, lineAt, linesFrom, linesAt, Apart}
+use Rattle.preproc_table.specs.Entries.{startAt, endAt, lineAt, linesFrom, linesAt, Apart}
 use Rattle.replay_lines.specs.Told.{markOf, told, answerTo, answerOf}
 
 -- a line of the table, as a part of the area

@@ -1,16 +1,17 @@
 // Answers recorded questions on bounds and scans as the original does (oracle/README.md): `clear` and `add NAME KIND TEXT` fill a book,
 // `countbounds`, `counteliminate` and `countdown` ask. Its input holds the questions, and what it must write the original's own answers.
 // Of a text 2,048 bytes are read; any other line gets no answer. Assumes nothing but the C library's read and write.
-mod named;
-mod shelf;
-
 ghost use mathlib.Core.Path.{_≡_};
 ghost use Prim.Native.Nat.{_≤_};
 ghost use lib.ListN.{length};
+
+mod named;
+mod shelf;
+
 use crate::named::tell_named;
 use crate::shelf::put_name;
 use crate::shelf::put_text;
-use jobs::bounds::bounds_of;
+use bounds_job::bounds_of;
 use questions::fields::number_at;
 use questions::fields::text_at;
 use questions::numbers::bits_of;

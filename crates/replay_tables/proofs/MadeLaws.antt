@@ -16,7 +16,7 @@ use Rattle.rules.specs.Book.{entriesOf, soundTable, compiled}
 use Rattle.rules.specs.Refusal.{refusal, Areas, ofText, beforeCompile, ofCompile}
 use Rattle.rules.specs.Jobs.{over, compile, outputAfter, lent, CompileDone}
 use Rattle.rules.proofs.RefusalLaws.{compile-before}
-use Rattle.license.specs.Ready.{tableOfBody}
+use Rattle.detection_shelf.specs.Bodies.{tableOfBody}
 use Rattle.refusals.proofs.AdmitLaws.{compile-through}
 use Rattle.compile.proofs.SoundCompiled.{compiled-sound, compiled-again}
 use Rattle.replay_tables.specs.Told.{compiles, tableTold, tableFor, scoreOver, scoreFor}

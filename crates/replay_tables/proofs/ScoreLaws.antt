@@ -13,9 +13,10 @@ use Rattle.rules.specs.Book.{entriesOf, soundTable, tableIn}
 use Rattle.rules.specs.Refusal.{unit}
 use Rattle.rules.proofs.TableLaws.{Proper, table-proper, value-unit, sound-entries-rising}
 use Rattle.rules.proofs.SoundLaws.{table-sound}
-use Rattle.ngram.specs.Tables.{tableAt}
-use Rattle.license.specs.declared.views.Viewed.{Viewed}
-use Rattle.license.specs.Ready.{Tabled, tableOver, tableOfBody}
+use Rattle.ngram_table.specs.Tables.{tableAt}
+use Rattle.license_views.specs.declared.Viewed.{Viewed}
+use Rattle.license_views.specs.Tabled.{Tabled, tableOver}
+use Rattle.detection_shelf.specs.Bodies.{tableOfBody}
 
 pub no-nan : (x : Float) → T (unit x) → T (not (isNan x))
 unfolding unit le isNan

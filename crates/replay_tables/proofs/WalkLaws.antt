@@ -3,7 +3,7 @@
 -- Assumes nothing.
 use mathlib.Core.Path.{_≡_, sym, ap, _∙_}
 use mathlib.Core.Bool.{true}
-use mathlib.Core.List.{List, [], _∷_, _++_, append-assoc, append-nil}
+use mathlib.Core.List.{List, _∷_, _++_, append-assoc, append-nil}
 use mathlib.Core.Option.{some}
 use Prim.Native.Nat.{ℕ, _+_, _-_, _*_, _≤_, _<_}
 use native.Mathlib.Omega.{arith}
@@ -13,8 +13,8 @@ use Rattle.lists.specs.Wrote.{Wrote, Front}
 use Rattle.rules.specs.Prefix.{Counted}
 use Rattle.rules.specs.Book.{number, entryForm, entryOf, entriesOf, pieces, soundTable, tableIn}
 use Rattle.rules.proofs.SoundLaws.{table-size}
-use Rattle.ngram.proofs.MeetLaws.{entryEnd, storedEntry, Next, entry-next, entry-end, sound-some, body-total}
-use Rattle.license.specs.Ready.{tableOfBody}
+use Rattle.ngram_meet.proofs.MeetLaws.{entryEnd, storedEntry, Next, entry-next, entry-end, sound-some, body-total}
+use Rattle.detection_shelf.specs.Bodies.{tableOfBody}
 use Rattle.questions.specs.Numbers.{decimal}
 use Rattle.questions.specs.Hex.{hexed}
 use Rattle.questions.proofs.HexLaws.{hexed-length}

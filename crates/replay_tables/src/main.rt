@@ -1,15 +1,16 @@
 // Answers recorded questions `table TEXT` and `score START END TEXT LICENCE` as the original does (oracle/README.md): a text's table, and
 // the score of a view against a licence. Both texts go through the job compile or the view's table. Its input holds the questions, and what
 // it must write the original's own answers. Of a text 2,048 bytes are read. Assumes nothing but the C library's read and write.
-mod scores;
-mod tables;
-
 ghost use mathlib.Core.Path.{_≡_};
 ghost use Prim.Native.Nat.{_≤_};
 ghost use lib.ListN.{length};
 ghost use Rattle.lists.specs.Wrote.{Front};
 ghost use Rattle.slices.specs.Classes.{classTable};
 ghost use Rattle.replay_tables.specs.Told.{tableFor, scoreFor, tableAsked, scoreAsked, answerOf};
+
+mod scores;
+mod tables;
+
 use crate::scores::answer_view;
 use crate::tables::put_table;
 use compile::compile;

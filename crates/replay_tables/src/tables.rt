@@ -7,13 +7,13 @@ ghost use lib.ListN.{length, take, drop};
 ghost use lib.Seq.{slice};
 ghost use Rattle.lists.specs.Wrote.{Wrote, Front};
 ghost use Rattle.rules.specs.Book.{number, soundTable, entriesOf};
-ghost use Rattle.license.specs.Ready.{tableOfBody};
+ghost use Rattle.detection_shelf.specs.Bodies.{tableOfBody};
 ghost use Rattle.replay_tables.specs.Told.{entryTold, tableTold};
 use questions::hex::put_byte;
 use questions::hex::put_hex;
 use questions::numbers::put_number;
 use records::numbers::read_u32;
-use sort::wide;
+use slices::wide::wide;
 
 // The entry at a place of the body, whose bigram has so many bytes; answers where it ends.
 fn put_entry(body: &[u8], at: usize, len: usize, out: &mut [u8], to: usize) -> usize

@@ -1,7 +1,7 @@
 -- Top-down's rounds: what is found from line c on lies in [c, L], so c strictly rises (`contained-in`), and each round is its plain step
 -- (`down-step`). Bounds lie in their view (`bounds-in`).
 -- Assumes nothing.
-use mathlib.Core.Path.{_≡_, refl, sym, ap, _∙_, subst}
+use mathlib.Core.Path.{_≡_, refl, sym, ap, subst}
 use Prim.Native.Nat.{ℕ, zero, suc, _+_, _-_, _≤_, _<_}
 use native.Mathlib.Nat.{not-suc-le-zero, le-of-suc-le-suc}
 use native.Mathlib.Omega.{arith}
@@ -13,7 +13,7 @@ use lib.Dec.{ltb}
 use lib.Ieee.{lt}
 use borrow.Author.Tests.{ltb-true, ltb-false}
 use Rattle.rules.specs.declared.Limits.{Limits}
-use Rattle.rules.specs.Search.{View, view, Stored, Made, scoreView, search, Best, best, Bounds, bounds}
+use Rattle.rules.specs.Search.{View, view, Stored, Made, scoreView, search, best, bounds}
 use Rattle.rules.specs.Scan.{Event, found, Recorded, after, below, steps, viewsOf, Pair, latest, settled, contained, andOn, downOn, downFrom}
 use Rattle.rules.proofs.BoolLaws.{cond-of}
 use Rattle.rules.proofs.Steps.{Falls, recurse-step, search-in, steps-more, steps-end}

@@ -7,7 +7,7 @@ use mathlib.Core.List.{List, [], _∷_, _++_, map}
 use Prim.Native.Nat.{ℕ, zero, suc, _+_, _-_, _*_, _≤_, _<_, zero-le}
 use native.Mathlib.Omega.{arith}
 use lib.Dec.{ltb, eqb}
-use lib.ListN.{length, take, drop, length-append, length-take, length-drop, length-map}
+use lib.ListN.{length, take, drop, length-append, length-drop, length-map}
 use borrow.Author.Tests.{eqb-true, not-true}
 use Rattle.rules.specs.Bytes.{text, within, space, dropped, every, word, lead, lineLen, solid, starts, keep, runs, trimStart, addFront, trimEnd, trim, onFirst, split, join}
 use Rattle.rules.specs.Lines.{url, urls, gap, signs, lineBy, line, lines}

@@ -6,6 +6,7 @@ pub mod BoolLaws
 pub mod Steps
 pub mod HitLaws
 pub mod GrowthLaws
+pub mod DownLaws
 pub mod WordLaws
 pub mod OrderLaws
 pub mod ScoreRound
@@ -13,13 +14,12 @@ pub mod ScoreLaws
 pub mod Fifths
 pub mod ScoreOrder
 pub mod FloatOrder
+pub mod SoundLaws
 pub mod TableLaws
 pub mod PrefixLaws
 pub mod CountLaws
-pub mod ScanCountLaws
-pub mod DownLaws
 pub mod BudgetLaws
-pub mod SoundLaws
+pub mod ScanCountLaws
 pub mod ShelfLaws
 pub mod RefusalLaws
 pub mod VerdictLaws

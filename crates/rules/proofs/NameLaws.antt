@@ -8,7 +8,7 @@ use Prim.Native.Nat.{ℕ, suc, _+_, _≤_, _<_}
 use native.Mathlib.Nat.{zero-add}
 use native.Mathlib.Omega.{arith}
 use mathlib.Core.Bool.{Bool, true, false, cond}
-use mathlib.Core.List.{List, [], _∷_, _++_, append-nil}
+use mathlib.Core.List.{List, [], _∷_}
 use mathlib.Core.Option.{Option, none, some}
 use lib.ListN.{length, getD, take, drop, replicate, length-drop}
 use lib.Seq.{length-take-le, take-append-seam}
@@ -19,9 +19,8 @@ use Rattle.rules.specs.declared.Mode.{Mode}
 use Rattle.rules.specs.declared.Named.{Named}
 use Rattle.rules.specs.declared.Scanned.{Scanned}
 use Rattle.rules.specs.Sizes.{nameMost}
-use Rattle.rules.specs.Bytes.{within}
 use Rattle.rules.specs.Search.{Stored, noText, recurse, turns}
-use Rattle.rules.specs.Scan.{Event, verdict}
+use Rattle.rules.specs.Scan.{verdict}
 use Rattle.rules.specs.Book.{Record, recordsOf, pieces, goOn, front, entriesOf, storedKind, tableIn, storedIn, storedOf, storedFrom, stored, shelved, namesIn, namesOf, nameParts, noPart, partIn}
 use Rattle.rules.specs.Refusal.{Areas}
 use Rattle.rules.specs.Jobs.{over, happened, named, namePart, answered, scan}

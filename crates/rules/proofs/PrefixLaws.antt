@@ -9,12 +9,12 @@ use Prim.Native.Nat.{ℕ, zero, suc, _+_, _≤_, _<_, Ordering, Ordering·lt, Or
 use native.Mathlib.Omega.{arith}
 use lib.Dec.{ltb, eqb, isEq}
 use lib.ListN.{length}
-use borrow.Author.Tests.{ltb-true, ltb-false, lt-ltb, le-ltb, eq-eqb, ne-eqb, eqb-true, eqb-false}
+use borrow.Author.Tests.{ltb-true, ltb-false, lt-ltb, le-ltb, ne-eqb, eqb-true}
 use Rattle.rules.specs.Bytes.{order, same, starts}
 use Rattle.rules.specs.Prefix.{Counted, prefixes, see, seeAll, winner, reach, fourFifths, strip, stripWinner, withoutPrefix}
 use Rattle.rules.specs.Table.{tally, tallied, countIn}
 use Rattle.rules.proofs.OrderLaws.{flip, order-eq, order-flip, rises-is, same-by}
-use Rattle.rules.proofs.TableLaws.{Above, Rising, above-trans, tally-cons, placed, count-none, occurs, tallied-count, tallied-rising}
+use Rattle.rules.proofs.TableLaws.{Rising, tally-cons, placed, count-none, occurs, tallied-count, tallied-rising}
 
 -- ---- equal byte strings
 pub same-self : (g : List ℕ) → same g g ≡ true

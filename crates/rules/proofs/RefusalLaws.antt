@@ -2,12 +2,12 @@
 -- exactly if nothing else is refused and the list of scorings is longer than the budget, and that the count is the smaller of both.
 -- Assumes nothing.
 use mathlib.Core.Path.{_≡_, refl, sym, ap, _∙_}
-use Prim.Native.Nat.{ℕ, zero, suc, _+_, _≤_, _<_, min}
+use Prim.Native.Nat.{ℕ, _+_, _≤_, _<_, min}
 use native.Mathlib.Omega.{arith}
 use mathlib.Core.Bool.{Bool, true, false, not, _||_, cond}
 use mathlib.Core.List.{List, [], _∷_, _++_}
 use lib.ListN.{length, length-map}
-use lib.Dec.{leb, ltb, eqb}
+use lib.Dec.{ltb, eqb}
 use borrow.Author.Tests.{lt-ltb, le-ltb, eqb-true, eqb-false, ltb-true}
 use Rattle.rules.specs.declared.Limits.{Limits}
 use Rattle.rules.specs.declared.Mode.{Mode}
@@ -15,7 +15,7 @@ use Rattle.rules.specs.Sizes.{textMost, linesMost}
 use Rattle.rules.specs.Bytes.{every, split}
 use Rattle.rules.specs.Lines.{line, lines, lineCount}
 use Rattle.rules.specs.Book.{shelved, compiled}
-use Rattle.rules.specs.Scan.{Event, events, afford, scorings, records}
+use Rattle.rules.specs.Scan.{Event, events, afford, scorings}
 use Rattle.rules.specs.Refusal.{Row, row, refusal, ofText, ofBooks, Areas, beforeCompile, ofCompile, beforeScan, overBudget, ofScan}
 use Rattle.rules.specs.Jobs.{happened, answered, scan}
 use Rattle.rules.proofs.DownLaws.{Each}

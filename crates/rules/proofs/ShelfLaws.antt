@@ -7,22 +7,21 @@
 --     parts-length, names-length
 --     parts-lie, part-lies each part lies in its book; so does the part of any text, and of none
 -- Assumes nothing.
-use mathlib.Core.Path.{_≡_, refl, sym, ap, ap₂, _∙_, subst}
+use mathlib.Core.Path.{_≡_, refl, sym, ap, ap₂, _∙_}
 use Prim.Native.Nat.{ℕ, zero, suc, _+_, _-_, _≤_, _<_}
 use native.Mathlib.Nat.{not-suc-le-zero, le-of-suc-le-suc, add-zero, zero-add, add-suc}
 use native.Mathlib.Omega.{arith}
-use mathlib.Core.Bool.{Bool, true, false, _&&_, cond}
+use mathlib.Core.Bool.{Bool, true, false, cond}
 use mathlib.Core.List.{List, [], _∷_, _++_, map, append-nil}
 use mathlib.Core.Option.{Option, none, some}
-use lib.ListN.{length, getD, take, drop, length-append, length-map, length-take, length-drop, List·getD-append, List·getD-map}
+use lib.ListN.{length, getD, take, drop, length-append, length-map, length-drop, List·getD-append, List·getD-map}
 use lib.Seq.{getD-append-add, drop-drop, length-take-le}
-use lib.Dec.{leb, ltb, eqb}
+use lib.Dec.{ltb, eqb}
 use borrow.Author.Tests.{ltb-true, ltb-false}
 use Rattle.rules.specs.declared.Named.{Named}
 use Rattle.rules.specs.Jobs.{namePart}
-use Rattle.rules.specs.Sizes.{storedMost}
 use Rattle.rules.specs.Search.{Stored, noText, recurse, turns}
-use Rattle.rules.specs.Book.{number, Form, Piece, Front, front, also, goOn, pieces, recordForm, Record, recordOf, recordsOf, entriesOf, storedKind, tableIn, storedIn, storedOf, storedFrom, stored, sound, shelved, allSound, namesIn, noPart, namesOf, nameParts, partIn}
+use Rattle.rules.specs.Book.{number, Front, front, also, goOn, pieces, recordForm, Record, recordOf, recordsOf, entriesOf, storedKind, tableIn, storedIn, storedOf, storedFrom, stored, sound, shelved, allSound, namesIn, noPart, namesOf, nameParts, partIn}
 use Rattle.rules.proofs.BoolLaws.{and-left, and-right}
 use Rattle.rules.proofs.DownLaws.{Each, each-append}
 use Rattle.rules.proofs.Steps.{front-cut, pieces-step}

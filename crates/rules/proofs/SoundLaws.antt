@@ -1,23 +1,22 @@
 -- What is known of a sound book: every record lies within it, it has at most `storedMost` stored texts, and of each stored text the name,
 -- the kind, the number and the table (`StoredSound`).
 -- Assumes nothing.
-use mathlib.Core.Path.{_≡_, refl, sym, ap, _∙_, subst}
-use Prim.Native.Nat.{ℕ, zero, suc, _+_, _-_, _≤_, _<_}
+use mathlib.Core.Path.{_≡_, refl, ap}
+use Prim.Native.Nat.{ℕ, zero, suc, _+_, _≤_, _<_}
 use native.Mathlib.Nat.{not-suc-le-zero, le-of-suc-le-suc}
 use native.Mathlib.Omega.{arith}
 use mathlib.Core.Bool.{Bool, true, false, not, _&&_, _||_, cond, false≢true}
 use mathlib.Core.List.{List, [], _∷_, _++_}
 use mathlib.Core.Option.{Option, none, some}
-use lib.ListN.{length, getD, take, drop, length-take, length-drop}
-use lib.Dec.{leb, ltb, eqb}
-use borrow.Author.Tests.{leb-true, eqb-true, eqb-false, lt-leb, ne-eqb}
+use lib.ListN.{length, getD, drop, length-take, length-drop}
+use lib.Dec.{leb, eqb}
+use borrow.Author.Tests.{leb-true, eqb-true, lt-leb, ne-eqb}
 use Rattle.rules.specs.Sizes.{bookMost, storedMost, totalMost, nameMost}
 use Rattle.rules.specs.Bytes.{within, rises}
 use Rattle.rules.specs.Prefix.{Counted}
-use Rattle.rules.specs.Table.{Table}
 use Rattle.rules.specs.Search.{Stored, noText}
 use Rattle.rules.specs.Book
-use Rattle.rules.specs.Book.{number, Form, Piece, Front, front, recordForm, Record, recordOf, recordsOf, At, placed, recordAt, entriesOf, sum, soundEntries, soundTable, soundName, storedKind, soundBody, follows, soundRecords, tableIn, storedIn, storedOf, storedFrom, stored, filled, sound}
+use Rattle.rules.specs.Book.{number, Front, front, recordForm, Record, recordsOf, At, placed, recordAt, entriesOf, sum, soundEntries, soundTable, soundName, storedKind, soundBody, follows, soundRecords, tableIn, storedIn, storedOf, storedFrom, stored, filled, sound}
 use Rattle.rules.proofs.BoolLaws.{and-left, and-right, and-not}
 use Rattle.rules.proofs.Steps.{front-cut}
 use Rattle.rules.proofs.DownLaws.{Each, each-append}

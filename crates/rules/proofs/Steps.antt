@@ -2,16 +2,16 @@
 -- of each definition that recurses so: the search, the starts and ends of top-down, its rounds, and the pieces of a book.
 -- Assumes nothing.
 use mathlib.Core.Path.{_≡_, refl, sym, ap, ap₂, _∙_, subst}
-use Prim.Native.Nat.{ℕ, zero, suc, _+_, _-_, _*_, _/_, _≤_, _<_}
+use Prim.Native.Nat.{ℕ, zero, suc, _+_, _-_, _≤_, _<_}
 use native.Mathlib.Nat.{not-suc-le-zero}
 use native.Mathlib.Omega.{arith}
 use mathlib.Core.Bool.{Bool, true, false, cond}
-use mathlib.Core.List.{List, [], _∷_, _++_}
-use mathlib.Core.Option.{Option, none, some}
+use mathlib.Core.List.{List, [], _∷_}
+use mathlib.Core.Option.{none}
 use lib.ListN.{length, take, drop, length-drop}
 use lib.Dec.{leb, ltb}
 use lib.Ieee.{lt, le}
-use borrow.Author.Tests.{le-leb, lt-leb, leb-true, leb-false, ltb-true, ltb-false, lt-ltb, le-ltb}
+use borrow.Author.Tests.{le-leb, lt-leb, leb-true, leb-false, ltb-true, lt-ltb, le-ltb}
 use Rattle.rules.specs.Table.{Value}
 use Rattle.rules.specs.Search.{turns, recurse, Made, Index, Span, width, low, high, higher, narrow, sweepFrom, sweep, search, _>>=_}
 use Rattle.rules.specs.Scan.{stepsOn, steps}

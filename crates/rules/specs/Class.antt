@@ -5,7 +5,7 @@
 use Prim.Native.Nat.{ℕ}
 use mathlib.Core.Bool.{cond}
 use lib.Dec.{leb, eqb}
-use Rattle.rules.specs.Bytes.{text, within, among, newline, space, upper, lower, digit, dropped}
+use Rattle.rules.specs.Bytes.{text, among, newline, space, upper, lower, digit, dropped}
 
 -- punctuation
 unfoldable pub signOf : ℕ → ℕ

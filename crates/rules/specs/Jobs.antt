@@ -1,9 +1,9 @@
 -- The public jobs: for every input the answer, and what each lent area holds after it. A refusal's answer is its number, all else zero.
 -- Assumes nothing.
 use mathlib.Core.Path.{_≡_}
-use Prim.Native.Nat.{ℕ, _+_, _-_}
-use mathlib.Core.Bool.{Bool, false, _||_, cond}
-use mathlib.Core.List.{List, [], _∷_, _++_}
+use Prim.Native.Nat.{ℕ, _+_}
+use mathlib.Core.Bool.{false, _||_, cond}
+use mathlib.Core.List.{List, [], _++_}
 use lib.Dec.{eqb}
 use lib.ListN.{length, getD, drop, replicate}
 use Rattle.rules.specs.declared.Limits.{Limits}

@@ -1,7 +1,7 @@
 -- Bigrams, tables of them, and the score.
 -- Assumes nothing.
-use Prim.Native.Nat.{ℕ, _+_, _*_, min, Ordering, Ordering·lt, Ordering·eq, Ordering·gt}
-use mathlib.Core.Bool.{Bool, false, _||_, cond}
+use Prim.Native.Nat.{ℕ, _+_, _*_, min, Ordering·lt, Ordering·eq, Ordering·gt}
+use mathlib.Core.Bool.{false, _||_, cond}
 use mathlib.Core.List.{List, [], _∷_, _++_}
 use lib.Dec.{eqb}
 use lib.ListN.{length}

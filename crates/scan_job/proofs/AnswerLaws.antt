@@ -6,44 +6,42 @@
 -- Assumes nothing.
 use mathlib.Core.Path.{_≡_, refl, sym, ap, ap₂, _∙_, subst}
 use mathlib.Core.Bool.{Bool, true, false, cond}
-use mathlib.Core.List.{List, [], _∷_, _++_}
-use mathlib.Core.Option.{Option, none, some}
-use Prim.Native.Nat.{ℕ, _+_, _-_, _*_, _≤_, _<_, min}
+use mathlib.Core.List.{List, [], _++_}
+use mathlib.Core.Option.{none, some}
+use Prim.Native.Nat.{ℕ, _+_, _-_, _≤_}
 use native.Mathlib.Omega.{arith}
 use lib.Dec.{leb, ltb}
 use lib.Ieee.{lt}
-use lib.ListN.{length, take, drop, replicate, length-drop}
+use lib.ListN.{length, drop, replicate, length-drop}
 use lib.Seq.{length-take-le}
 use borrow.Author.Tests.{leb-true, leb-false, lt-ltb, le-ltb, ne-eqb}
-use Rattle.lists.specs.Wrote.{Wrote}
 use Rattle.rules.specs.declared.Limits.{Limits}
 use Rattle.rules.specs.declared.Mode.{Mode}
 use Rattle.rules.specs.declared.Scanned.{Scanned}
 use Rattle.rules.specs.Book.{shelved, nameParts, noPart}
-use Rattle.rules.specs.Sizes.{nameMost, linesMost, recordWidth}
+use Rattle.rules.specs.Sizes.{nameMost}
 use Rattle.rules.specs.Lines.{lines}
 use Rattle.rules.specs.Table.{nought}
 use Rattle.rules.specs.Search as rules
 use Rattle.rules.specs.Search.{Stored, noText, noBest}
 use Rattle.rules.specs.Scan.{Event, events, afford, scorings, records, verdict, names, numbers}
-use Rattle.detection.specs.Shelves.{Shelf, texts, bookIn, textIn, partOf, partsOf}
-use Rattle.rules.specs.Refusal.{refusal, ofScan, beforeScan, stepZero, resultsNeed, Areas}
+use Rattle.detection_shelf.specs.Shelves.{Shelf, texts, bookIn, textIn, partOf, partsOf}
+use Rattle.rules.specs.Refusal.{refusal, ofScan, beforeScan, resultsNeed, Areas}
 use Rattle.rules.specs.Jobs.{over, lent, named, namePart, answered, happened, scan, resultsAfter, areaAfter, ScanDone}
 use Rattle.rules.proofs.BudgetLaws.{afford-count}
 use Rattle.rules.proofs.RefusalLaws.{lines-count, scan-before, scan-then, scan-happened}
 use Rattle.rules.proofs.NameLaws.{ReadAs}
 use Rattle.rules.proofs.ScanCountLaws.{results-fit, numbers-length}
-use Rattle.detection.specs.declared.texts.Text.{Text}
-use Rattle.detection.specs.Texts.{part}
+use Rattle.detection_texts.specs.Texts.{part}
 use Rattle.detect.specs.declared.Best.{Best}
 use Rattle.detect.specs.Bests.{bestIn}
 use Rattle.refusals.proofs.AreaLaws.{kept}
 use Rattle.refusals.proofs.AdmitLaws.{scan-most}
 use Rattle.refusals.specs.Admits.{ScanThrough}
-use Rattle.scan.specs.declared.ranges.Run.{Run}
-use Rattle.scan.specs.declared.elimination.Outcome.{Outcome}
-use Rattle.scan.specs.Run.{written, leftOver, runOf, Ran}
-use Rattle.scan.specs.Ended.{NameFits, Eliminated}
+use Rattle.scan_ranges.specs.declared.Run.{Run}
+use Rattle.scan_elimination.specs.declared.Outcome.{Outcome}
+use Rattle.scan_ranges.specs.Run.{written, leftOver, runOf}
+use Rattle.scan_elimination.specs.Ended.{NameFits, Eliminated}
 use Rattle.scan_job.specs.Answers.{namedIn, partFor, KindIs, answerFor, refusedBy, full, stopped, Scans}
 
 -- ---- the text that is named

@@ -7,9 +7,9 @@
 --     part-lies, part-named, part-length   the name's part lies in the book that it names, its bytes are the name, and as many
 --     part-handed                       `name_part` of the answer hands back the part that the definition gives
 -- Assumes nothing.
-use mathlib.Core.Path.{_≡_, refl, sym, ap, _∙_, subst}
+use mathlib.Core.Path.{_≡_, sym, ap, _∙_, subst}
 use mathlib.Core.Bool.{Bool}
-use mathlib.Core.List.{List, [], _∷_, _++_}
+use mathlib.Core.List.{List}
 use Prim.Native.Nat.{ℕ, _≤_, _<_, min}
 use native.Mathlib.Omega.{arith}
 use lib.ListN.{length, take}
@@ -22,11 +22,11 @@ use Rattle.rules.specs.Scan.{Event, events, afford, scorings, records, numbers}
 use Rattle.rules.specs.Book.{shelved, partIn}
 use Rattle.rules.specs.Count.{mostElimination, mostTopDown}
 use Rattle.rules.specs.Refusal.{refusal, beforeScan, ofScan}
-use Rattle.rules.specs.Jobs.{lent, over, happened, answered, scan, resultsAfter, ScanDone}
+use Rattle.rules.specs.Jobs.{lent, over, answered, scan, resultsAfter, ScanDone}
 use Rattle.rules.proofs.ShelfLaws.{Lies}
 use Rattle.rules.proofs.NameLaws.{ReadAs, answer-lies, answer-named, answer-length}
-use Rattle.detection.specs.Shelves.{fitting}
-use Rattle.detection.proofs.ShelfLaws.{part-fits}
+use Rattle.detection_shelf.specs.Shelves.{fitting}
+use Rattle.detection_shelf.proofs.ShelfLaws.{part-fits}
 use Rattle.rules.proofs.BudgetLaws.{Begins, records-begins}
 use Rattle.rules.proofs.RefusalLaws.{lines-count, scan-over, scan-only, scan-count, scan-happened}
 use Rattle.rules.proofs.ScanCountLaws.{elimination-count, topDown-count}

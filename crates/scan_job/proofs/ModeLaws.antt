@@ -15,14 +15,14 @@ use Rattle.rules.specs.Search.{Stored, noBest}
 use Rattle.rules.specs.Scan.{Event, topDown, elimination, events}
 use Rattle.rules.specs.Refusal.{stepZero}
 use Rattle.rules.proofs.VerdictLaws.{verdict-prefix, down-verdict}
-use Rattle.detection.specs.Shelves.{Shelf}
+use Rattle.detection_shelf.specs.Shelves.{Shelf}
 use Rattle.detect.specs.declared.Best.{Best}
 use Rattle.detect.proofs.BestLaws.{noneYet, none-is}
 use Rattle.detect.specs.Bests.{bestIn}
-use Rattle.scan.specs.declared.elimination.Outcome.{Outcome}
-use Rattle.scan.specs.Run.{Ran}
-use Rattle.scan.specs.Ended.{NameFits, Eliminated}
-use Rattle.scan.proofs.EndLaws.{none-name}
+use Rattle.scan_elimination.specs.declared.Outcome.{Outcome}
+use Rattle.scan_ranges.specs.Run.{Ran}
+use Rattle.scan_elimination.specs.Ended.{NameFits, Eliminated}
+use Rattle.scan_elimination.proofs.EndLaws.{none-name}
 
 -- ---- by mode
 module _ (lim : Limits) (mode : Mode) (ss : List Stored) (ls : List (List ℕ)) where

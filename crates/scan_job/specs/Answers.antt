@@ -1,8 +1,8 @@
 -- The answer of the job `scan`, over how the scan ended.
 -- Assumes nothing.
 use mathlib.Core.Path.{_≡_}
-use mathlib.Core.Bool.{Bool, cond}
-use mathlib.Core.List.{List, []}
+use mathlib.Core.Bool.{cond}
+use mathlib.Core.List.{List}
 use Prim.Native.Nat.{ℕ, _-_}
 use lib.Dec.{ltb}
 use lib.Ieee.{lt}
@@ -18,10 +18,10 @@ use Rattle.rules.specs.Book.{noPart}
 use Rattle.rules.specs.Lines.{lines}
 use Rattle.rules.specs.Scan.{Event, events, afford, scorings, records, numbers}
 use Rattle.rules.specs.Jobs.{over, named, answered}
-use Rattle.detection.specs.Shelves.{Shelf, texts, partOf, partsOf}
+use Rattle.detection_shelf.specs.Shelves.{Shelf, texts, partOf, partsOf}
 use Rattle.detect.specs.declared.Best.{Best}
 use Rattle.detect.specs.Bests.{bestIn}
-use Rattle.scan.specs.declared.elimination.Outcome.{Outcome}
+use Rattle.scan_elimination.specs.declared.Outcome.{Outcome}
 
 -- a refusal before any work: its number, all else zero
 abbrev pub refusedBy : ℕ → Scanned

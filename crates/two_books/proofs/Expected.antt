@@ -2,14 +2,13 @@
 -- program's calls on its left, and the text of the file `stdout` on its right.
 -- Assumes nothing.
 use mathlib.Core.Path.{_≡_, refl}
-use mathlib.Core.Bool.{Bool, false, cond}
+use mathlib.Core.Bool.{false, cond}
 use mathlib.Core.List.{List, [], _∷_, _++_}
 use Prim.Native.Nat.{ℕ}
 use Prim.Native.String.{String}
 use lib.Ieee.{Float, toBits, ofBits, binary32}
 use lib.ListN.{length, take}
 use Rattle.rules.specs.declared.Limits.{Limits}
-use Rattle.rules.specs.declared.Mode.{Mode}
 use Rattle.rules.specs.declared.Mode.the-variants.{Elimination}
 use Rattle.rules.specs.Bytes.{text}
 use Rattle.rules.specs.Search.{view}

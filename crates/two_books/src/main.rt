@@ -4,9 +4,8 @@
 //
 // The expected lines, in stdout, are not this code's: antt computes them from the definitions of the crate rules (proofs/Expected.antt,
 // `lines-hold`, one equation by `refl`). Assumes nothing but the C library's write.
-use detection::shelf::name_part;
-use jobs::bounds::bounds_both;
-use jobs::score::score_both;
+use bounds_job::bounds_both;
+use detection_shelf::name_part;
 use rules::Limits;
 use rules::Mode;
 use rules::Named;
@@ -14,6 +13,7 @@ use rules::Scanned;
 use rules::View;
 use scan_job::scan;
 use scan_job::scan_both;
+use score_job::score_both;
 use telling::print;
 use telling::print_bits;
 use telling::print_count;

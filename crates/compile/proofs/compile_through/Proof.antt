@@ -5,12 +5,6 @@ use borrow.Author.Needs.{needs}
 use Rattle.compile.proofs.BodyLaws.{compiled-is, bodied-as, zeroed}
 use Rattle.compile.proofs.compile_through.Statement.{statement}
 use Rattle.compile.proofs.compile_through.Tie as tie
-use Rattle.compile.proofs.compile_through.Reads as reads
-use Rattle.compile.proofs.compile_through.Lts as lts
-use Rattle.compile.proofs.write_body.Reads as write-body-reads
-use Rattle.license.proofs.notes.lay.Reads as lay-reads
-use Rattle.license.proofs.views.view_table.Reads as view-table-reads
-use Rattle.slices.proofs.class.class_table.Reads as class-table-reads
 
 class-table-requires : tie.Need-class-table-requires
 class-table-requires c κs = search needs

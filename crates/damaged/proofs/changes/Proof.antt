@@ -3,7 +3,7 @@
 use lib.ListN.{length, length-set}
 use native.Mathlib.Omega.{arith}
 use Prim.Native.Nat.{_-_, _≤_}
-use mathlib.Core.Path.{_≡_, _∙_}
+use mathlib.Core.Path.{_≡_}
 use borrow.Author.Needs.{needs}
 use Rattle.damaged.proofs.changes.Statement.{statement}
 use Rattle.damaged.proofs.changes.Tie as tie

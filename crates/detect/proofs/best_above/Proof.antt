@@ -4,10 +4,6 @@ use borrow.Author.Needs.{needs}
 use Rattle.detect.proofs.BestLaws.{best-above}
 use Rattle.detect.proofs.best_above.Statement.{statement}
 use Rattle.detect.proofs.best_above.Tie as tie
-use Rattle.detect.proofs.best_above.Reads as reads
-use Rattle.detect.proofs.best_above.Lts as lts
-use Rattle.detect.proofs.best_of.Reads as best-of-reads
-use Rattle.license.proofs.views.view_table.Reads as view-table-reads
 
 view-table-requires : tie.Need-view-table-requires
 view-table-requires c κs = search needs

@@ -5,10 +5,10 @@ use Prim.Native.Nat.{_-_}
 use native.Mathlib.Omega.{arith}
 use denote.Ref.{now}
 use borrow.Author.Needs.{needs}
-use Rattle.detection.specs.declared.shelf.Spot.{Spot}
-use Rattle.detection.specs.Shelves.{shelf}
-use Rattle.detection.proofs.ShelfLaws.{stands-inside, counted-most}
-use Rattle.license.specs.Ready.{tableOver}
+use Rattle.detection_shelf.specs.declared.Spot.{Spot}
+use Rattle.detection_shelf.specs.Shelves.{shelf}
+use Rattle.detection_shelf.proofs.ShelfLaws.{stands-inside, counted-most}
+use Rattle.license_views.specs.Tabled.{tableOver}
 use Rattle.detect.proofs.BestLaws.{Walking, walk-first, walk-step, walk-out, walk-end}
 use Rattle.detect.proofs.best_of.Statement.{statement}
 use Rattle.detect.proofs.best_of.Tie as tie

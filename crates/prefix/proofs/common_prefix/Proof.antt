@@ -14,22 +14,17 @@ use Rattle.rules.specs.Prefix.{prefixes, strip, withoutPrefix}
 use Rattle.rules.proofs.TableLaws.{occurs}
 use Rattle.rules.specs.Search.{viewed}
 use Rattle.rules.proofs.PrefixLaws.{without-none}
-use Rattle.preproc_lines.specs.Entries.{linesFrom, linesAt, Apart}
-use Rattle.preproc_lines.proofs.EntryLaws.{lines-viewed, lines-length}
-use Rattle.prefix.specs.declared.list.Listed.{Listed}
-use Rattle.prefix.specs.Listing.{plainLines, Stands}
-use Rattle.prefix.specs.declared.choice.Common.the-variants.{Prefix}
-use Rattle.prefix.specs.Choice.{Decided}
+use Rattle.preproc_table.specs.Entries.{linesFrom, linesAt}
+use Rattle.preproc_table.proofs.EntryLaws.{lines-viewed, lines-length}
+use Rattle.prefix_list.specs.declared.Listed.{Listed}
+use Rattle.prefix_list.specs.Listing.{plainLines, Stands}
+use Rattle.prefix_choice.specs.declared.Common.the-variants.{Prefix}
+use Rattle.prefix_choice.specs.Choice.{Decided}
 use Rattle.prefix.proofs.PlainLaws.{plain-prefixes, plain-viewed}
-use Rattle.prefix.proofs.StandLaws.{stands-listed, stands-fits, stands-none, apart-same, view-same}
+use Rattle.prefix_choice.proofs.StandLaws.{stands-listed, stands-fits, stands-none, apart-same, view-same}
 use borrow.Author.Needs.{needs}
 use Rattle.prefix.proofs.common_prefix.Statement.{statement}
 use Rattle.prefix.proofs.common_prefix.Tie as tie
-use Rattle.prefix.proofs.common_prefix.Reads as reads
-use Rattle.prefix.proofs.common_prefix.Lts as lts
-use Rattle.prefix.proofs.choice.choose.Reads as choose-reads
-use Rattle.prefix.proofs.choice.home.Reads as home-reads
-use Rattle.prefix.proofs.list.list_prefixes.Reads as list-prefixes-reads
 
 -- what is known once the prefixes are listed
 module _ (x : tie.After-list-prefixes) where

@@ -4,7 +4,7 @@ use mathlib.Core.Path.{sym, ap, _∙_}
 use mathlib.Core.Bool.{Bool, cond}
 use native.Mathlib.Omega.{arith}
 use borrow.Author.Needs.{needs}
-use Rattle.preproc_lines.proofs.CountLaws.{passed-length}
+use Rattle.preproc_test.proofs.CountLaws.{passed-length}
 use Rattle.refusals.proofs.AdmitLaws.{compile-first, compile-then}
 use Rattle.refusals.proofs.admit_compile.Statement.{statement}
 use Rattle.refusals.proofs.admit_compile.Tie as tie

@@ -2,7 +2,7 @@
 -- Assumes nothing.
 use native.Mathlib.Omega.{arith}
 use denote.Ref.{now}
-use Rattle.detection.specs.Shelves.{shelf}
+use Rattle.detection_shelf.specs.Shelves.{shelf}
 use borrow.Author.Needs.{needs}
 use Rattle.refusals.proofs.AdmitLaws.{both-first, both-then, both-through, scan-rows}
 use Rattle.refusals.proofs.admit_scan.Statement.{statement}

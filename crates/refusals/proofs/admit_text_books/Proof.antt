@@ -4,7 +4,7 @@ use mathlib.Core.Path.{refl, sym, _∙_}
 use denote.Ref.{now}
 use native.Mathlib.Omega.{arith}
 use borrow.Author.Needs.{needs}
-use Rattle.detection.specs.Shelves.{shelf}
+use Rattle.detection_shelf.specs.Shelves.{shelf}
 use Rattle.refusals.proofs.AdmitLaws.{tested-lines, text-first, text-then, both-refused, checks-first, checks-second, checks-counted, checks-fit, checks-none, checks-some}
 use Rattle.refusals.proofs.admit_text_books.Statement.{statement}
 use Rattle.refusals.proofs.admit_text_books.Tie as tie

@@ -1,7 +1,7 @@
 -- `refusals::admit_view` meets its contract: refusals 1 to 5 decide, or the view's rows.
 -- Assumes nothing.
 use denote.Ref.{now}
-use Rattle.detection.specs.Shelves.{shelf}
+use Rattle.detection_shelf.specs.Shelves.{shelf}
 use borrow.Author.Needs.{needs}
 use Rattle.refusals.proofs.AdmitLaws.{both-first, both-then, both-through, view-rows}
 use Rattle.refusals.proofs.admit_view.Statement.{statement}

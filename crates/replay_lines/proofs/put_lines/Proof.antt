@@ -11,7 +11,7 @@ use lib.ListN.{length, take, drop}
 use Rattle.lists.proofs.WriteLaws.{Part, part-start, part-skip, part-room, part-space, part-end}
 use Rattle.questions.specs.Hex.{hexed}
 use Rattle.questions.proofs.PutLaws.{part-wrote}
-use Rattle.preproc_lines.specs.Entries.{linesFrom, linesAt}
+use Rattle.preproc_table.specs.Entries.{linesFrom, linesAt}
 use Rattle.replay_lines.specs.Told.{told}
 use Rattle.replay_lines.proofs.ToldLaws.{line-part, told-step, told-start, told-end}
 use borrow.Author.Needs.{needs}

@@ -1,12 +1,11 @@
 -- `answer_view`: no answer where the text is refused or the view lies outside it, and else the view of its lines.
 -- Assumes nothing.
-use mathlib.Core.Path.{_≡_, sym, _∙_}
-use mathlib.Core.Bool.{true}
+use mathlib.Core.Path.{sym, _∙_}
 use native.Mathlib.Omega.{arith}
 use denote.Ref.{now}
 use borrow.Author.Tests.{not-true, not-false}
 use Rattle.questions.proofs.PutLaws.{front-none}
-use Rattle.questions.proofs.FitLaws.{Fits, fits}
+use Rattle.questions.proofs.FitLaws.{fits}
 use Rattle.replay_views.proofs.ToldLaws.{no-view, right-view}
 use borrow.Author.Needs.{needs}
 use Rattle.replay_views.proofs.answer_view.Statement.{statement}

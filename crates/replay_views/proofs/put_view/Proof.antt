@@ -1,6 +1,5 @@
 -- `put_view`: the processed text in hex, and the newline behind it.
 -- Assumes nothing.
-use mathlib.Core.Path.{_∙_}
 use mathlib.Core.List.{[], _∷_}
 use native.Mathlib.Omega.{arith}
 use Rattle.lists.proofs.SliceLaws.{part-slice}

@@ -3,7 +3,7 @@
 use Prim.Native.Nat.{_-_}
 use denote.Ref.{now}
 use borrow.Author.Needs.{needs}
-use Rattle.detection.specs.Shelves.{shelf}
+use Rattle.detection_shelf.specs.Shelves.{shelf}
 use Rattle.scan_job.proofs.answer.Statement.{statement}
 use Rattle.scan_job.proofs.answer.Tie as tie
 

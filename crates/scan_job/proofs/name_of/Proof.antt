@@ -9,8 +9,8 @@ use denote.Ref.{now}
 use borrow.Author.Needs.{needs}
 use Rattle.rules.specs.Sizes.{nameMost}
 use Rattle.rules.specs.Jobs.{over}
-use Rattle.detection.specs.Texts.{part}
-use Rattle.detection.specs.Shelves.{shelf, bookIn}
+use Rattle.detection_texts.specs.Texts.{part}
+use Rattle.detection_shelf.specs.Shelves.{shelf, bookIn}
 use Rattle.scan_job.proofs.AnswerLaws.{name-yes, name-no}
 use Rattle.scan_job.proofs.name_of.Statement.{statement}
 use Rattle.scan_job.proofs.name_of.Tie as tie

@@ -1,12 +1,12 @@
 -- `scan_job::scan_laid` meets its contract: the note's lines are laid, the scan of its mode ends, and its answer is the definition's.
 -- Assumes nothing.
-use mathlib.Core.Path.{sym, ap, _∙_, subst}
+use mathlib.Core.Path.{sym, ap, _∙_}
 use mathlib.Core.List.{List}
 use native.Mathlib.Omega.{arith}
 use Prim.Native.Nat.{ℕ}
 use denote.Ref.{now}
 use borrow.Author.Needs.{needs}
-use Rattle.detection.specs.Shelves.{shelf, texts}
+use Rattle.detection_shelf.specs.Shelves.{shelf, texts}
 use Rattle.rules.specs.Scan.{events}
 use Rattle.scan_job.proofs.ModeLaws.{eliminated-as}
 use Rattle.scan_job.proofs.AnswerLaws.{scan-room, answer-fits, answer-is, results-are}

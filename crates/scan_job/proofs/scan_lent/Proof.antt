@@ -3,8 +3,8 @@
 use mathlib.Core.Path.{sym, _∙_}
 use denote.Ref.{now}
 use borrow.Author.Needs.{needs}
-use Rattle.detection.specs.Shelves.{shelf, booksOf}
-use Rattle.detection.proofs.ShelfLaws.{lent-read}
+use Rattle.detection_shelf.specs.Shelves.{shelf, booksOf}
+use Rattle.detection_shelf.proofs.ShelfLaws.{lent-read}
 use Rattle.refusals.proofs.AdmitLaws.{scan-through}
 use Rattle.scan_job.proofs.AnswerLaws.{scan-refused, scan-done}
 use Rattle.scan_job.proofs.scan_lent.Statement.{statement}

@@ -1,13 +1,13 @@
 -- `scan_job::scan_mode` meets its contract: the events of a mode are those of its scan.
 -- Assumes nothing.
-use mathlib.Core.Path.{_∙_, subst}
+use mathlib.Core.Path.{subst}
 use mathlib.Core.List.{List}
 use Prim.Native.Nat.{_≤_}
 use lib.ListN.{length}
 use denote.Ref.{now}
 use borrow.Author.Needs.{needs}
 use Rattle.rules.specs.Scan.{Event}
-use Rattle.scan.specs.Run.{written}
+use Rattle.scan_ranges.specs.Run.{written}
 use Rattle.scan_job.proofs.ModeLaws.{by-elimination, by-top-down, step-above, eliminated-as, down-ended}
 use Rattle.scan_job.proofs.scan_mode.Statement.{statement}
 use Rattle.scan_job.proofs.scan_mode.Tie as tie

@@ -1,8 +1,7 @@
 -- `score_bits`: what is not below 0.0 is no NaN.
 -- Assumes nothing.
 use mathlib.Core.Bool.{true, false, not, cond}
-use mathlib.Core.Path.{_≡_, refl, sym, subst}
-use Prim.Native.Nat.{ℕ}
+use mathlib.Core.Path.{_≡_, sym, subst}
 use lib.Dec.{T}
 use lib.Ieee.{Float, nan, inf, fin, le, isNan, toBits, ofBits, binary32}
 use Rattle.rules.specs.Table.{nought}

@@ -5,7 +5,7 @@ use native.Mathlib.Omega.{arith}
 use denote.Ref.{now}
 use lib.ListN.{length, drop, length-take, length-drop}
 use Rattle.slices.proofs.KindLaws.{by-table, dropped-table, space-table}
-use Rattle.preproc_lines.proofs.PassLaws.{drops-as}
+use Rattle.preproc_runs.proofs.PassLaws.{drops-as}
 use Rattle.preproc_lines.proofs.LineLaws.{kept-short, urls-room, urls-end-low, urls-end-high, filled}
 use borrow.Author.Needs.{needs}
 use Rattle.preproc_lines.proofs.line.fill_line.Statement.{statement}

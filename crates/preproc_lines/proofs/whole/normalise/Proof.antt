@@ -7,7 +7,7 @@ use native.Mathlib.Omega.{arith}
 use denote.Ref.{now}
 use lib.ListN.{length, take, drop}
 use Rattle.rules.specs.Sizes.{textMost}
-use Rattle.preproc_lines.proofs.CountLaws.{passed-length}
+use Rattle.preproc_test.proofs.CountLaws.{passed-length}
 use Rattle.preproc_lines.proofs.WholeLaws.{Going, going-start, piece-within, piece-length, end-top, going-on, going-end}
 use borrow.Author.Needs.{needs}
 use Rattle.preproc_lines.proofs.whole.normalise.Statement.{statement}

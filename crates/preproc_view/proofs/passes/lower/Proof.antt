@@ -3,7 +3,7 @@
 use mathlib.Core.Path.{sym, _∙_}
 use native.Mathlib.Omega.{arith}
 use denote.Ref.{now}
-use Rattle.preproc_view.proofs.LeafLaws.{lower-yes, lower-no, upper-most}
+use Rattle.slices.proofs.LeafLaws.{lower-yes, lower-no, upper-most}
 use borrow.Author.Needs.{needs}
 use Rattle.preproc_view.proofs.passes.lower.Statement.{statement}
 use Rattle.preproc_view.proofs.passes.lower.Tie as tie

@@ -9,7 +9,7 @@ use lib.Seq.{slice}
 use Rattle.lists.proofs.SliceLaws.{slice-done}
 use Rattle.lists.proofs.InPlaceLaws.{Over, over-next, over-put, over-end}
 use Rattle.rules.specs.Passes.{lowered}
-use Rattle.preproc_view.proofs.LeafLaws.{lowered-next, lowered-done}
+use Rattle.slices.proofs.LeafLaws.{lowered-next, lowered-done}
 use borrow.Author.Needs.{needs}
 use Rattle.preproc_view.proofs.passes.lower_in.Statement.{statement}
 use Rattle.preproc_view.proofs.passes.lower_in.Tie as tie

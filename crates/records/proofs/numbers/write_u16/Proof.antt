@@ -3,7 +3,7 @@
 use mathlib.Core.Path.{_≡_}
 use Rattle.rules.specs.Book.{written}
 use Rattle.records.specs.Written.{putAt}
-use Prim.Native.Nat.{_+_, _/_, _%_}
+use Prim.Native.Nat.{_/_, _%_}
 use mathlib.Core.List.{[], _∷_}
 use lib.Seq.{sets-eq}
 use native.Mathlib.Numerals.{add-one}

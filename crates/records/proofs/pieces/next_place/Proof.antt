@@ -1,6 +1,6 @@
 -- `records::pieces::next_place` meets its contract: case by case.
 -- Assumes nothing.
-use mathlib.Core.Path.{sym, ap, _∙_}
+use mathlib.Core.Path.{sym, ap}
 use native.Mathlib.Omega.{arith}
 use Rattle.rules.specs.Book.{nextPlace}
 use Rattle.records.specs.Places.{atOf}

@@ -2,9 +2,7 @@
 -- Assumes nothing.
 use native.Mathlib.Omega.{arith}
 use denote.Ref.{now}
-use lib.ListN.{length}
 use mathlib.Core.Path.{subst}
-use mathlib.Core.List.{List}
 use Prim.Native.Nat.{ℕ, _+_}
 use Rattle.lists.specs.Wrote.{Front}
 use Rattle.questions.specs.Fields.{textOf}

@@ -1,7 +1,6 @@
 -- `put_text`: the table from the sixth byte on, then the head before it.
 -- Assumes nothing.
 use native.Mathlib.Omega.{arith}
-use denote.Ref.{now}
 use Rattle.replay_scans.specs.Shelf.{stays}
 use Rattle.replay_scans.proofs.ShelfLaws.{stays-at, stayed, grown, compiled-length, compiled-front}
 use borrow.Author.Needs.{needs}

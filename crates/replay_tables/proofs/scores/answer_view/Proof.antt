@@ -1,15 +1,12 @@
 -- `answer_view`: no answer where the text is refused or the view lies outside it, and else its score.
 -- Assumes nothing.
-use mathlib.Core.Path.{_≡_, sym, ap, _∙_}
+use mathlib.Core.Path.{sym, _∙_}
 use native.Mathlib.Omega.{arith}
 use denote.Ref.{now}
 use borrow.Author.Tests.{not-true, not-false}
-use Rattle.rules.specs.declared.Value.{Value}
-use Rattle.rules.specs.Table.{Table, valueOf}
-use Rattle.license.specs.Ready.{tableOfBody}
+use Rattle.detection_shelf.specs.Bodies.{tableOfBody}
 use Rattle.questions.proofs.PutLaws.{front-none}
 use Rattle.questions.proofs.FitLaws.{fits}
-use Rattle.replay_tables.specs.Told.{bitsTold}
 use Rattle.replay_tables.proofs.ToldLaws.{no-view, right-view}
 use Rattle.replay_tables.proofs.ScoreLaws.{score-unit}
 use borrow.Author.Needs.{needs}

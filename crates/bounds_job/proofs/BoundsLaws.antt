@@ -1,0 +1,89 @@
+-- The answer of the job `bounds`: a budget of 104 pays every search of a note that is let through, so that none runs out.
+--     bounds-most                     no bounds take more than 104 scorings
+--     answer-fits, answer-is          what the search found fits the answer, and says what the definition says
+--     bounds-refused, bounds-done     the two ends of the job
+-- Assumes nothing.
+use mathlib.Core.Path.{_≡_, ap, _∙_}
+use mathlib.Core.List.{List}
+use Prim.Native.Nat.{ℕ, _-_, _≤_}
+use native.Mathlib.Omega.{arith}
+use lib.ListN.{length, getD, replicate}
+use borrow.Author.Tests.{ne-eqb, le-leb}
+use Rattle.rules.specs.declared.View.{View}
+use Rattle.rules.specs.declared.Bounded.{Bounded}
+use Rattle.rules.specs.Sizes.{linesMost}
+use Rattle.rules.specs.Lines.{lines}
+use Rattle.rules.specs.Search.{Stored, noText, bounds}
+use Rattle.rules.specs.Count.{mostFor}
+use Rattle.rules.specs.Book.{shelved}
+use Rattle.rules.specs.Refusal.{refusal, ofView}
+use Rattle.rules.specs.Jobs.{lent, boundsFound, boundsJob, BoundsDone}
+use Rattle.rules.proofs.CountLaws.{rounds-least, bounds-count}
+use Rattle.rules.proofs.DownLaws.{bounds-in}
+use Rattle.license_bounds.specs.declared.Ranged.{Ranged}
+use Rattle.license_bounds.specs.declared.Ranged.the-variants.{Found}
+use Rattle.license_charge.specs.Pay.{pay}
+use Rattle.license_bounds.specs.Found.{rangedOf}
+use Rattle.refusals.proofs.AdmitLaws.{view-most}
+use Rattle.refusals.proofs.AreaLaws.{kept, zeroed}
+use Rattle.bounds_job.specs.Answers.{refusedBy, answerFor, FitsAnswer}
+
+-- 24 rounds of a search take 65,536 lines down to four
+most-lines : mostFor linesMost ≤ 52
+unfolding mostFor
+most-lines = omega (arith, rounds-least linesMost 24 (omega arith))
+
+module _ (ls : List (List ℕ)) (v : View) (s : Stored) (order : v .start ≤ v .end) (inside : v .end ≤ linesMost) where
+  abbrev count : ℕ
+  count = length (bounds ls v s .list)
+
+  pub bounds-most : count ≤ 104
+  bounds-most = omega (arith, bounds-count ls v s linesMost order inside, most-lines)
+
+  abbrev answer : Bounded
+  answer =
+      let b = bounds ls v s .value in
+      record { refusal = 0; first = b .first; after = b .after; score = b .value .score; count = count }
+
+  module _ (x : Ranged) (found : x ≡ rangedOf (pay (bounds ls v s) 104)) where
+    is-found : x ≡ Found (bounds ls v s .value) (104 - count)
+    unfolding pay rangedOf
+    is-found = found ∙ rw (le-leb count 104 bounds-most)
+
+    pub answer-fits : FitsAnswer x 104
+    unfolding FitsAnswer
+    answer-fits = let i = bounds-in ls v s order in rw is-found (omega arith, omega arith, omega arith)
+
+    pub answer-is : answerFor x 104 ≡ answer
+    unfolding answerFor
+    answer-is =
+        let b = bounds ls v s .value in
+        ap (λ (y : Ranged). answerFor y 104) is-found ∙
+        ap (λ (n : ℕ). record { refusal = 0; first = b .first; after = b .after; score = b .value .score; count = n }) (paid bounds-most)
+      where
+        paid : count ≤ 104 → 104 - (104 - count) ≡ count
+        paid h = omega arith
+
+pub bounds-found : (t : List ℕ) (ss : List Stored) (ls : List (List ℕ)) (v : View) (k : ℕ) (x : Bounded) (order : v .start ≤ v .end) (inside : v .end ≤ linesMost) → ls ≡ lines t →
+    x ≡ answer ls v (getD ss k noText) order inside → x ≡ boundsFound t ss v k
+unfolding boundsFound
+bounds-found t ss ls v k x order inside l e = e ∙ rw l
+
+-- ---- the two ends of the job
+module _ (t : List ℕ) (bs : List (List ℕ)) (v : View) (k : ℕ) (b₀ w₀ : List ℕ) where
+  abbrev number : ℕ
+  number = refusal (ofView t bs v k (lent b₀ w₀))
+
+  pub bounds-refused : (n : ℕ) (x : Bounded) → n ≡ number → (n ≡ 0 → ⊥) → x ≡ refusedBy n → BoundsDone t bs v k b₀ b₀ w₀ w₀ x
+  unfolding boundsJob
+  bounds-refused n x e q r =
+      let h : n ≤ 10 = omega (arith, view-most t bs v k (lent b₀ w₀)) in
+      rw r (record { answer = rw (← e, ne-eqb n 0 q); bytes = kept n b₀ q h; words = kept n w₀ q h })
+
+  pub bounds-done : (ss : List Stored) → shelved 0 bs ≡ ss → (b₁ b w₁ w : List ℕ) (x : Bounded) → number ≡ 0 → x ≡ boundsFound t ss v k →
+      length b₁ ≡ length b₀ → b ≡ replicate (length b₁) 0 → length w₁ ≡ length w₀ → w ≡ replicate (length w₁) 0 →
+      BoundsDone t bs v k b₀ b w₀ w x
+  unfolding boundsJob boundsFound
+  bounds-done ss s b₁ b w₁ w x z e l p m q =
+      let n : x .refusal ≡ 0 = ap (λ (y : Bounded). y .refusal) e in
+      record { answer = rw (z, s) e; bytes = rw n (zeroed b₀ b₁ b l p); words = rw n (zeroed w₀ w₁ w m q) }

@@ -1,3 +1,0 @@
-pub mod Walks
-pub mod Texts
-pub mod Shelves

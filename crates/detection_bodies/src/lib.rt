@@ -1,0 +1,152 @@
+// What a record's body must be: a name or an alias, or a table of counted bigrams. Each test walks its bytes once.
+// From detection.rs of spdx 0.13.6 (Copyright 2018 Amazon.com, Inc. or its affiliates. All Rights Reserved.
+// SPDX-License-Identifier: Apache-2.0), changed: the store is a book of records. Assumes nothing.
+ghost use mathlib.Core.Path.{_≡_};
+ghost use mathlib.Core.Bool.{_&&_};
+ghost use Prim.Native.Nat.{_≤_};
+ghost use lib.Dec.{eqb, ltb};
+ghost use lib.ListN.{length, drop};
+ghost use Rattle.rules.specs.Bytes.{within as withinB, split, rises};
+ghost use Rattle.rules.specs.Book.{number, twoTerms, entriesOf, soundTable, soundName};
+ghost use Rattle.detection_bodies.specs.Terms.{termByte};
+use records::numbers::read_u32;
+use records::pieces::EntryAt;
+use records::pieces::entry_at;
+use slices::two::above;
+
+pub fn within(lo: u16, hi: u16, x: u16) -> bool
+    ensures { λ r. ⌜ r ≡ withinB lo hi x ⌝ }
+{
+    if x < lo {
+        return false;
+    }
+    x <= hi
+}
+
+// 1 to 64 bytes of 33 to 126.
+pub fn name_sound(s: &[u8]) -> bool
+    ensures { λ r. ⌜ r ≡ soundName (now (s .entry)) ⌝ }
+{
+    if s.len() < 1 {
+        return false;
+    }
+    if 64 < s.len() {
+        return false;
+    }
+    let mut i = 0;
+    while i < s.len() {
+        if !printed(s[i]) {
+            return false;
+        }
+        i += 1;
+    }
+    true
+}
+
+fn printed(x: u8) -> bool
+    ensures { λ r. ⌜ r ≡ withinB 33 126 x ⌝ }
+{
+    within(33, 126, x as u16)
+}
+
+// a-z, 0-9 and `_`.
+fn is_term(x: u8) -> bool
+    ensures { λ r. ⌜ r ≡ termByte x ⌝ }
+{
+    if within(97, 122, x as u16) {
+        return true;
+    }
+    if within(48, 57, x as u16) {
+        return true;
+    }
+    x == 95
+}
+
+// Two non-empty runs of these with one space between. `second`: the space is passed; `some`: the run is not empty so far.
+fn two_terms(s: &[u8]) -> bool
+    ensures { λ r. ⌜ r ≡ twoTerms (split 32 (now (s .entry))) ⌝ }
+{
+    let mut second = false;
+    let mut some = false;
+    let mut i = 0;
+    while i < s.len() {
+        let x = s[i];
+        i += 1;
+        if x == 32 {
+            if second {
+                return false;
+            }
+            if !some {
+                return false;
+            }
+            second = true;
+            some = false;
+            continue;
+        }
+        if !is_term(x) {
+            return false;
+        }
+        some = true;
+    }
+    if second {
+        return some;
+    }
+    false
+}
+
+// An entry of a table after the entry `last`, which is empty for the first.
+fn entry_sound(last: &[u8], count: u32, bytes: &[u8]) -> bool
+    ensures { λ r. ⌜ r ≡ (ltb 0 count && twoTerms (split 32 (now (bytes .entry))) && rises (now (last .entry)) (now (bytes .entry))) ⌝ }
+{
+    if count == 0 {
+        return false;
+    }
+    if !two_terms(bytes) {
+        return false;
+    }
+    above(last, bytes)
+}
+
+// The total and the number of entries that the body's head names.
+fn totals_are(body: &[u8], sum: u64, entries: u64) -> bool
+    requires { ⌜ 8 ≤ length (now body) ⌝ }
+    ensures { λ r. ⌜ r ≡ (eqb (number 4 (now (body .entry))) sum && eqb (number 4 (drop 4 (now (body .entry)))) entries) ⌝ }
+{
+    if read_u32(body, 0) as u64 != sum {
+        return false;
+    }
+    read_u32(body, 4) as u64 == entries
+}
+
+// The entry before the one at `at` is body[last..at]: the empty part stands before the first. The sum is tested before the next
+// is added, so it never wraps, whatever the body.
+pub fn table_sound(body: &[u8]) -> bool
+    ensures { λ r. ⌜ r ≡ soundTable (now (body .entry)) (entriesOf (now (body .entry))) ⌝ }
+{
+    if body.len() < 8 {
+        return false;
+    }
+    let mut at: usize = 8;
+    let mut last: usize = 8;
+    let mut sum: u64 = 0;
+    let mut entries: u64 = 0;
+    loop {
+        match entry_at(body, at) {
+            EntryAt::Whole(count, start, len) => {
+                let end = start + len;
+                if !entry_sound(&body[last..at], count, &body[start..end]) {
+                    return false;
+                }
+                sum += count as u64;
+                if 8388608 < sum {
+                    return false;
+                }
+                entries += 1;
+                last = start;
+                at = end;
+            }
+            EntryAt::End => return totals_are(body, sum, entries),
+            EntryAt::Broken => return false,
+        }
+    }
+}

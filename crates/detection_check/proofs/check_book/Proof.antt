@@ -1,0 +1,66 @@
+-- `detection_check::check_book` meets its contract: the loop's invariant is `Walked`: the verdict on what is still to come is the book's.
+-- Assumes nothing.
+use Rattle.detection_check.proofs.CheckLaws.{verdict-long, Walked, walked-start, walked-on, walked-next, walked-done}
+use lib.ListN.{length}
+use native.Mathlib.Omega.{arith}
+use Prim.Native.Nat.{_-_}
+use denote.Ref.{now}
+use mathlib.Core.Path.{sym, _∙_}
+use borrow.Author.Needs.{needs}
+use Rattle.detection_check.proofs.check_book.Statement.{statement}
+use Rattle.detection_check.proofs.check_book.Tie as tie
+
+abbrev Inv-loop : tie.InvT-loop
+Inv-loop book walk₀ walk = Walked book walk
+
+abbrev μ-loop : tie.MeasureT-loop
+μ-loop book walk₀ walk = length book - walk .at
+
+unsound-requires : tie.Need-unsound-requires Inv-loop μ-loop
+unsound-requires c κs = search needs
+
+returns : tie.Need-returns Inv-loop μ-loop
+returns c = record { answer = c .unsound .ensures ∙ sym (verdict-long (c .before .before .before .args .book .now) (c .before .if1 .taken)) }
+
+loop-holds : tie.Need-loop-holds Inv-loop μ-loop
+loop-holds c = walked-start _ (c .if1 .left)
+
+check-next-requires : tie.Need-check-next-requires Inv-loop μ-loop
+check-next-requires c κs = c .loop .inv .within
+
+enum-known-w : tie.Need-enum-known-w Inv-loop μ-loop
+enum-known-w c = search needs
+
+loop-less : tie.Need-loop-less Inv-loop μ-loop
+loop-less c =
+    let a = c .before .before .before .before .before .before .before .args in
+    omega (arith, walked-on (now (a .book)) (c .before .before .before .before .loop .walk) (c .before .before .before .check-next .result) (c .before .before .before .before .loop .inv) (c .before .before .before .check-next .ensures) _ (c .before .w .given .1), walked-next (now (a .book)) (c .before .before .before .before .loop .walk) (c .before .before .before .check-next .result) (c .before .before .before .before .loop .inv) (c .before .before .before .check-next .ensures) _ (c .before .w .given .1) .within)
+
+loop-again : tie.Need-loop-again Inv-loop μ-loop
+loop-again c =
+    let a = c .before .before .before .before .before .before .before .args in
+    walked-next (now (a .book)) (c .before .before .before .before .loop .walk) (c .before .before .before .check-next .result) (c .before .before .before .before .loop .inv) (c .before .before .before .check-next .ensures) _ (c .before .w .given .1)
+
+enum-known-checked : tie.Need-enum-known-checked Inv-loop μ-loop
+enum-known-checked c = search needs
+
+returns-2 : tie.Need-returns-2 Inv-loop μ-loop
+returns-2 c =
+    let a = c .before .before .before .before .before .before .before .args in
+    record { answer = walked-done (now (a .book)) (c .before .before .before .before .loop .walk) (c .before .before .before .check-next .result) (c .before .before .before .before .loop .inv) (c .before .before .before .check-next .ensures) _ (c .before .checked .given .1) }
+
+pub check-book-spec : {M : Type 1} → statement M
+check-book-spec =
+    tie.close
+    (tie.spec
+    Inv-loop
+    μ-loop
+    unsound-requires
+    returns
+    loop-holds
+    check-next-requires
+    enum-known-w
+    loop-less
+    loop-again
+    enum-known-checked
+    returns-2)

@@ -1,0 +1,40 @@
+-- `detection_check::follows` meets its contract: case by case, as the definition has them.
+-- Assumes nothing.
+use mathlib.Core.Path.{_≡_, sym, _∙_}
+use mathlib.Core.Bool.{true, false}
+use borrow.Author.Tests.{eq-eqb, ne-eqb, not-true, not-false}
+use Rattle.rules.specs.Bytes.{within}
+use Rattle.rules.specs.Book.{follows}
+use borrow.Author.Needs.{needs}
+use Rattle.detection_check.proofs.follows.Statement.{statement}
+use Rattle.detection_check.proofs.follows.Tie as tie
+
+returns : tie.Need-returns
+unfolding follows
+returns c = simp (eq-eqb _ _ (c .if1 .taken))
+
+returns-2 : tie.Need-returns-2
+unfolding follows
+returns-2 c = simp (ne-eqb _ _ (c .before .if1 .left), eq-eqb _ _ (c .if2 .taken))
+
+within-requires : tie.Need-within-requires
+within-requires c κs = search needs
+
+returns-3 : tie.Need-returns-3
+unfolding follows
+returns-3 c =
+    let e : within 3 5 (c .before .before .before .before .args .b) ≡ false = sym (c .before .within .ensures) ∙ not-true _ (c .if3 .taken) in
+    simp (ne-eqb _ _ (c .before .before .before .if1 .left), ne-eqb _ _ (c .before .before .if2 .left), e)
+
+within-requires-2 : tie.Need-within-requires-2
+within-requires-2 c κs = search needs
+
+returns-4 : tie.Need-returns-4
+unfolding follows
+returns-4 c =
+    let e : within 3 5 (c .before .before .before .before .before .args .b) ≡ true = sym (c .before .before .within .ensures) ∙ not-false _ (c .before .if3 .left) in
+    c .within2 .ensures ∙ simp (ne-eqb _ _ (c .before .before .before .before .if1 .left), ne-eqb _ _ (c .before .before .before .if2 .left), e)
+
+pub follows-spec : {M : Type 1} → statement M
+follows-spec =
+    tie.close (tie.spec returns returns-2 within-requires returns-3 within-requires-2 returns-4)

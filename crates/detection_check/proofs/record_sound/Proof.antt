@@ -1,0 +1,63 @@
+-- `detection_check::record_sound` meets its contract: three tests, the first that fails.
+-- Assumes nothing.
+use Rattle.detection_bodies.proofs.ByteLaws.{and-false}
+use Rattle.detection_check.specs.Walks.{recordSound}
+use Rattle.rules.specs.Book.{follows, soundBody}
+use borrow.Author.Tests.{eq-eqb, ne-eqb, not-true, not-false}
+use denote.Ref.{now}
+use mathlib.Core.Bool.{true, false}
+use mathlib.Core.Path.{_≡_, sym, _∙_}
+use borrow.Author.Needs.{needs}
+use Rattle.detection_check.proofs.record_sound.Statement.{statement}
+use Rattle.detection_check.proofs.record_sound.Tie as tie
+
+follows-requires : tie.Need-follows-requires
+follows-requires c κs = search needs
+
+returns : tie.Need-returns
+unfolding recordSound
+returns c =
+    let a = c .before .before .before .before .args in
+    let d : follows (a .before) (a .kind) ≡ false = sym (c .before .follows .ensures) ∙ not-true _ (c .if1 .taken) in
+    simp d
+
+body-sound-requires : tie.Need-body-sound-requires
+body-sound-requires c κs = search needs
+
+returns-2 : tie.Need-returns-2
+unfolding recordSound
+returns-2 c =
+    let a = c .before .before .before .before .before .before .args in
+    let e : soundBody (record { kind = a .kind; body = now (a .body) }) ≡ false = sym (c .before .body-sound .ensures) ∙ not-true _ (c .if2 .taken) in
+    simp (e, and-false)
+
+returns-3 : tie.Need-returns-3
+unfolding recordSound
+returns-3 c =
+    let a = c .before .before .before .before .before .before .before .args in
+    let d : follows (a .before) (a .kind) ≡ true = sym (c .before .before .before .before .follows .ensures) ∙ not-false _ (c .before .before .before .if1 .left) in
+    let e : soundBody (record { kind = a .kind; body = now (a .body) }) ≡ true = sym (c .before .before .body-sound .ensures) ∙ not-false _ (c .before .if2 .left) in
+    simp (d, e, ne-eqb (a .kind) 1 (c .if3 .taken))
+
+above-requires : tie.Need-above-requires
+above-requires c κs = search needs
+
+returns-4 : tie.Need-returns-4
+unfolding recordSound
+returns-4 c =
+    let a = c .before .before .before .before .before .before .before .before .args in
+    let d : follows (a .before) (a .kind) ≡ true = sym (c .before .before .before .before .before .follows .ensures) ∙ not-false _ (c .before .before .before .before .if1 .left) in
+    let e : soundBody (record { kind = a .kind; body = now (a .body) }) ≡ true = sym (c .before .before .before .body-sound .ensures) ∙ not-false _ (c .before .before .if2 .left) in
+    c .above .ensures ∙ simp (d, e, eq-eqb (a .kind) 1 (c .before .if3 .left))
+
+pub record-sound-spec : {M : Type 1} → statement M
+record-sound-spec =
+    tie.close
+    (tie.spec
+    follows-requires
+    returns
+    body-sound-requires
+    returns-2
+    returns-3
+    above-requires
+    returns-4)

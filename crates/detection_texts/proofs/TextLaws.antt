@@ -1,0 +1,287 @@
+-- The walk over the stored texts of a sound book, record by record.
+--     before-first      it starts before text 0
+--     before-next       past a record that is no stored text
+--     found-as          at one that is
+--     not-done          while a text is to come, the records neither end nor break off
+-- Assumes nothing.
+use mathlib.Core.Path.{_≡_, refl, sym, ap, _∙_, subst}
+use mathlib.Core.Bool.{Bool, true, false, not, _&&_, _||_, cond, false≢true}
+use mathlib.Core.List.{List, [], _∷_, _++_}
+use mathlib.Core.Option.{Option, none, some}
+use Prim.Native.Nat.{ℕ, suc, _+_, _-_, _≤_, _<_}
+use native.Mathlib.Nat.{add-zero}
+use native.Mathlib.Numerals.{add-one}
+use native.Mathlib.Omega.{arith}
+use lib.Dec.{leb, eqb}
+use lib.ListN.{length, getD, take, drop, length-drop}
+use lib.Seq.{drop-drop, getD-drop, length-take-le}
+use borrow.Author.Tests.{leb-true, ne-eqb}
+use Rattle.rules.specs.Sizes.{bookMost, storedMost, nameMost}
+use Rattle.rules.specs.Prefix.{Counted}
+use Rattle.rules.specs.Search.{Stored, noText}
+use Rattle.rules.specs.Bytes.{within, rises}
+use Rattle.rules.specs.Book.{number, Record, recordsOf, also, entriesOf, sum, soundEntries, soundTable, soundBody, storedKind, follows, soundRecords, tableIn, storedIn, storedOf, storedFrom as numberedFrom, stored, namesIn, noPart, namesOf, filled, sound}
+use Rattle.rules.specs.declared.Named.{Named}
+use Rattle.rules.proofs.BoolLaws.{and-left, and-right}
+use Rattle.rules.proofs.DownLaws.{each-at}
+use Rattle.rules.proofs.SoundLaws.{StoredSound, sound-stored}
+use Rattle.records.proofs.StepLaws.{RecordHere}
+use Rattle.detection_texts.specs.Texts.{part, storedFrom, nameAt, namesFrom, allSound, soundBodies, Before, firstPlace, passedBy, Found}
+use Rattle.detection_texts.specs.declared.texts.Place.{Place}
+use Rattle.detection_texts.specs.declared.texts.Text.{Text}
+
+-- ---- a sound book's records have sound bodies
+all-sound : (rs : List Record) (a : ℕ) (name : List ℕ) → soundRecords a name rs ≡ true → allSound rs ≡ true
+unfolding soundRecords allSound
+all-sound [] a name h = refl
+all-sound (r ∷ rs) a name h =
+    let f = follows a (r .kind) in
+    let n = not (eqb (r .kind) 1) || rises name (r .body) in
+    let under = cond (eqb (r .kind) 1) (r .body) name in
+    let more = soundRecords (r .kind) under rs in
+    let b : soundBody r ≡ true = and-right f (soundBody r) (and-left (f && soundBody r) n (and-left (f && soundBody r && n) more h)) in
+    rw b (all-sound rs (r .kind) under (and-right (f && soundBody r && n) more h))
+
+pub before-first : (book : List ℕ) → sound book ≡ true → Before book firstPlace
+unfolding sound stored numberedFrom soundBodies filled storedOf storedFrom namesOf namesFrom
+before-first book h =
+    let l = leb (length book) bookMost in
+    let f = filled (recordsOf book) in
+    let m = leb (length (stored book)) storedMost in
+    record {
+      at = omega arith;
+      name = omega arith;
+      past = omega arith;
+      few = leb-true (length (stored book)) storedMost (and-right (l && f) m h);
+      bodies = bodies (recordsOf book) (and-right l f (and-left (l && f) m h));
+      texts = texts (recordsOf book);
+      names = λ second. names second (recordsOf book);
+    }
+  where
+    bodies : (o : Option (List Record)) → filled o ≡ true → soundBodies o ≡ true
+    bodies none h = h
+    bodies (some rs) h = all-sound rs 0 [] h
+
+    texts : (o : Option (List Record)) → storedFrom 0 [] o ≡ storedOf 0 o
+    texts none = refl
+    texts (some rs) = refl
+
+    names : (second : Bool) (o : Option (List Record)) → namesFrom second 0 (nameAt second 0 0) o ≡ namesOf second o
+    names second none = refl
+    names second (some rs) = refl
+
+-- ---- one record, and what is left
+bodies-cons : (r : Record) (o : Option (List Record)) → soundBodies (also r o) ≡ true → (soundBody r ≡ true) × (soundBodies o ≡ true)
+unfolding soundBodies also allSound
+bodies-cons r none h = absurd (false≢true h)
+bodies-cons r (some rs) h = (and-left (soundBody r) (allSound rs) h, and-right (soundBody r) (allSound rs) h)
+
+abbrev storedAs : ℕ → List ℕ → Record → Stored
+storedAs n name r = record { number = n; name = name; kind = r .kind; table = tableIn (r .body) (entriesOf (r .body)) }
+
+stored-cons : (n : ℕ) (name : List ℕ) (r : Record) (o : Option (List Record)) → soundBodies o ≡ true →
+    storedFrom n name (also r o) ≡
+    cond (storedKind (r .kind)) (storedAs n name r ∷ []) [] ++
+    storedFrom (cond (storedKind (r .kind)) (suc n) n) (cond (eqb (r .kind) 1) (r .body) name) o
+unfolding storedFrom also storedIn soundBodies
+stored-cons n name r none h = absurd (false≢true h)
+stored-cons n name r (some rs) h = refl
+
+names-cons : (second : Bool) (place : ℕ) (p : Named) (r : Record) (o : Option (List Record)) → soundBodies o ≡ true →
+    namesFrom second place p (also r o) ≡
+    cond (storedKind (r .kind)) (p ∷ []) [] ++
+    namesFrom second (place + 6 + length (r .body)) (cond (eqb (r .kind) 1) (record { second = second; at = place + 6; len = length (r .body) }) p) o
+unfolding namesFrom also namesIn soundBodies
+names-cons second place p r none h = absurd (false≢true h)
+names-cons second place p r (some rs) h = refl
+
+table-known : (body : List ℕ) (o : Option (List Counted)) → soundTable body o ≡ true →
+    (o ≡ some (tableIn body o .entries)) × (number 4 body ≡ tableIn body o .total) × (8 ≤ length body)
+unfolding soundTable tableIn
+table-known body none h = absurd (false≢true h)
+table-known body (some es) h =
+    let a = leb 8 (length body) in
+    let b = eqb (number 4 body) (sum es) in
+    let c = eqb (number 4 (drop 4 body)) (length es) in
+    let d = soundEntries [] es in
+    (refl, refl, leb-true 8 (length body) (and-left a b (and-left (a && b) c (and-left (a && b && c) d (and-left (a && b && c && d) _ h)))))
+
+module _ (book : List ℕ) (p : Place) (b : Before book p) where
+  pub not-done : p .number < length (stored book) → recordsOf (drop (p .at) book) ≡ some [] → ⊥
+  unfolding storedFrom storedIn
+  not-done l e =
+      let n : 0 ≡ length (drop (p .number) (stored book)) = ap length (ap (storedFrom (p .number) (part book (p .name) (p .past))) (sym e) ∙ b .texts) in
+      omega (arith, length-drop (p .number) (stored book), n)
+
+  pub not-broken : recordsOf (drop (p .at) book) ≡ none → ⊥
+  unfolding soundBodies
+  not-broken e = false≢true (ap soundBodies (sym e) ∙ b .bodies)
+
+  module _ (kind start len : ℕ) (h : RecordHere book (p .at) kind start len) where
+    abbrev this : Record
+    this = record { kind = kind; body = take len (drop start book) }
+
+    abbrev left : Option (List Record)
+    left = recordsOf (drop (start + len) book)
+
+    lent : part book start (start + len) ≡ take len (drop start book)
+    lent = let k : start + len - start ≡ len = omega arith in rw k
+
+    sounds : (soundBody this ≡ true) × (soundBodies left ≡ true)
+    sounds = bodies-cons this left (ap soundBodies (sym (h .is)) ∙ b .bodies)
+
+    after : drop (p .number) (stored book) ≡
+        cond (storedKind kind) (storedAs (p .number) (part book (p .name) (p .past)) this ∷ []) [] ++
+        storedFrom (cond (storedKind kind) (suc (p .number)) (p .number)) (cond (eqb kind 1) (take len (drop start book)) (part book (p .name) (p .past))) left
+    after =
+        sym (b .texts) ∙ ap (storedFrom (p .number) (part book (p .name) (p .past))) (h .is) ∙
+        stored-cons (p .number) (part book (p .name) (p .past)) this left (sounds .1)
+
+    long : length (take len (drop start book)) ≡ len
+    long = length-take-le len (drop start book) (omega (arith, length-drop start book, h .fits))
+
+    -- where the names of the texts from here on stand
+    after-names : (second : Bool) → drop (p .number) (namesOf second (recordsOf book)) ≡
+        cond (storedKind kind) (nameAt second (p .name) (p .past) ∷ []) [] ++
+        namesFrom second (start + len) (cond (eqb kind 1) (nameAt second start (start + len)) (nameAt second (p .name) (p .past))) left
+    after-names second =
+        let name = nameAt second (p .name) (p .past) in
+        let n = length (take len (drop start book)) in
+        let k : len ≡ start + len - start = omega arith in
+        sym (b .names second) ∙ ap (namesFrom second (p .at) name) (h .is) ∙ names-cons second (p .at) name this left (sounds .1) ∙
+        ap (λ (s : ℕ). stands s n n) (h .begins) ∙ ap (λ (m : ℕ). stands start m m) long ∙ ap (stands start len) k
+      where
+        stands : ℕ → ℕ → ℕ → List Named
+        stands s l m =
+            cond (storedKind kind) (nameAt second (p .name) (p .past) ∷ []) [] ++
+            namesFrom second (s + l) (cond (eqb kind 1) (record { second = second; at = s; len = m }) (nameAt second (p .name) (p .past))) left
+
+    pub before-next : storedKind kind ≡ false → Before book (passedBy p kind start (start + len))
+    unfolding passedBy
+    before-next q = at (eqb kind 1) refl
+      where
+        texts : storedFrom (p .number) (cond (eqb kind 1) (take len (drop start book)) (part book (p .name) (p .past))) left ≡ drop (p .number) (stored book)
+        texts = sym (rw q at after)
+
+        names : (second : Bool) → namesFrom second (start + len) (cond (eqb kind 1) (nameAt second start (start + len)) (nameAt second (p .name) (p .past))) left ≡
+            drop (p .number) (namesOf second (recordsOf book))
+        names second = sym (rw q at (after-names second))
+
+        at : (t : Bool) → eqb kind 1 ≡ t →
+            Before book (cond t (record { number = p .number; at = start + len; name = start; past = start + len })
+            (record { number = p .number; at = start + len; name = p .name; past = p .past }))
+        at true e =
+            record {
+              at = h .fits;
+              name = omega arith;
+              past = h .fits;
+              few = b .few;
+              bodies = sounds .1;
+              texts = rw lent (rw e at texts);
+              names = λ second. rw e at (names second);
+            }
+        at false e =
+            record {
+              at = h .fits;
+              name = b .name;
+              past = b .past;
+              few = b .few;
+              bodies = sounds .1;
+              texts = rw e at texts;
+              names = λ second. rw e at (names second);
+            }
+
+    module _ (q : storedKind kind ≡ true) (l : p .number < length (stored book)) where
+      other : eqb kind 1 ≡ false
+      unfolding storedKind within
+      other = ne-eqb kind 1 (λ e. false≢true (ap storedKind (sym e) ∙ q))
+
+      cons : drop (p .number) (stored book) ≡ storedAs (p .number) (part book (p .name) (p .past)) this ∷ storedFrom (suc (p .number)) (part book (p .name) (p .past)) left
+      cons = rw (q, other) at after
+
+      first : getD (stored book) (p .number) noText ≡ storedAs (p .number) (part book (p .name) (p .past)) this
+      first =
+          ap (λ (k : ℕ). getD (stored book) k noText) (sym (add-zero (p .number))) ∙ sym (getD-drop (p .number) (stored book) 0 noText) ∙
+          ap (λ (s : List Stored). getD s 0 noText) cons
+
+      rest : storedFrom (p .number + 1) (part book (p .name) (p .past)) left ≡ drop (p .number + 1) (stored book)
+      rest =
+          ap (λ (k : ℕ). storedFrom k (part book (p .name) (p .past)) left) (add-one (p .number)) ∙ sym (ap (drop 1) cons) ∙ drop-drop 1 (p .number) (stored book)
+
+      cons-names : (second : Bool) → drop (p .number) (namesOf second (recordsOf book)) ≡
+          nameAt second (p .name) (p .past) ∷ namesFrom second (start + len) (nameAt second (p .name) (p .past)) left
+      cons-names second = rw (q, other) at (after-names second)
+
+      first-name : (second : Bool) → getD (namesOf second (recordsOf book)) (p .number) noPart ≡ nameAt second (p .name) (p .past)
+      first-name second =
+          let all = namesOf second (recordsOf book) in
+          ap (λ (k : ℕ). getD all k noPart) (sym (add-zero (p .number))) ∙ sym (getD-drop (p .number) all 0 noPart) ∙
+          ap (λ (l : List Named). getD l 0 noPart) (cons-names second)
+
+      rest-names : (second : Bool) → namesFrom second (start + len) (nameAt second (p .name) (p .past)) left ≡ drop (p .number + 1) (namesOf second (recordsOf book))
+      rest-names second = sym (ap (drop 1) (cons-names second)) ∙ drop-drop 1 (p .number) (namesOf second (recordsOf book))
+
+      abbrev here : Text
+      here = record { number = p .number; kind = kind; name = p .name; past = p .past; body = start; end = start + len }
+
+      found-here : Found book (p .number) here
+      unfolding soundBody
+      found-here =
+          let body = take len (drop start book) in
+          let t = table-known body (entriesOf body) (rw q at (sounds .0)) in
+          let m : length body ≡ len = long in
+          record {
+            is = rw first
+                (record {
+                  name-from = b .name;
+                  name-to = b .past;
+                  name = refl;
+                  kind = refl;
+                  numbered = refl;
+                  body-from = omega (arith, t .2);
+                  body-to = h .fits;
+                  total = rw lent (t .1);
+                  entries = rw lent (t .0);
+                  sound = rw lent (rw q at (sounds .0));
+                });
+            numbered = refl;
+            below = omega (arith, b .few);
+            named = first-name;
+            on = record { at = h .fits; name = b .name; past = b .past; few = b .few; bodies = sounds .1; texts = rest; names = rest-names };
+          }
+
+      pub found-as : (k : ℕ) → p .number ≡ k → Found book k here
+      found-as k e = subst (λ (n : ℕ). Found book n here) e found-here
+
+-- ---- past a record that is no stored text
+either : (t : Bool) (x y : Place) (f : Place → ℕ) (n : ℕ) → f x ≡ n → f y ≡ n → f (cond t x y) ≡ n
+either true x y f n h k = h
+either false x y f n h k = k
+
+module _ (p : Place) (kind start end : ℕ) where
+  abbrev named : Place
+  named = record { number = p .number; at = end; name = start; past = end }
+
+  abbrev moved : Place
+  moved = record { number = p .number; at = end; name = p .name; past = p .past }
+
+  pub passed-number : passedBy p kind start end .number ≡ p .number
+  unfolding passedBy
+  passed-number = either (eqb kind 1) named moved (λ (x : Place). x .number) (p .number) refl refl
+
+  pub passed-at : passedBy p kind start end .at ≡ end
+  unfolding passedBy
+  passed-at = either (eqb kind 1) named moved (λ (x : Place). x .at) end refl refl
+
+-- ---- a text that is found, by another name of its number
+pub found-at : {book : List ℕ} {k n : ℕ} {r : Text} → k ≡ n → Found book k r → Found book n r
+found-at {book} {k} {n} {r} e f = subst (λ (m : ℕ). Found book m r) e f
+
+-- ---- its name's length, in a sound book
+pub found-name : (book : List ℕ) (k : ℕ) (r : Text) → sound book ≡ true → k < length (stored book) → Found book k r →
+    (1 ≤ r .past - r .name) × (r .past - r .name ≤ nameMost)
+found-name book k r h l f =
+    let s = each-at StoredSound (stored book) k noText l (sound-stored book h) in
+    let t = f .is in
+    let m = length-take-le (r .past - r .name) (drop (r .name) book) (omega (arith, length-drop (r .name) book, t .name-to)) in
+    (omega (arith, s .name-from, ap length (t .name), m), omega (arith, s .name-to, ap length (t .name), m))

@@ -1,2 +1,0 @@
-pub mod JobLaws
-pub mod BoundsLaws

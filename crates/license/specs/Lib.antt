@@ -1,3 +1,0 @@
-pub mod Pay
-pub mod Ready
-pub mod Found

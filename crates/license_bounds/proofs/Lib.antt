@@ -1,0 +1,5 @@
+pub mod BoundLaws
+pub mod ReadyLaws
+pub mod SearchLaws
+pub mod RoundLaws
+pub mod IndexLaws

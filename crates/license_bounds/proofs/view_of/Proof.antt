@@ -1,0 +1,15 @@
+
+use Rattle.license_bounds.specs.Ready.{viewAt}
+use Rattle.license_bounds.proofs.view_of.Statement.{statement}
+use Rattle.license_bounds.proofs.view_of.Tie as tie
+
+returns : tie.Need-returns
+unfolding viewAt
+returns c = simp (c .if1 .taken)
+
+returns-2 : tie.Need-returns-2
+unfolding viewAt
+returns-2 c = simp (c .if1 .left)
+
+pub view-of-spec : {M : Type 1} → statement M
+view-of-spec = tie.close (tie.spec returns returns-2)

@@ -1,0 +1,2 @@
+pub mod PayLaws
+pub mod ChargeLaws

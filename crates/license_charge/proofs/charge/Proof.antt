@@ -1,0 +1,65 @@
+-- `license_charge::charge` meets its contract: the scoring is of the view's table, and one is taken off.
+-- Assumes nothing.
+use mathlib.Core.Path.{refl}
+use borrow.Author.Needs.{needs}
+use Rattle.license_charge.proofs.ChargeLaws.{chargeable, charged}
+use Rattle.license_charge.proofs.charge.Statement.{statement}
+use Rattle.license_charge.proofs.charge.Tie as tie
+
+mul-from : tie.Need-mul-from
+mul-from c = search needs
+
+add-from : tie.Need-add-from
+add-from c = search needs
+
+sub-scoring : tie.Need-sub-scoring
+sub-scoring c = search needs
+
+part-scoring-start : tie.Need-part-scoring-start
+part-scoring-start c = search needs
+
+part-scoring-end : tie.Need-part-scoring-end
+part-scoring-end c = search needs
+
+mul-scoring : tie.Need-mul-scoring
+mul-scoring c = search needs
+
+sub-scoring-2 : tie.Need-sub-scoring-2
+sub-scoring-2 c = search needs
+
+part-scoring-start-2 : tie.Need-part-scoring-start-2
+part-scoring-start-2 c = search needs
+
+part-scoring-end-2 : tie.Need-part-scoring-end-2
+part-scoring-end-2 c = search needs
+
+scoring-requires : tie.Need-scoring-requires
+scoring-requires c κs =
+    let s = c .before .before .before .before .before in
+    let r = chargeable _ _ _ _ (s .pre .0) in
+    (r .sizes, (r .stands, s .pre .1 .0))
+
+sub-t22 : tie.Need-sub-t22
+sub-t22 c = search needs
+
+returns : tie.Need-returns
+returns c =
+    let s = c .before .before .before .before .before .before in
+    (charged _ _ (s .args .t) _ _ (c .scoring .ensures), refl)
+
+pub charge-spec : {M : Type 1} → statement M
+charge-spec =
+    tie.close
+    (tie.spec
+    mul-from
+    add-from
+    sub-scoring
+    part-scoring-start
+    part-scoring-end
+    mul-scoring
+    sub-scoring-2
+    part-scoring-start-2
+    part-scoring-end-2
+    scoring-requires
+    sub-t22
+    returns)

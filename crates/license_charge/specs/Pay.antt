@@ -1,0 +1,15 @@
+-- A run of scorings, paid from what is left of a budget: its answer and what is then left, or none where it does not pay all.
+-- Assumes nothing.
+use Prim.Native.Nat.{ℕ, _-_}
+use mathlib.Core.Bool.{cond}
+use mathlib.Core.Option.{Option, none, some}
+use lib.Dec.{leb}
+use lib.ListN.{length}
+use Rattle.rules.specs.Search.{Made}
+
+pub record Paid (A : Type 0) : Type 0 where
+  pub value : A
+  pub left : ℕ
+
+unfoldable pub pay : {A : Type 0} → Made A → ℕ → Option (Paid A)
+pay m b = cond (leb (length (m .list)) b) (some (record { value = m .value; left = b - length (m .list) })) none

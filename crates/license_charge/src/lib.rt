@@ -1,0 +1,71 @@
+// The one function that scores: it charges.
+// From detection/license.rs of spdx 0.13.6 (Copyright 2018 Amazon.com, Inc. or its affiliates. All Rights Reserved.
+// SPDX-License-Identifier: Apache-2.0), changed: `match_score`. Assumes nothing.
+ghost use mathlib.Core.Path.{_≡_};
+ghost use mathlib.Core.Bool.{true};
+ghost use Prim.Native.Nat.{_-_, _<_};
+ghost use Rattle.rules.specs.Table.{valueOf};
+ghost use Rattle.rules.specs.Book.{soundTable, entriesOf};
+ghost use Rattle.floors.specs.Floors.{Judged};
+ghost use Rattle.license_views.specs.Tabled.{Tabled, tableOver};
+ghost use Rattle.detection_shelf.specs.Bodies.{tableOfBody};
+use floors::Floor;
+use floors::lowest;
+use license_views::Viewed;
+use ngram_meet::scoring;
+use ngram_table::TableSize;
+use rules::Value;
+
+// One scoring: what it yields, and the scorings left.
+pub struct Charged {
+    pub value: Value,
+    pub left: u64,
+}
+
+// The one place where a scoring is made: it takes one of the scorings left, also where it ends early since the floor cannot be beaten.
+pub fn charge(
+    area: &[u8],
+    words: &[u32],
+    n: usize,
+    t: Viewed,
+    body: &[u8],
+    floor: Floor,
+    left: u64,
+) -> Charged
+    requires { ⌜ Tabled n (now area) (now words) t ⌝ }
+    requires { ⌜ soundTable (now body) (entriesOf (now body)) ≡ true ⌝ }
+    requires { ⌜ 0 < left ⌝ }
+    ensures value { λ r. ⌜ Judged floor (valueOf (tableOver (now (area .entry)) t) (tableOfBody (now (body .entry)))) (r .value) ⌝ }
+    ensures left { λ r. ⌜ r .left ≡ left - 1 ⌝ }
+{
+    let start = t.start;
+    let end = t.end;
+    let from = 2 * n + 2;
+    let size = TableSize {
+        total: t.total,
+        distinct: t.distinct,
+    };
+    let value = scoring(&area[start..end], &words[from..], size, body, floor);
+    Charged {
+        value,
+        left: left - 1,
+    }
+}
+
+// The same with nothing to beat, so the value itself.
+pub fn charge_exact(
+    area: &[u8],
+    words: &[u32],
+    n: usize,
+    t: Viewed,
+    body: &[u8],
+    left: u64,
+) -> Charged
+    requires { ⌜ Tabled n (now area) (now words) t ⌝ }
+    requires { ⌜ soundTable (now body) (entriesOf (now body)) ≡ true ⌝ }
+    requires { ⌜ 0 < left ⌝ }
+    ensures value { λ r. ⌜ r .value ≡ valueOf (tableOver (now (area .entry)) t) (tableOfBody (now (body .entry))) ⌝ }
+    ensures left { λ r. ⌜ r .left ≡ left - 1 ⌝ }
+{
+    charge(area, words, n, t, body, lowest(), left)
+}

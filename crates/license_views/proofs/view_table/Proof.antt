@@ -1,0 +1,74 @@
+
+use borrow.Author.Needs.{needs}
+use Rattle.license_views.proofs.ViewLaws.{table-fits, tabled, table-is, table-held}
+use Rattle.license_views.proofs.view_table.Statement.{statement}
+use Rattle.license_views.proofs.view_table.Tie as tie
+
+process-requires : tie.Need-process-requires
+process-requires c κs = search needs
+
+mul-from : tie.Need-mul-from
+mul-from c = search needs
+
+add-from : tie.Need-add-from
+add-from c = search needs
+
+sub-table : tie.Need-sub-table
+sub-table c = search needs
+
+part-table-start : tie.Need-part-table-start
+part-table-start c = search needs
+
+part-table-end : tie.Need-part-table-end
+part-table-end c = search needs
+
+mul-table : tie.Need-mul-table
+mul-table c = search needs
+
+sub-table-2 : tie.Need-sub-table-2
+sub-table-2 c = search needs
+
+part-table-start-2 : tie.Need-part-table-start-2
+part-table-start-2 c = search needs
+
+part-table-end-2 : tie.Need-part-table-end-2
+part-table-end-2 c = search needs
+
+table-requires : tie.Need-table-requires
+table-requires c κs = table-fits (c .before .before .before .before .before .before .before .process .ensures)
+
+same-length : tie.Need-same-length
+same-length c = search needs
+
+same-length-2 : tie.Need-same-length-2
+same-length-2 c = search needs
+
+returns : tie.Need-returns
+returns c =
+    let p = c .before .before .before .before .before .before .before .before .before .before .process .ensures in
+    let t = c .before .before .table in (
+      tabled p (t .result .total) (t .result .distinct) (t .last .1 .0) (search needs) (t .ensures .0) (t .ensures .1 .0),
+      (
+        table-is p (t .result .total) (t .result .distinct) (t .last .1 .0) (search needs) (t .ensures .0) (t .ensures .1 .0),
+        table-held p (t .result .total) (t .result .distinct) (t .last .1 .0) (search needs) (t .ensures .0) (t .ensures .1 .0),
+      ),
+    )
+
+pub view-table-spec : {M : Type 1} → statement M
+view-table-spec =
+    tie.close
+    (tie.spec
+    process-requires
+    mul-from
+    add-from
+    sub-table
+    part-table-start
+    part-table-end
+    mul-table
+    sub-table-2
+    part-table-start-2
+    part-table-end-2
+    table-requires
+    same-length
+    same-length-2
+    returns)

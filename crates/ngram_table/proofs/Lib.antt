@@ -1,0 +1,2 @@
+pub mod BigramLaws
+pub mod LeftLaws

@@ -1,0 +1,179 @@
+-- `prefix_list::list_prefixes` meets its contract: its loop is `Listing`. The measure is what is left of the view.
+-- Assumes nothing.
+use mathlib.Core.Path.{refl}
+use mathlib.Core.List.{List}
+use Prim.Native.Nat.{ℕ, _+_, _-_, _*_, _≤_, _<_}
+use native.Mathlib.Omega.{arith}
+use denote.Ref.{now}
+use Rattle.slices.specs.declared.ends.Span.{Span}
+use Rattle.preproc_table.specs.Entries.{startAt}
+use Rattle.prefix_list.proofs.ListLaws.{Listing, listing-start, listing-lies, listing-room, listing-skip, listing-put, listing-end}
+use borrow.Author.Needs.{needs}
+use Rattle.prefix_list.proofs.list_prefixes.Statement.{statement}
+use Rattle.prefix_list.proofs.list_prefixes.Tie as tie
+
+abbrev Inv-loop : tie.InvT-loop
+Inv-loop class area₀ table₀ n count at stop k₀ w₀ i₀ area table k w i = Listing n i₀ stop area₀ table₀ area table k w i
+
+abbrev μ-loop : tie.MeasureT-loop
+μ-loop class area₀ table₀ n count at stop k₀ w₀ i₀ area table k w i = stop - i
+
+-- what is known where the loop goes on
+module _ (c : tie.In-loop Inv-loop μ-loop) where
+  abbrev head : tie.At-loop Inv-loop μ-loop
+  head = c .before
+
+  abbrev start : tie.Start Inv-loop μ-loop
+  start = head .before .before .before
+
+  abbrev area₀ : List ℕ
+  area₀ = now (start .args .area)
+
+  abbrev table₀ : List ℕ
+  table₀ = now (start .args .table)
+
+  abbrev stop : ℕ
+  stop = start .args .v .end
+
+-- and once lines i and i + 1 are compared
+module _ (s : tie.After-shared Inv-loop μ-loop) where
+  abbrev inside : tie.In-loop Inv-loop μ-loop
+  inside = s .before .before .before
+
+  abbrev span : Span
+  span = s .shared .result
+
+  room : (span .start ≤ span .end) × (span .end ≤ head inside .loop .w)
+      × (head inside .loop .w + (span .end - span .start) + 1 ≤ 3 * start inside .args .n + startAt (table₀ inside) (head inside .loop .i + 1))
+      × (head inside .loop .w + (span .end - span .start) < 7 * start inside .args .n)
+  room =
+      listing-room (start inside .args .n) (start inside .args .count) (stop inside) (area₀ inside) (table₀ inside) (start inside .pre .0 .1) (start inside .pre .0 .3) (start inside .pre .0 .4) (start inside .pre .1 .1) (start inside .pre .1 .2)
+      (start inside .args .v .start) (head inside .loop .area) (head inside .loop .table) (head inside .loop .k) (head inside .loop .w) (head inside .loop .i) (head inside .loop .inv) (inside .loop-test .taken) span (s .shared .ensures)
+
+mul-at : tie.Need-mul-at Inv-loop μ-loop
+mul-at c = search needs
+
+add-at : tie.Need-add-at Inv-loop μ-loop
+add-at c = search needs
+
+mul-w : tie.Need-mul-w Inv-loop μ-loop
+mul-w c = search needs
+
+loop-holds : tie.Need-loop-holds Inv-loop μ-loop
+loop-holds c =
+    let s = c .before .before in
+    listing-start (s .args .n) (s .args .count) (s .args .v .end) (now (s .args .area)) (now (s .args .table)) (s .pre .0 .1) (s .pre .0 .3) (s .pre .0 .4) (s .pre .1 .1) (s .pre .1 .2)
+    (s .args .v .start) (s .pre .0 .2)
+
+add-loop : tie.Need-add-loop Inv-loop μ-loop
+add-loop c = search needs
+
+shared-requires : tie.Need-shared-requires Inv-loop μ-loop
+shared-requires c κs =
+    let d = c .before .before in
+    let l = head d .loop .inv in (
+      start d .pre .0 .0,
+      omega (arith, d .loop-test .taken, start d .pre .0 .3, start d .pre .0 .4, start d .pre .1 .2, l .table-long),
+      listing-lies (start d .args .n) (start d .args .count) (stop d) (area₀ d) (table₀ d) (start d .pre .0 .1) (start d .pre .0 .3) (start d .pre .0 .4) (start d .pre .1 .1) (start d .pre .1 .2)
+          (start d .args .v .start) (head d .loop .area) (head d .loop .table) (head d .loop .k) (head d .loop .w) (head d .loop .i) (head d .loop .inv) (d .loop-test .taken),
+    )
+
+sub-len : tie.Need-sub-len Inv-loop μ-loop
+sub-len c = omega (arith, room (c .before))
+
+add-i : tie.Need-add-i Inv-loop μ-loop
+add-i c = search needs
+
+put-prefix-requires : tie.Need-put-prefix-requires Inv-loop μ-loop
+put-prefix-requires c κs =
+    let s = c .before .before .before in
+    let r = room s in
+    let d = inside s in
+    (omega arith, omega (arith, head d .loop .inv .area-long, start d .pre .1 .1))
+
+add-j : tie.Need-add-j Inv-loop μ-loop
+add-j c = omega (arith, head (inside (c .before .before .before .before .before .before)) .loop .inv .few, head (inside (c .before .before .before .before .before .before)) .loop .inv .within, start (inside (c .before .before .before .before .before .before)) .pre)
+
+cast-table : tie.Need-cast-table Inv-loop μ-loop
+cast-table c = omega (arith, head (inside (c .before .before .before .before .before .before)) .loop .inv .high, start (inside (c .before .before .before .before .before .before)) .pre .1 .0)
+
+mul-table : tie.Need-mul-table Inv-loop μ-loop
+mul-table c = search needs
+
+slice-write-table : tie.Need-slice-write-table Inv-loop μ-loop
+slice-write-table c =
+    let d = inside (c .before .before .before .before .before .before) in
+    let l = head d .loop .inv in
+    omega (arith, l .few, l .within, l .table-long, start d .pre .0 .3, start d .pre .0 .4, start d .pre .1 .2)
+
+add-k : tie.Need-add-k Inv-loop μ-loop
+add-k c = search needs
+
+add-w : tie.Need-add-w Inv-loop μ-loop
+add-w c = omega (arith, room (c .before .before .before .before .before .before), start (inside (c .before .before .before .before .before .before)) .pre .1 .0)
+
+add-w-2 : tie.Need-add-w-2 Inv-loop μ-loop
+add-w-2 c = omega (arith, room (c .before .before .before .before .before .before), start (inside (c .before .before .before .before .before .before)) .pre .1 .0)
+
+loop-less : tie.Need-loop-less Inv-loop μ-loop
+loop-less c = search needs
+
+loop-again : tie.Need-loop-again Inv-loop μ-loop
+loop-again c =
+    let p = c .before .before in
+    let s = c .before .before .before .before .before .before in
+    let d = inside s in
+    listing-put (start d .args .n) (start d .args .count) (stop d) (area₀ d) (table₀ d) (start d .pre .0 .1) (start d .pre .0 .3) (start d .pre .0 .4) (start d .pre .1 .1) (start d .pre .1 .2)
+    (start d .args .v .start) (head d .loop .area) (head d .loop .table) (head d .loop .k) (head d .loop .w) (head d .loop .i) (head d .loop .inv) (d .loop-test .taken) (span s) (s .shared .ensures)
+    (span s .end - span s .start) refl (c .before .before .before .before .if1 .taken) _ (p .put-prefix .kept .0) (p .put-prefix .ensures)
+
+loop-less-2 : tie.Need-loop-less-2 Inv-loop μ-loop
+loop-less-2 c = search needs
+
+loop-again-2 : tie.Need-loop-again-2 Inv-loop μ-loop
+loop-again-2 c =
+    let s = c .before .before in
+    let d = inside s in
+    listing-skip (start d .args .n) (start d .args .count) (stop d) (area₀ d) (table₀ d) (start d .pre .0 .1) (start d .pre .0 .3) (start d .pre .0 .4) (start d .pre .1 .1) (start d .pre .1 .2)
+    (start d .args .v .start) (head d .loop .area) (head d .loop .table) (head d .loop .k) (head d .loop .w) (head d .loop .i) (head d .loop .inv) (d .loop-test .taken) (span s) (s .shared .ensures) (c .if1 .left)
+
+same-length : tie.Need-same-length Inv-loop μ-loop
+same-length c = c .before .loop .inv .area-long
+
+same-length-2 : tie.Need-same-length-2 Inv-loop μ-loop
+same-length-2 c = c .before .loop .inv .table-long
+
+returns : tie.Need-returns Inv-loop μ-loop
+returns c =
+    let s = c .before .before .before .before in
+    listing-end (c .before .loop .inv) (c .loop-test .left) (omega (arith, s .pre .0 .3, s .pre .0 .4))
+
+pub list-prefixes-spec : {M : Type 1} → statement M
+list-prefixes-spec =
+    tie.close
+    (tie.spec
+    Inv-loop
+    μ-loop
+    mul-at
+    add-at
+    mul-w
+    loop-holds
+    add-loop
+    shared-requires
+    sub-len
+    add-i
+    put-prefix-requires
+    add-j
+    cast-table
+    mul-table
+    slice-write-table
+    add-k
+    add-w
+    add-w-2
+    loop-less
+    loop-again
+    loop-less-2
+    loop-again-2
+    same-length
+    same-length-2
+    returns)

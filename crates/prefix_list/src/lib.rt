@@ -1,0 +1,134 @@
+// Which of the listed prefixes is stripped: the one that was seen most often, first seen on ties, where enough lines have it.
+// From detection/preproc.rs of spdx 0.13.6 (Copyright 2018-2019 Amazon.com, Inc. or its affiliates. All Rights Reserved.
+// SPDX-License-Identifier: Apache-2.0), changed: its map is a sorted table, and ties go to the first seen. Assumes nothing.
+ghost use mathlib.Core.Path.{_≡_};
+ghost use Prim.Native.Nat.{_+_, _*_, _-_, _≤_, _<_};
+ghost use lib.ListN.{length, take, drop};
+ghost use lib.Seq.{slice, paste};
+ghost use Rattle.rules.specs.Prefix.{prefixes};
+ghost use Rattle.rules.proofs.TableLaws.{occurs};
+ghost use Rattle.slices.specs.Classes.{classTable};
+ghost use Rattle.preproc_table.specs.Entries.{linesFrom, Apart};
+ghost use Rattle.prefix_list.specs.Listing.{Home, Lies, Shared, Stands};
+ghost use mathlib.Core.List.{[], _∷_, _++_};
+ghost use Rattle.rules.specs.Sizes.{textMost, byteArea, wordArea};
+use preproc_table::line_end;
+use preproc_table::line_start;
+use rules::View;
+use slices::ends::Span;
+use slices::ends::bare;
+use slices::two::common_len;
+use slices::two::equal;
+
+// The first place in the view's lines where the prefix that stands from a up to b was taken from. Linear in the view's lines. The list
+// is written over by the joined view, and the lines stay.
+pub fn home(
+    class: &[u8; 256],
+    area: &[u8],
+    table: &[u32],
+    n: usize,
+    count: usize,
+    v: View,
+    a: usize,
+    b: usize,
+) -> Span
+    requires { ⌜ (now class ≡ classTable) × Apart n (4 * n) (now table) count × (v .start ≤ v .end) × (v .end ≤ count) × (2 * count ≤ length (now table)) × (4 * n ≤ length (now area)) ⌝ }
+    requires { ⌜ (a ≤ b) × (b ≤ length (now area)) × (0 < occurs (slice a b (now area)) (prefixes (linesFrom (now area) (now table) (v .start) (v .end - v .start)))) ⌝ }
+    ensures { λ r. ⌜ Home n (now (area .entry)) (slice a b (now (area .entry))) r ⌝ }
+{
+    let prefix = &area[a..b];
+    let stop = v.end;
+    let mut i = v.start;
+    while i + 1 < stop {
+        let s = shared(class, area, table, i);
+        let start = s.start;
+        let end = s.end;
+        i = i + 1;
+        if equal(&area[start..end], prefix) {
+            return s;
+        }
+    }
+    Span { start: n, end: n }
+}
+
+// How the list stands: k prefixes, up to the byte `end` of the area.
+pub struct Listed {
+    pub k: usize,
+    pub end: usize,
+}
+
+// What lines i and i + 1 have in common, trimmed, as bytes of line i. Linear in line i.
+pub fn shared(class: &[u8; 256], area: &[u8], table: &[u32], i: usize) -> Span
+    requires { ⌜ (now class ≡ classTable) × (2 * i + 3 < length (now table)) × Lies (now area) (now table) i ⌝ }
+    ensures { λ r. ⌜ Shared (now (area .entry)) (now (table .entry)) i r ⌝ }
+{
+    let start = line_start(table, i);
+    let end = line_end(table, i);
+    let j = i + 1;
+    let next = line_start(table, j);
+    let stop = line_end(table, j);
+    let line = &area[start..end];
+    let k = common_len(line, &area[next..stop]);
+    let s = bare(class, 5, 7, &line[..k]);
+    Span {
+        start: start + s.start,
+        end: start + s.end,
+    }
+}
+
+// k bytes from `from` to `to`, which lies past them. One walk.
+fn copy_bytes(area: &mut [u8], from: usize, k: usize, to: usize)
+    requires { ⌜ (from + k ≤ to) × (to + k ≤ length (now area)) ⌝ }
+    ensures { λ r. ⌜ now (area .exit) ≡ paste (now (area .entry)) to (drop from (now (area .entry))) k ⌝ }
+{
+    let mut i = 0;
+    while i < k {
+        area[to + i] = area[from + i];
+        i = i + 1;
+    }
+}
+
+// The bytes from `from` up to `from + k` and a newline, at `to`.
+fn put_prefix(area: &mut [u8], from: usize, k: usize, to: usize)
+    requires { ⌜ (from + k ≤ to) × (to + k < length (now area)) ⌝ }
+    ensures { λ r. ⌜ take (to + k + 1) (now (area .exit)) ≡ take to (now (area .entry)) ++ (slice from (from + k) (now (area .entry)) ++ 10 ∷ []) ⌝ }
+{
+    copy_bytes(area, from, k, to);
+    let end = to + k;
+    area[end] = 10;
+}
+
+// The prefixes longer than 3 bytes of the view's adjacent lines, at 4n in the area; their starts at 2n + 2 in the table. Linear in the
+// view's lines: each is compared with its neighbours alone.
+pub fn list_prefixes(
+    class: &[u8; 256],
+    area: &mut [u8],
+    table: &mut [u32],
+    n: usize,
+    count: usize,
+    v: View,
+) -> Listed
+    requires { ⌜ (now class ≡ classTable) × Apart n (4 * n) (now table) count × (v .start ≤ v .end) × (v .end ≤ count) × (count ≤ n + 1) ⌝ }
+    requires { ⌜ (n ≤ textMost) × (byteArea n ≤ length (now area)) × (wordArea n ≤ length (now table)) ⌝ }
+    ensures { λ r. ⌜ Stands n (prefixes (linesFrom (now (area .entry)) (now (table .entry)) (v .start) (v .end - v .start))) (now (area .entry)) (now (table .entry)) r (now (area .exit)) (now (table .exit)) ⌝ }
+{
+    let at = 2 * n + 2;
+    let stop = v.end;
+    let mut k = 0;
+    let mut w = 4 * n;
+    let mut i = v.start;
+    while i + 1 < stop {
+        let s = shared(class, area, table, i);
+        let from = s.start;
+        let len = s.end - s.start;
+        i = i + 1;
+        if 3 < len {
+            put_prefix(area, from, len, w);
+            let j = at + k;
+            table[j] = w as u32;
+            k = k + 1;
+            w = w + len + 1;
+        }
+    }
+    Listed { k: k, end: w }
+}

@@ -1,3 +1,0 @@
-pub mod Run
-pub mod Down
-pub mod Ended

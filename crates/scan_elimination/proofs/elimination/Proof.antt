@@ -1,0 +1,142 @@
+-- `scan_elimination::elimination` meets its contract: the best of the whole is paid or not, and then passes follow or not.
+-- Assumes nothing.
+use mathlib.Core.Path.{refl, sym, _∙_, subst}
+use Prim.Native.Nat.{_≤_}
+use native.Mathlib.Omega.{arith}
+use denote.Ref.{now}
+use borrow.Author.Needs.{needs}
+use Rattle.detection_shelf.specs.Shelves.{shelf}
+use Rattle.rules.specs.declared.View.{View}
+use Rattle.rules.specs.Scan.{names, stops}
+use Rattle.detect.specs.Bests.{bestIn}
+use Rattle.scan_ranges.proofs.HeldLaws.{scanning-held, done-as}
+use Rattle.scan_elimination.proofs.EndLaws.{whole-out, best-stands, whole-stop, whole-room, whole-on, stop-by-best, stop-by-setting, no-stop}
+use Rattle.scan_elimination.proofs.elimination.Statement.{statement}
+use Rattle.scan_elimination.proofs.elimination.Tie as tie
+
+whole-view-requires : tie.Need-whole-view-requires
+whole-view-requires c κs = search needs
+
+best-text-requires : tie.Need-best-text-requires
+best-text-requires c κs =
+    let start = c .before .before .before .before .before .before .before .before .before in
+    let s = start .pre .0 in (
+      (s .classes, s .laid),
+      (
+        subst (λ (w : View). (w .start ≤ w .end) × (w .end ≤ start .args .scope .lines)) (sym (c .before .before .whole-view .ensures)) (omega arith, omega arith),
+        s .counted,
+      ),
+    )
+
+enum-known-best : tie.Need-enum-known-best
+enum-known-best c = search needs
+
+enum-told : tie.Need-enum-told
+enum-told c = search needs
+
+no-best-requires : tie.Need-no-best-requires
+no-best-requires c κs = search needs
+
+out-at-requires : tie.Need-out-at-requires
+out-at-requires c κs = search needs
+
+same-length : tie.Need-same-length
+same-length c = search needs
+
+same-length-2 : tie.Need-same-length-2
+same-length-2 c = search needs
+
+returns : tie.Need-returns
+returns c =
+    let pre = c .before .before .before .before .before .before .before .before .before .before .before .before .before .before .before .before .before .before .pre in
+    whole-out (pre .0) _ _ _ _ (pre .1) _ (c .before .before .before .before .before .before .before .before .before .before .before .whole-view .ensures) _ (done-as (c .before .before .enum-told .given .1) (c .before .before .before .before .before .before .before .before .best-text .ensures)) (c .before .no-best .ensures) (c .out-at .ensures)
+
+stops-requires : tie.Need-stops-requires
+stops-requires c κs = search needs
+
+ended-requires : tie.Need-ended-requires
+ended-requires c κs = search needs
+
+same-length-3 : tie.Need-same-length-3
+same-length-3 c = search needs
+
+same-length-4 : tie.Need-same-length-4
+same-length-4 c = search needs
+
+returns-2 : tie.Need-returns-2
+unfolding stops names bestIn
+returns-2 c =
+    let pre = c .before .before .before .before .before .before .before .before .before .before .before .before .before .before .before .before .before .before .before .before .pre in
+    whole-stop (pre .0) _ _ _ _ (pre .1) _ (c .before .before .before .before .before .before .before .before .before .before .before .before .before .whole-view .ensures) _ _ (done-as (c .before .before .before .before .best .given .1) (c .before .before .before .before .before .before .before .before .before .before .best-text .ensures)) _
+    (stop-by-best _ _ (sym (c .before .before .stops .ensures) ∙ c .before .if1 .taken)) refl (c .ended .ensures)
+
+ended-requires-2 : tie.Need-ended-requires-2
+ended-requires-2 c κs = search needs
+
+same-length-5 : tie.Need-same-length-5
+same-length-5 c = search needs
+
+same-length-6 : tie.Need-same-length-6
+same-length-6 c = search needs
+
+returns-3 : tie.Need-returns-3
+returns-3 c =
+    let start = c .before .before .before .before .before .before .before .before .before .before .before .before .before .before .before .before .before .before .before .before .before in
+    let pre = start .pre in
+    whole-stop (pre .0) _ _ _ _ (pre .1) _ (c .before .before .before .before .before .before .before .before .before .before .before .before .before .before .whole-view .ensures) _ _ (done-as (c .before .before .before .before .before .best .given .1) (c .before .before .before .before .before .before .before .before .before .before .before .best-text .ensures)) _
+    (stop-by-setting (stops (start .args .scope .limits) (bestIn (shelf (now (start .args .book)) (now (start .args .second))) (c .before .before .before .before .before .best .given .0 .0))) _ (c .before .if2 .taken)) refl (c .ended2 .ensures)
+
+each-pass-requires : tie.Need-each-pass-requires
+unfolding stops names bestIn
+each-pass-requires c κs =
+    let pre = c .before .before .before .before .before .before .before .before .before .before .before .before .before .before .before .before .before .before .before .before .before .before .before .pre in
+    let d = done-as (c .before .before .before .before .before .before .before .best .given .1) (c .before .before .before .before .before .before .before .before .before .before .before .before .before .best-text .ensures) in
+    let on = no-stop _ _ (sym (c .before .before .before .before .before .stops .ensures) ∙ c .before .before .before .before .if1 .left) (c .before .before .before .if2 .left) in (
+      scanning-held (pre .0) (d .held),
+      (best-stands (pre .0) _ _ _ (now (c .before .before .before .before .before .before .before .before .before .before .before .before .before .before .before .before .before .before .before .before .before .before .before .args .results)) (pre .1) _ (c .before .before .before .before .before .before .before .before .before .before .before .before .before .before .before .before .whole-view .ensures) _ _ d, whole-room (pre .0) _ _ _ (now (c .before .before .before .before .before .before .before .before .before .before .before .before .before .before .before .before .before .before .before .before .before .before .before .args .results)) (pre .1) _ (c .before .before .before .before .before .before .before .before .before .before .before .before .before .before .before .before .whole-view .ensures) _ _ d on),
+    )
+
+same-length-7 : tie.Need-same-length-7
+same-length-7 c = search needs
+
+same-length-8 : tie.Need-same-length-8
+same-length-8 c = search needs
+
+same-length-9 : tie.Need-same-length-9
+same-length-9 c = search needs
+
+returns-4 : tie.Need-returns-4
+unfolding stops names bestIn
+returns-4 c =
+    let pre = c .before .before .before .before .before .before .before .before .before .before .before .before .before .before .before .before .before .before .before .before .before .before .before .before .before .before .before .before .before .before .pre in
+    let d = done-as (c .before .before .before .before .before .before .before .before .before .before .before .before .before .before .best .given .1) (c .before .before .before .before .before .before .before .before .before .before .before .before .before .before .before .before .before .before .before .before .best-text .ensures) in
+    let on = no-stop _ _ (sym (c .before .before .before .before .before .before .before .before .before .before .before .before .stops .ensures) ∙ c .before .before .before .before .before .before .before .before .before .before .before .if1 .left) (c .before .before .before .before .before .before .before .before .before .before .if2 .left) in
+    whole-on (pre .0) _ _ _ _ (pre .1) _ (c .before .before .before .before .before .before .before .before .before .before .before .before .before .before .before .before .before .before .before .before .before .before .before .whole-view .ensures) _ _ d on _ refl (c .before .before .before .before .before .before .each-pass .ensures)
+
+pub elimination-spec : {M : Type 1} → statement M
+elimination-spec =
+    tie.close
+    (tie.spec
+    whole-view-requires
+    best-text-requires
+    enum-known-best
+    enum-told
+    no-best-requires
+    out-at-requires
+    same-length
+    same-length-2
+    returns
+    stops-requires
+    ended-requires
+    same-length-3
+    same-length-4
+    returns-2
+    ended-requires-2
+    same-length-5
+    same-length-6
+    returns-3
+    each-pass-requires
+    same-length-7
+    same-length-8
+    same-length-9
+    returns-4)

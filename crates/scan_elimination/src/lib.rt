@@ -1,0 +1,205 @@
+// Elimination: the best stored text of the whole note; then, pass by pass, its bounds, a record, the lines in range made blank, the best again.
+// From detection/scan.rs of spdx 0.13.6 (Copyright 2018 Amazon.com, Inc. or its affiliates. All Rights Reserved.
+// SPDX-License-Identifier: Apache-2.0), changed: the mode `Elimination`, with every scoring charged. Assumes nothing.
+ghost use mathlib.Core.Path.{_≡_};
+ghost use Prim.Native.Nat.{_≤_};
+ghost use mathlib.Core.Bool.{_&&_};
+ghost use lib.Ieee.{lt};
+ghost use lib.ListN.{length};
+ghost use Rattle.rules.specs.Scan as rules;
+ghost use Rattle.preproc_table.specs.Entries.{linesAt};
+ghost use Rattle.detect.specs.Bests.{bestIn};
+ghost use Rattle.detection_shelf.specs.Shelves.{shelf, texts, Stands};
+ghost use Rattle.scan_ranges.specs.Run.{Scanning, BestWithout, written, Ran};
+ghost use Rattle.scan_elimination.specs.Ended.{Eliminated};
+use detect::Best;
+use detect::Chosen;
+use detect::best_text;
+use detect::no_best;
+use license_bounds::Ranged;
+use preproc_table::blank_lines;
+use rules::Bounds;
+use rules::Limits;
+use scan_ranges::Run;
+use scan_ranges::Scope;
+use scan_ranges::below;
+use scan_ranges::ended;
+use scan_ranges::out_at;
+use scan_ranges::put_record;
+use scan_ranges::text_bounds;
+use scan_ranges::whole_view;
+
+// The lines in range are made blank; the best text of the whole note, as it then stands.
+fn best_without<'a>(
+    class: &[u8; 256],
+    area: &mut [u8],
+    words: &mut [u32],
+    scope: Scope,
+    book: &'a [u8],
+    second: &'a [u8],
+    range: Bounds,
+    budget: u64,
+) -> Chosen
+    requires { ⌜ Scanning scope (now class) (now area) (now words) (shelf (now book) (now second)) ⌝ }
+    requires { ⌜ (range .first ≤ range .after) × (range .after ≤ scope .lines) ⌝ }
+    ensures { λ r. ⌜ BestWithout scope (now (class .entry)) (now (area .entry)) (now (words .entry)) (now (area .exit)) (now (words .exit)) (shelf (now (book .entry)) (now (second .entry))) range budget r ⌝ }
+{
+    let n = scope.n;
+    let lines = scope.lines;
+    let texts = scope.texts;
+    blank_lines(words, range.first, range.after);
+    best_text(
+        class,
+        area,
+        words,
+        n,
+        lines,
+        whole_view(lines),
+        book,
+        second,
+        texts,
+        budget,
+    )
+}
+
+// Up to p passes, from the best text of the note as it stands.
+pub fn each_pass<'a>(
+    class: &[u8; 256],
+    area: &mut [u8],
+    words: &mut [u32],
+    scope: Scope,
+    book: &'a [u8],
+    second: &'a [u8],
+    p: u16,
+    first: Best,
+    results: &mut [u32],
+    budget: u64,
+) -> Run
+    requires { ⌜ Scanning scope (now class) (now area) (now words) (shelf (now book) (now second)) ⌝ }
+    requires { ⌜ Stands (shelf (now book) (now second)) (first .text) ⌝ }
+    requires { ⌜ length (written budget (rules.eachPass (scope .limits) (texts (shelf (now book) (now second))) p (linesAt (now area) (now words) (scope .lines)) (bestIn (shelf (now book) (now second)) first))) ≤ length (now results) ⌝ }
+    ensures { λ r. ⌜ Ran (rules.eachPass (scope .limits) (texts (shelf (now (book .entry)) (now (second .entry)))) p (linesAt (now (area .entry)) (now (words .entry)) (scope .lines)) (bestIn (shelf (now (book .entry)) (now (second .entry))) first)) budget (now (results .entry)) (now (results .exit)) r ⌝ }
+{
+    let v = whole_view(scope.lines);
+    let mut best = first;
+    let mut left = budget;
+    let mut k: u32 = 0;
+    while k < p as u32 {
+        let text = best.text;
+        let Ranged::Found(range, paid) = text_bounds(
+            class,
+            area,
+            words,
+            scope,
+            v,
+            book,
+            second,
+            text,
+            left,
+        ) else {
+            return out_at(k);
+        };
+        if below(scope.limits, range) {
+            return ended(k, paid);
+        }
+        put_record(results, k, text.number, range);
+        k += 1;
+        let Chosen::Found(next, rest) = best_without(
+            class,
+            area,
+            words,
+            scope,
+            book,
+            second,
+            range,
+            paid,
+        ) else {
+            return out_at(k);
+        };
+        best = next;
+        left = rest;
+    }
+    ended(k, left)
+}
+
+// The best text of a note, and how the passes over it ended.
+pub struct Outcome {
+    pub best: Best,
+    pub run: Run,
+}
+
+// Named, and strictly above the shallow limit: no pass is needed.
+fn stops(limits: Limits, best: Best) -> bool
+    ensures { λ r. ⌜ r ≡ (lt (limits .threshold) (best .value .score) && lt (limits .shallow) (best .value .score)) ⌝ }
+{
+    let value = best.value;
+    if limits.threshold < value.score {
+        return limits.shallow < value.score;
+    }
+    false
+}
+
+// With `optimize`, up to p passes follow the best text of the note.
+pub fn elimination<'a>(
+    class: &[u8; 256],
+    area: &mut [u8],
+    words: &mut [u32],
+    scope: Scope,
+    optimize: bool,
+    p: u16,
+    book: &'a [u8],
+    second: &'a [u8],
+    results: &mut [u32],
+    budget: u64,
+) -> Outcome
+    requires { ⌜ Scanning scope (now class) (now area) (now words) (shelf (now book) (now second)) ⌝ }
+    requires { ⌜ length (written budget (rules.elimination (scope .limits) optimize p (texts (shelf (now book) (now second))) (linesAt (now area) (now words) (scope .lines)))) ≤ length (now results) ⌝ }
+    ensures { λ r. ⌜ Eliminated (rules.elimination (scope .limits) optimize p (texts (shelf (now (book .entry)) (now (second .entry)))) (linesAt (now (area .entry)) (now (words .entry)) (scope .lines))) budget (shelf (now (book .entry)) (now (second .entry))) (now (results .entry)) (now (results .exit)) r ⌝ }
+{
+    let n = scope.n;
+    let lines = scope.lines;
+    let texts = scope.texts;
+    let v = whole_view(lines);
+    let Chosen::Found(best, left) = best_text(
+        class,
+        area,
+        words,
+        n,
+        lines,
+        v,
+        book,
+        second,
+        texts,
+        budget,
+    ) else {
+        return Outcome {
+            best: no_best(),
+            run: out_at(0),
+        };
+    };
+    if stops(scope.limits, best) {
+        return Outcome {
+            best,
+            run: ended(0, left),
+        };
+    }
+    if !optimize {
+        return Outcome {
+            best,
+            run: ended(0, left),
+        };
+    }
+    let run = each_pass(
+        class,
+        area,
+        words,
+        scope,
+        book,
+        second,
+        p,
+        best,
+        results,
+        left,
+    );
+    Outcome { best, run }
+}

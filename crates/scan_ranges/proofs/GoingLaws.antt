@@ -1,0 +1,76 @@
+-- A loop that records: what stands in the results area and what is still to come, paid from what is left, are the whole paid from the budget.
+--     going-first                       before the first event
+--     going-paid, going-out             past a run of scorings that is paid, and at one that is not
+--     going-room, going-found           past a record
+--     going-end                         after the last event
+-- Assumes nothing.
+use mathlib.Core.Path.{_≡_, refl, sym, ap, _∙_, subst}
+use mathlib.Core.List.{List, [], _∷_, _++_}
+use mathlib.Core.Option.{none, some}
+use Prim.Native.Nat.{ℕ, _+_, _*_, _≤_}
+use native.Mathlib.Omega.{arith}
+use lib.Ieee.{toBits, binary32}
+use lib.ListN.{length, take, drop}
+use Rattle.lists.proofs.WriteLaws.{Part, part-start, part-skip, part-end, part-puts, part-space}
+use Rattle.rules.specs.Sizes.{recordWidth}
+use Rattle.rules.specs.Search.{Made}
+use Rattle.rules.specs.Scan.{Event, found, Recorded, after}
+use Rattle.license_charge.specs.Pay.{Paid, pay}
+use Rattle.scan_ranges.specs.declared.Run.{Run}
+use Rattle.scan_ranges.specs.Run.{written, leftOver, runOf, Ran}
+use Rattle.scan_ranges.proofs.RunLaws.{out-written, out-left, paid-written, paid-left, found-written, found-left, end-written, end-left}
+
+pub record Going (whole : List Event) (budget : ℕ) (r₀ r : List ℕ) (k left : ℕ) (rest : List Event) : Type 0 where
+  pub part : Part (written budget whole) (written left rest) r₀ r (recordWidth * k)
+  pub rest-left : leftOver left rest ≡ leftOver budget whole
+
+pub going-first : (es : List Event) (b : ℕ) (r : List ℕ) → length (written b es) ≤ length r → Going es b r r 0 b es
+going-first es b r h = record { part = part-start (written b es) r h; rest-left = refl }
+
+-- the numbers of a record
+abbrev pub four : Recorded → List ℕ
+four f = f .text .number ∷ f .range .first ∷ f .range .after ∷ toBits binary32 (f .range .value .score) ∷ []
+
+ran-as : {whole : List Event} {budget : ℕ} {r₀ r : List ℕ} {x y : Run} → x ≡ y → Ran whole budget r₀ r y → Ran whole budget r₀ r x
+ran-as {whole} {budget} {r₀} {r} {x} {y} e h = subst (λ (z : Run). Ran whole budget r₀ r z) (sym e) h
+
+module _ {whole : List Event} {budget : ℕ} {r₀ r : List ℕ} {k left : ℕ} where
+  pub going-as : {es fs : List Event} → es ≡ fs → Going whole budget r₀ r k left es → Going whole budget r₀ r k left fs
+  going-as {es} {fs} e g = subst (λ (x : List Event). Going whole budget r₀ r k left x) e g
+
+  pub going-paid : {A : Type 0} (m : Made A) (es : List Event) (p : Paid A) → pay m left ≡ some p →
+      Going whole budget r₀ r k left (after (m .list) es) → Going whole budget r₀ r k (p .left) es
+  going-paid m es p h g =
+      record { part = part-skip (paid-written m left es p h) (g .part); rest-left = sym (paid-left m left es p h) ∙ g .rest-left }
+
+  pub going-out : {A : Type 0} (m : Made A) (es : List Event) (x : Run) → pay m left ≡ none → x ≡ runOf k none →
+      Going whole budget r₀ r k left (after (m .list) es) → Ran whole budget r₀ r x
+  unfolding runOf
+  going-out m es x h e g =
+      ran-as e (record {
+        wrote = part-end (out-written m left es h) (g .part);
+        run = ap (runOf k) (sym (out-left m left es h) ∙ g .rest-left);
+      })
+
+  pub going-end : (x : Run) → x ≡ runOf k (some left) → Going whole budget r₀ r k left [] → Ran whole budget r₀ r x
+  unfolding runOf
+  going-end x e g =
+      ran-as e (record {
+        wrote = part-end (end-written left) (g .part);
+        run = ap (runOf k) (sym (end-left left) ∙ g .rest-left);
+      })
+
+  module _ (f : Recorded) (es : List Event) (g : Going whole budget r₀ r k left (found f ∷ es)) where
+    pub going-room : recordWidth * k + recordWidth ≤ length r
+    going-room = part-space (four f) (written left es) (found-written left f es) (g .part)
+
+    pub going-found : (r′ : List ℕ) → r′ ≡ take (recordWidth * k) r ++ four f ++ drop (recordWidth * k + recordWidth) r →
+        Going whole budget r₀ r′ (k + 1) left es
+    going-found r′ e =
+        let at : recordWidth * (k + 1) ≡ recordWidth * k + length (four f) = omega arith in
+        let to : recordWidth * k + recordWidth ≡ recordWidth * (k + 1) = omega arith in
+        record {
+          part = part-puts (four f) (found-written left f es) at
+              (e ∙ ap (λ (n : ℕ). take (recordWidth * k) r ++ four f ++ drop n r) to) (g .part);
+          rest-left = sym (found-left left f es) ∙ g .rest-left;
+        }

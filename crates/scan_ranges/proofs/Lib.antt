@@ -1,0 +1,4 @@
+pub mod RunLaws
+pub mod GoingLaws
+pub mod ValueLaws
+pub mod HeldLaws

@@ -1,0 +1,127 @@
+// What both scans do with a stored text that they have found: its bounds, and a record of them in the results area.
+// From detection/scan.rs of spdx 0.13.6 (Copyright 2018 Amazon.com, Inc. or its affiliates. All Rights Reserved.
+// SPDX-License-Identifier: Apache-2.0), changed: its vector of matches is a lent area of numbers. Assumes nothing.
+ghost use mathlib.Core.Path.{_≡_};
+ghost use mathlib.Core.Option.{none, some};
+ghost use mathlib.Core.List.{[], _∷_, _++_};
+ghost use Prim.Native.Nat.{_+_, _*_, _≤_, _<_};
+ghost use lib.Dec.{T};
+ghost use lib.Ieee.{toBits, binary32};
+ghost use lib.ListN.{length, take, drop};
+ghost use Rattle.rules.specs.Refusal.{unit};
+ghost use Rattle.rules.specs.Scan as rules;
+ghost use Rattle.rules.specs.Search.{view};
+ghost use Rattle.rules.specs.Sizes.{recordWidth};
+ghost use Rattle.detection_shelf.specs.Shelves.{shelf, Stands};
+ghost use Rattle.scan_ranges.specs.Run.{Scanning, RangeDone, runOf};
+use detection_shelf::Counts;
+use detection_shelf::Shelved;
+use detection_shelf::body_of;
+use license_bounds::Ranged;
+use license_bounds::find_bounds;
+use rules::Bounds;
+use rules::Limits;
+use rules::View;
+
+// The numbers of a record in the results area.
+pub const RECORD_WIDTH: usize = 4;
+
+// What a scan works on: the note's bytes and lines, how many texts the books store, and the limits.
+pub struct Scope {
+    pub n: usize,
+    pub lines: usize,
+    pub texts: Counts,
+    pub limits: Limits,
+}
+
+// How a scan ended: whether the budget was out, how many ranges are recorded, and the scorings left, 0 where it was out.
+pub struct Run {
+    pub out: bool,
+    pub records: u32,
+    pub left: u64,
+}
+
+// The budget is out, with k ranges recorded.
+pub fn out_at(k: u32) -> Run
+    ensures { λ r. ⌜ r ≡ runOf k none ⌝ }
+{
+    Run {
+        out: true,
+        records: k,
+        left: 0,
+    }
+}
+
+// All is paid, with k ranges recorded.
+pub fn ended(k: u32, left: u64) -> Run
+    ensures { λ r. ⌜ r ≡ runOf k (some left) ⌝ }
+{
+    Run {
+        out: false,
+        records: k,
+        left,
+    }
+}
+
+pub fn whole_view(lines: usize) -> View
+    ensures { λ r. ⌜ r ≡ view 0 lines ⌝ }
+{
+    View {
+        start: 0,
+        end: lines,
+    }
+}
+
+// The bounds of a view against a stored text of the books.
+pub fn text_bounds<'a>(
+    class: &[u8; 256],
+    area: &mut [u8],
+    words: &mut [u32],
+    scope: Scope,
+    v: View,
+    book: &'a [u8],
+    second: &'a [u8],
+    text: Shelved,
+    budget: u64,
+) -> Ranged
+    requires { ⌜ Scanning scope (now class) (now area) (now words) (shelf (now book) (now second)) ⌝ }
+    requires { ⌜ (v .start ≤ v .end) × (v .end ≤ scope .lines) ⌝ }
+    requires { ⌜ Stands (shelf (now book) (now second)) text ⌝ }
+    ensures { λ r. ⌜ RangeDone scope (now (class .entry)) (now (area .entry)) (now (words .entry)) (now (area .exit)) (now (words .exit)) v (shelf (now (book .entry)) (now (second .entry))) text budget r ⌝ }
+{
+    let n = scope.n;
+    let lines = scope.lines;
+    let body = body_of(book, second, text);
+    find_bounds(class, area, words, n, lines, v, body, budget)
+}
+
+// So low that nothing is recorded.
+pub fn below(limits: Limits, range: Bounds) -> bool
+    ensures { λ r. ⌜ r ≡ rules.below limits range ⌝ }
+{
+    range.value.score < limits.threshold
+}
+
+fn put_four(results: &mut [u32], at: usize, a: u32, b: u32, c: u32, d: u32)
+    requires { ⌜ at + 4 ≤ length (now results) ⌝ }
+    ensures { λ _. ⌜ now (results .exit) ≡ take at (now (results .entry)) ++ (a ∷ b ∷ c ∷ d ∷ []) ++ drop (at + 4) (now (results .entry)) ⌝ }
+{
+    results[at] = a;
+    results[at + 1] = b;
+    results[at + 2] = c;
+    results[at + 3] = d;
+}
+
+// Record k: the stored number, the first line, the line after the last, and the score's bits.
+pub fn put_record(results: &mut [u32], k: u32, number: u32, range: Bounds)
+    requires { ⌜ recordWidth * k + recordWidth ≤ length (now results) ⌝ }
+    requires { ⌜ (range .first < 4294967296) × (range .after < 4294967296) × T (unit (range .value .score)) ⌝ }
+    ensures { λ _. ⌜ now (results .exit) ≡ take (recordWidth * k) (now (results .entry)) ++ (number ∷ range .first ∷ range .after ∷ toBits binary32 (range .value .score) ∷ []) ++ drop (recordWidth * k + recordWidth) (now (results .entry)) ⌝ }
+{
+    let first = range.first as u32;
+    let after = range.after as u32;
+    let score = range.value.score;
+    let bits = f32::to_bits(score);
+    let at = RECORD_WIDTH * k as usize;
+    put_four(results, at, number, first, after, bits);
+}

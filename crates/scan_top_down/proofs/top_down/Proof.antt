@@ -1,0 +1,154 @@
+-- `scan_top_down::top_down` meets its contract: the loop's invariant is that the rounds still to come, paid from what is left, are all rounds
+-- paid from the budget.
+-- Assumes nothing.
+use mathlib.Core.Path.{_∙_}
+use Prim.Native.Nat.{_+_, _-_}
+use native.Mathlib.Omega.{arith}
+use borrow.Author.Needs.{needs}
+use Rattle.detection_shelf.specs.Shelves.{shelf, textIn}
+use Rattle.scan_top_down.proofs.DownRunLaws.{Downing, contains-as, rounds-first, rounds-out, rounds-nothing, rounds-fits, rounds-room, rounds-rise, rounds-found, rounds-end}
+use Rattle.scan_top_down.proofs.top_down.Statement.{statement}
+use Rattle.scan_top_down.proofs.top_down.Tie as tie
+
+abbrev Inv-loop : tie.InvT-loop
+Inv-loop class area₀ words₀ scope step book second results₀ budget lines left₀ c₀ k₀ area words results left c k =
+    Downing scope class area₀ words₀ (shelf book second) results₀ step budget area words results left c k
+
+abbrev μ-loop : tie.MeasureT-loop
+μ-loop class area₀ words₀ scope step book second results₀ budget lines left₀ c₀ k₀ area words results left c k = lines + 1 - c
+
+loop-holds : tie.Need-loop-holds Inv-loop μ-loop
+loop-holds c =
+    let pre = c .before .before .before .before .before .pre in
+    rounds-first _ _ _ (pre .0) (pre .1 .1)
+
+find-contained-requires : tie.Need-find-contained-requires Inv-loop μ-loop
+find-contained-requires c κs = (c .before .before .before .loop .inv .ready, (omega (arith, c .before .before .loop-test .taken), c .before .before .before .before .before .before .before .before .before .pre .1 .0))
+
+enum-told : tie.Need-enum-told Inv-loop μ-loop
+enum-told c = search needs
+
+out-at-requires : tie.Need-out-at-requires Inv-loop μ-loop
+out-at-requires c κs = search needs
+
+same-length : tie.Need-same-length Inv-loop μ-loop
+same-length c = c .before .before .before .before .before .before .before .find-contained .ensures .held .area-long ∙ c .before .before .before .before .before .before .before .before .before .before .before .loop .inv .held .area-long
+
+same-length-2 : tie.Need-same-length-2 Inv-loop μ-loop
+same-length-2 c = c .before .before .before .before .before .before .before .find-contained .ensures .held .words-long ∙ c .before .before .before .before .before .before .before .before .before .before .before .loop .inv .held .words-long
+
+same-length-3 : tie.Need-same-length-3 Inv-loop μ-loop
+same-length-3 c = c .before .before .before .before .before .before .before .before .before .before .before .loop .inv .going .part .long
+
+returns : tie.Need-returns Inv-loop μ-loop
+returns c =
+    rounds-out (c .before .before .before .before .before .before .before .before .before .before .before .loop .inv) (c .before .before .before .before .before .before .before .before .before .before .before .before .before .before .before .before .before .pre .1 .0) (c .before .before .before .before .before .before .before .before .before .before .loop-test .taken) _ (contains-as (c .before .enum-told .given .1) (c .before .before .before .before .before .before .before .find-contained .ensures))
+    (c .out-at .ensures)
+
+enum-known-rest : tie.Need-enum-known-rest Inv-loop μ-loop
+enum-known-rest c = search needs
+
+ended-requires : tie.Need-ended-requires Inv-loop μ-loop
+ended-requires c κs = search needs
+
+same-length-4 : tie.Need-same-length-4 Inv-loop μ-loop
+same-length-4 c = c .before .before .before .before .before .before .before .before .find-contained .ensures .held .area-long ∙ c .before .before .before .before .before .before .before .before .before .before .before .before .loop .inv .held .area-long
+
+same-length-5 : tie.Need-same-length-5 Inv-loop μ-loop
+same-length-5 c = c .before .before .before .before .before .before .before .before .find-contained .ensures .held .words-long ∙ c .before .before .before .before .before .before .before .before .before .before .before .before .loop .inv .held .words-long
+
+same-length-6 : tie.Need-same-length-6 Inv-loop μ-loop
+same-length-6 c = c .before .before .before .before .before .before .before .before .before .before .before .before .loop .inv .going .part .long
+
+returns-2 : tie.Need-returns-2 Inv-loop μ-loop
+returns-2 c =
+    rounds-nothing (c .before .before .before .before .before .before .before .before .before .before .before .before .loop .inv) (c .before .before .before .before .before .before .before .before .before .before .before .before .before .before .before .before .before .before .pre .1 .0) (c .before .before .before .before .before .before .before .before .before .before .before .loop-test .taken) _ _ (contains-as (c .before .before .rest .given .1) (c .before .before .before .before .before .before .before .before .find-contained .ensures))
+    (c .ended .ensures)
+
+enum-known-text : tie.Need-enum-known-text Inv-loop μ-loop
+enum-known-text c = search needs
+
+put-record-requires : tie.Need-put-record-requires Inv-loop μ-loop
+put-record-requires c κs =
+    let i = c .before .before .before .before .before .before .before .before .before .before .before .before .loop .inv in
+    let p = c .before .before .before .before .before .before .before .before .before .before .before .before .before .before .before .before .before .before .pre .1 .0 in
+    let l = c .before .before .before .before .before .before .before .before .before .before .before .loop-test .taken in
+    let d = contains-as (c .before .before .text .given .1) (c .before .before .before .before .before .before .before .before .find-contained .ensures) in
+    let fits = rounds-fits i p l _ _ _ d in (
+      rounds-room i p l _ _ _ d,
+      (omega (arith, fits .order, fits .high, i .ready .few), omega (arith, fits .high, i .ready .few), fits .unit),
+    )
+
+add-k : tie.Need-add-k Inv-loop μ-loop
+add-k c =
+    let i = c .before .before .before .before .before .before .before .before .before .before .before .before .before .before .before .loop .inv in
+    omega (arith, i .within, i .to, i .ready .few)
+
+add-c : tie.Need-add-c Inv-loop μ-loop
+add-c c =
+    let i = c .before .before .before .before .before .before .before .before .before .before .before .before .before .before .before .before .loop .inv in
+    let d = contains-as (c .before .before .before .before .before .before .text .given .1) (c .before .before .before .before .before .before .before .before .before .before .before .before .find-contained .ensures) in
+    let fits = rounds-fits i (c .before .before .before .before .before .before .before .before .before .before .before .before .before .before .before .before .before .before .before .before .before .before .pre .1 .0) (c .before .before .before .before .before .before .before .before .before .before .before .before .before .before .before .loop-test .taken) _ _ _ d in
+    omega (arith, fits .high, i .ready .few)
+
+loop-less : tie.Need-loop-less Inv-loop μ-loop
+loop-less c =
+    let i = c .before .before .before .before .before .before .before .before .before .before .before .before .before .before .before .before .loop .inv in
+    let d = contains-as (c .before .before .before .before .before .before .text .given .1) (c .before .before .before .before .before .before .before .before .before .before .before .before .find-contained .ensures) in
+    let l = c .before .before .before .before .before .before .before .before .before .before .before .before .before .before .before .loop-test .taken in
+    let rise = rounds-rise i (c .before .before .before .before .before .before .before .before .before .before .before .before .before .before .before .before .before .before .before .before .before .before .pre .1 .0) l _ _ _ d in
+    omega (arith, rise, l)
+
+loop-again : tie.Need-loop-again Inv-loop μ-loop
+unfolding textIn
+loop-again c =
+    let i = c .before .before .before .before .before .before .before .before .before .before .before .before .before .before .before .before .loop .inv in
+    let d = contains-as (c .before .before .before .before .before .before .text .given .1) (c .before .before .before .before .before .before .before .before .before .before .before .before .find-contained .ensures) in
+    rounds-found i (c .before .before .before .before .before .before .before .before .before .before .before .before .before .before .before .before .before .before .before .before .before .before .pre .1 .0) (c .before .before .before .before .before .before .before .before .before .before .before .before .before .before .before .loop-test .taken) _ _ _ d (c .before .before .before .put-record .ensures)
+
+ended-requires-2 : tie.Need-ended-requires-2 Inv-loop μ-loop
+ended-requires-2 c κs = search needs
+
+same-length-7 : tie.Need-same-length-7 Inv-loop μ-loop
+same-length-7 c = c .before .before .loop .inv .held .area-long
+
+same-length-8 : tie.Need-same-length-8 Inv-loop μ-loop
+same-length-8 c = c .before .before .loop .inv .held .words-long
+
+same-length-9 : tie.Need-same-length-9 Inv-loop μ-loop
+same-length-9 c = c .before .before .loop .inv .going .part .long
+
+returns-3 : tie.Need-returns-3 Inv-loop μ-loop
+returns-3 c = rounds-end (c .before .before .loop .inv) (c .before .before .before .before .before .before .before .before .pre .1 .0) _ (c .before .loop-test .left) (c .ended2 .ensures)
+
+pub top-down-spec : {M : Type 1} → statement M
+top-down-spec =
+    tie.close
+    (tie.spec
+    Inv-loop
+    μ-loop
+    loop-holds
+    find-contained-requires
+    enum-told
+    out-at-requires
+    same-length
+    same-length-2
+    same-length-3
+    returns
+    enum-known-rest
+    ended-requires
+    same-length-4
+    same-length-5
+    same-length-6
+    returns-2
+    enum-known-text
+    put-record-requires
+    add-k
+    add-c
+    loop-less
+    loop-again
+    ended-requires-2
+    same-length-7
+    same-length-8
+    same-length-9
+    returns-3)

@@ -1,0 +1,326 @@
+-- A round of top-down: one view, the ends from one start, all starts.
+--     see-out, see-low, see-high                        one view: not paid, below the threshold, and not below it
+--     Ending, ends-first, ends-next                     the ends still to come, paid from what is left, are all ends paid from the budget
+--     ends-out, ends-over, ends-end                     the ways out
+--     Starting and its like                             the same of the starts
+-- Assumes nothing.
+use mathlib.Core.Path.{_≡_, refl, sym, ap, _∙_, subst}
+use mathlib.Core.Bool.{Bool, true, false, cond}
+use mathlib.Core.List.{List, [], _∷_, _++_, map}
+use mathlib.Core.Option.{Option, none, some}
+use Prim.Native.Nat.{ℕ, suc, _+_, _≤_, _<_, min}
+use native.Mathlib.Nat.{min-eq-left}
+use native.Mathlib.Omega.{arith}
+use lib.Dec.{leb}
+use lib.Ieee.{Float, lt}
+use lib.ListN.{length}
+use borrow.Author.Tests.{leb-true, leb-false}
+use Rattle.rules.specs.declared.Limits.{Limits}
+use Rattle.rules.specs.declared.View.{View}
+use Rattle.rules.specs.Search as rules
+use Rattle.rules.specs.Search.{Made, Stored, done, view}
+use Rattle.rules.specs.Scan.{Pair, steps, viewsOf, latest}
+use Rattle.rules.proofs.Steps.{steps-more, steps-end}
+use Rattle.preproc_table.specs.Entries.{linesAt}
+use Rattle.license_charge.specs.Pay.{Paid, pay}
+use Rattle.license_notes.specs.Laid.{Held}
+use Rattle.license_charge.proofs.PayLaws.{andThen, pay-bind, pay-done}
+use Rattle.detect.specs.declared.Best.{Best}
+use Rattle.detect.specs.declared.Chosen.{Chosen}
+use Rattle.detect.specs.declared.Chosen.the-variants as chosen
+use Rattle.detect.specs.Bests.{bestIn, ChosenStands, Alike, ChosenFor, BestAbove}
+use Rattle.detect.proofs.AlikeLaws.{alike-low, alike-high}
+use Rattle.detection_shelf.specs.Shelves.{Shelf, texts, textIn}
+use Rattle.scan_ranges.specs.declared.Scope.{Scope}
+use Rattle.scan_views.specs.declared.Latest.{Latest}
+use Rattle.scan_views.specs.declared.Latest.the-variants as recent
+use Rattle.scan_views.specs.declared.Walked.{Walked}
+use Rattle.scan_views.specs.declared.Walked.the-variants as walked
+use Rattle.scan_ranges.specs.Run.{Scanning}
+use Rattle.scan_views.specs.Down.{Seen, walk, latestIn, walkedIn, pairIn, lowerIn, LatestStands, WalkedStands, Walks, Pairs}
+use Rattle.scan_ranges.proofs.HeldLaws.{held-none, held-more, scanning-held}
+use Rattle.scan_views.proofs.WalkLaws.{pairOf, lowered, walk-one, walk-on, after-walk, walk-next, latest-append}
+
+pub above-as : {n lines : ℕ} {area₀ words₀ area words : List ℕ} {v : View} {books : Shelf} {floor : Float} {budget : ℕ} {r x : Chosen} → r ≡ x →
+    BestAbove n lines area₀ words₀ area words v books floor budget r → BestAbove n lines area₀ words₀ area words v books floor budget x
+above-as {n} {lines} {area₀} {words₀} {area} {words} {v} {books} {floor} {budget} {r} {x} e d =
+    subst (λ (y : Chosen). BestAbove n lines area₀ words₀ area words v books floor budget y) e d
+
+pub walks-as : {scope : Scope} {area₀ words₀ area words : List ℕ} {books : Shelf} {run : List Stored → List (List ℕ) → Made Seen} {budget : ℕ} {r x : Walked} → r ≡ x →
+    Walks scope area₀ words₀ area words books run budget r → Walks scope area₀ words₀ area words books run budget x
+walks-as {scope} {area₀} {words₀} {area} {words} {books} {run} {budget} {r} {x} e d =
+    subst (λ (y : Walked). Walks scope area₀ words₀ area words books run budget y) e d
+
+-- ---- one view
+lower-is : (books : Shelf) (l : Latest) (left : ℕ) → walkedIn books (lowerIn l left) ≡ pay (done (lowered (latestIn books l))) left
+unfolding walkedIn lowerIn lowered latestIn
+lower-is books recent.Nothing left = sym (pay-done (record { pair = none; ended = false }) left)
+lower-is books (recent.Pair v t) left = sym (pay-done (record { pair = some (record { view = v; text = textIn books t }); ended = true }) left)
+
+lower-stands : (books : Shelf) (lines : ℕ) (l : Latest) (left : ℕ) → LatestStands books lines l → WalkedStands books lines (lowerIn l left)
+unfolding WalkedStands lowerIn
+lower-stands books lines recent.Nothing left h = h
+lower-stands books lines (recent.Pair v t) left h = h
+
+module _ (scope : Scope) (area₀ words₀ : List ℕ) (books : Shelf) (v : View) (budget : ℕ) (l : Latest) where
+  abbrev pub one : List Stored → List (List ℕ) → Made Seen
+  one ss ls = walk (scope .limits) ss ls (latestIn books l) (v ∷ [])
+
+  abbrev seen : rules.Best → Made Seen
+  seen b = cond (lt (b .value .score) (scope .limits .threshold)) (done (lowered (latestIn books l))) (done (record { pair = pairOf (scope .limits) (texts books) (linesAt area₀ words₀ (scope .lines)) v b; ended = false }))
+
+  abbrev all-lines : List (List ℕ)
+  all-lines = linesAt area₀ words₀ (scope .lines)
+
+  one-paid : pay (one (texts books) all-lines) budget ≡ andThen (pay (rules.best (texts books) all-lines v) budget) (λ b n. pay (seen b) n)
+  one-paid =
+      ap (λ (m : Made Seen). pay m budget) (walk-one (scope .limits) (texts books) all-lines (latestIn books l) v) ∙
+      pay-bind (rules.best (texts books) all-lines v) (λ b. seen b) budget
+
+  abbrev floor : Float
+  floor = scope .limits .threshold
+
+  pub see-out : {area words : List ℕ} → BestAbove (scope .n) (scope .lines) area₀ words₀ area words v books floor budget chosen.Out →
+      Walks scope area₀ words₀ area words books (λ ss ls. one ss ls) budget walked.Out
+  unfolding ChosenFor walkedIn WalkedStands andThen
+  see-out d = record {
+    is = sym (one-paid ∙ ap (λ (o : Option (Paid rules.Best)). andThen o (λ b n. pay (seen b) n)) (d .is));
+    stands = tt;
+    held = d .held;
+  }
+
+  module _ {area words : List ℕ} (b : Best) (left : ℕ) (d : BestAbove (scope .n) (scope .lines) area₀ words₀ area words v books floor budget (chosen.Found b left)) where
+    -- the definition's best, which b is unless both are below the threshold
+    real : (x : rules.Best) × ((pay (rules.best (texts books) all-lines v) budget ≡ some (record { value = x; left = left })) × Alike floor (bestIn books b) x)
+    unfolding ChosenFor
+    real = d .is
+
+    found-paid : pay (one (texts books) all-lines) budget ≡ pay (seen (real .0)) left
+    unfolding andThen
+    found-paid = one-paid ∙ ap (λ (o : Option (Paid rules.Best)). andThen o (λ x n. pay (seen x) n)) (real .1 .0)
+
+    pub see-low : (r : Walked) → lt (b .value .score) floor ≡ true → LatestStands books (scope .lines) l → r ≡ lowerIn l left →
+        Walks scope area₀ words₀ area words books (λ ss ls. one ss ls) budget r
+    unfolding bestIn
+    see-low r t h e = rw e (record {
+      is = lower-is books l left ∙ sym (found-paid ∙ ap (λ (q : Bool). pay (cond q (done (lowered (latestIn books l))) (done (record { pair = some (record { view = v; text = real .0 .text }); ended = false }))) left)
+          (alike-low floor (bestIn books b) (real .0) (real .1 .1) t));
+      stands = lower-stands books (scope .lines) l left h;
+      held = d .held;
+    })
+
+    pub see-high : lt (b .value .score) floor ≡ false → (v .start ≤ v .end) × (v .end ≤ scope .lines) → 0 < length (texts books) →
+        Walks scope area₀ words₀ area words books (λ ss ls. one ss ls) budget (walked.On (recent.Pair v (b .text)) left)
+    unfolding bestIn walkedIn latestIn WalkedStands LatestStands ChosenStands
+    see-high t h u = record {
+      is = sym (found-paid ∙ ap (λ (x : rules.Best). pay (seen x) left) (sym (alike-high floor (bestIn books b) (real .0) (real .1 .1) t)) ∙
+          ap (λ (q : Bool). pay (cond q (done (lowered (latestIn books l))) (done (record { pair = some (record { view = v; text = textIn books (b .text) }); ended = false }))) left) t ∙
+          pay-done (record { pair = some (record { view = v; text = textIn books (b .text) }); ended = false }) left);
+      stands = (d .stands u, h .0, h .1);
+      held = d .held;
+    }
+
+-- ---- steps
+pub steps-least : (s a n : ℕ) → 0 < s → steps s (min (a + s) n) n ≡ steps s (a + s) n
+steps-least s a n p = at (leb (a + s) n) refl
+  where
+    at : (t : Bool) → leb (a + s) n ≡ t → steps s (min (a + s) n) n ≡ steps s (a + s) n
+    at true q = ap (λ (k : ℕ). steps s k n) (min-eq-left (leb-true (a + s) n q))
+    at false q =
+        let l = leb-false (a + s) n q in
+        steps-end s (min (a + s) n) n p (omega arith) ∙ sym (steps-end s (a + s) n p (omega arith))
+
+-- ---- a walk of views, of which the first is done; and a round, of which a front is done
+module _ (lim : Limits) (ss : List Stored) (ls : List (List ℕ)) (books : Shelf) (o : Option Pair) (left : ℕ) (r : Walked) where
+  pub walk-past : (v : View) (vs : List View) → walkedIn books r ≡ pay (walk lim ss ls o (v ∷ [])) left →
+      pay (walk lim ss ls o (v ∷ vs)) left ≡ andThen (walkedIn books r) (λ a n. pay (walk-on lim ss ls vs a) n)
+  walk-past v vs h =
+      ap (λ (m : Made Seen). pay m left) (walk-next lim ss ls vs o v) ∙ pay-bind (walk lim ss ls o (v ∷ [])) (λ a. walk-on lim ss ls vs a) left ∙
+      ap (λ (p : Option (Paid Seen)). andThen p (λ a n. pay (walk-on lim ss ls vs a) n)) (sym h)
+
+  pub latest-past : (xs ys : List View) → walkedIn books r ≡ pay (walk lim ss ls o xs) left →
+      pay (latest lim ss ls o (xs ++ ys)) left ≡ andThen (walkedIn books r) (λ a n. pay (after-walk lim ss ls ys a) n)
+  latest-past xs ys h =
+      ap (λ (m : Made (Option Pair)). pay m left) (latest-append lim ss ls ys o xs) ∙ pay-bind (walk lim ss ls o xs) (λ a. after-walk lim ss ls ys a) left ∙
+      ap (λ (p : Option (Paid Seen)). andThen p (λ a n. pay (after-walk lim ss ls ys a) n)) (sym h)
+
+-- ---- the ends from one start
+abbrev pub endsFrom : ℕ → ℕ → ℕ → ℕ → List View
+endsFrom start step lines e = map (λ x. view start x) (steps step e (suc lines))
+
+pub record Ending (scope : Scope) (class area₀ words₀ : List ℕ) (books : Shelf) (start step : ℕ) (o : Latest) (budget : ℕ) (area words : List ℕ) (l : Latest) (left end : ℕ) : Type 0 where
+  pub ready : Scanning scope class area words books
+  pub held : Held (scope .n) (scope .lines) area₀ words₀ area words
+  pub stands : LatestStands books (scope .lines) l
+  pub from : start ≤ end
+  pub to : end ≤ suc (scope .lines)
+  pub paid :
+      pay (walk (scope .limits) (texts books) (linesAt area₀ words₀ (scope .lines)) (latestIn books l) (endsFrom start step (scope .lines) end)) left ≡
+      pay (walk (scope .limits) (texts books) (linesAt area₀ words₀ (scope .lines)) (latestIn books o) (endsFrom start step (scope .lines) start)) budget
+
+pub ends-first : {scope : Scope} {class area words : List ℕ} {books : Shelf} (start step : ℕ) (o : Latest) (budget : ℕ) → Scanning scope class area words books →
+    LatestStands books (scope .lines) o → start ≤ scope .lines → Ending scope class area words books start step o budget area words o budget start
+ends-first start step o budget s h l = record {
+  ready = s;
+  held = held-none (s .laid);
+  stands = h;
+  from = omega arith;
+  to = omega arith;
+  paid = refl;
+}
+
+module _ {scope : Scope} {class area₀ words₀ : List ℕ} {books : Shelf} {start step : ℕ} {o : Latest} {budget : ℕ} {area words : List ℕ} {l : Latest} {left end : ℕ}
+    (i : Ending scope class area₀ words₀ books start step o budget area words l left end) (p : 0 < step) where
+  abbrev lim : Limits
+  lim = scope .limits
+
+  abbrev ls : List (List ℕ)
+  ls = linesAt area₀ words₀ (scope .lines)
+
+  abbrev ends : ℕ → List View
+  ends e = endsFrom start step (scope .lines) e
+
+  abbrev pub allEnds : List Stored → List (List ℕ) → Made Seen
+  allEnds ss ms = walk lim ss ms (latestIn books o) (ends start)
+
+  abbrev pub oneEnd : List Stored → List (List ℕ) → Made Seen
+  oneEnd ss ms = walk lim ss ms (latestIn books l) (view start end ∷ [])
+
+  ends-split : end < suc (scope .lines) → ends end ≡ view start end ∷ ends (min (end + step) (suc (scope .lines)))
+  ends-split h =
+      ap (map (λ x. view start x)) (steps-more step end (suc (scope .lines)) p h ∙ ap (λ (m : List ℕ). end ∷ m) (sym (steps-least step end (suc (scope .lines)) p)))
+
+  module _ {area′ words′ : List ℕ} {r : Walked} (h : end < suc (scope .lines)) (w : Walks scope area words area′ words′ books (λ ss ms. oneEnd ss ms) left r) where
+    past : andThen (walkedIn books r) (λ a n. pay (walk-on lim (texts books) ls (ends (min (end + step) (suc (scope .lines)))) a) n) ≡ pay (allEnds (texts books) ls) budget
+    past =
+        sym (walk-past lim (texts books) ls books (latestIn books l) left r (view start end) (ends (min (end + step) (suc (scope .lines))))
+        (w .is ∙ ap (λ (ms : List (List ℕ)). pay (oneEnd (texts books) ms) left) (i .held .same))) ∙
+        ap (λ (vs : List View). pay (walk lim (texts books) ls (latestIn books l) vs) left) (sym (ends-split h)) ∙ i .paid
+
+  module _ {area′ words′ : List ℕ} (h : end < suc (scope .lines)) where
+    pub ends-out : Walks scope area words area′ words′ books (λ ss ms. oneEnd ss ms) left walked.Out →
+        Walks scope area₀ words₀ area′ words′ books (λ ss ms. allEnds ss ms) budget walked.Out
+    unfolding walkedIn andThen WalkedStands
+    ends-out w = record { is = past h w; stands = tt; held = held-more (i .held) (w .held) }
+
+    module _ {l′ : Latest} {left′ : ℕ} where
+      pub ends-over : Walks scope area words area′ words′ books (λ ss ms. oneEnd ss ms) left (walked.Over l′ left′) →
+          Walks scope area₀ words₀ area′ words′ books (λ ss ms. allEnds ss ms) budget (walked.Over l′ left′)
+      unfolding walkedIn andThen WalkedStands
+      ends-over w = record {
+        is = sym (pay-done (record { pair = latestIn books l′; ended = true }) left′) ∙ past h w;
+        stands = w .stands;
+        held = held-more (i .held) (w .held);
+      }
+
+      pub ends-next : {end′ : ℕ} → end′ ≡ min (end + step) (suc (scope .lines)) → Walks scope area words area′ words′ books (λ ss ms. oneEnd ss ms) left (walked.On l′ left′) →
+          Ending scope class area₀ words₀ books start step o budget area′ words′ l′ left′ end′
+      unfolding walkedIn andThen WalkedStands
+      ends-next {end′} e w = record {
+        ready = scanning-held (i .ready) (w .held);
+        held = held-more (i .held) (w .held);
+        stands = w .stands;
+        from = omega (arith, e, i .from, h);
+        to = omega (arith, e);
+        paid = ap (λ (k : ℕ). pay (walk lim (texts books) ls (latestIn books l′) (ends k)) left′) e ∙ past h w;
+      }
+
+  pub ends-end : suc (scope .lines) ≤ end → Walks scope area₀ words₀ area words books (λ ss ms. allEnds ss ms) budget (walked.On l left)
+  unfolding walkedIn WalkedStands walk
+  ends-end h = record {
+    is = sym (sym (i .paid) ∙ ap (λ (m : List ℕ). pay (walk lim (texts books) ls (latestIn books l) (map (λ x. view start x) m)) left) (steps-end step end (suc (scope .lines)) p h) ∙
+        none-left (latestIn books l));
+    stands = i .stands;
+    held = i .held;
+  }
+    where
+      none-left : (q : Option Pair) → pay (walk lim (texts books) ls q []) left ≡ some (record { value = record { pair = q; ended = false }; left = left })
+      none-left none = pay-done (record { pair = none; ended = false }) left
+      none-left (some x) = pay-done (record { pair = some x; ended = false }) left
+
+-- ---- the starts
+abbrev pub viewsFrom : ℕ → ℕ → ℕ → List View
+viewsFrom step lines a = viewsOf step lines (steps step a lines)
+
+pub record Starting (scope : Scope) (class area₀ words₀ : List ℕ) (books : Shelf) (c step : ℕ) (budget : ℕ) (area words : List ℕ) (l : Latest) (left start : ℕ) : Type 0 where
+  pub ready : Scanning scope class area words books
+  pub held : Held (scope .n) (scope .lines) area₀ words₀ area words
+  pub stands : LatestStands books (scope .lines) l
+  pub to : start ≤ scope .lines
+  pub paid :
+      pay (latest (scope .limits) (texts books) (linesAt area₀ words₀ (scope .lines)) (latestIn books l) (viewsFrom step (scope .lines) start)) left ≡
+      pay (latest (scope .limits) (texts books) (linesAt area₀ words₀ (scope .lines)) none (viewsFrom step (scope .lines) c)) budget
+
+pub starts-first : {scope : Scope} {class area words : List ℕ} {books : Shelf} (c step : ℕ) (budget : ℕ) → Scanning scope class area words books → c ≤ scope .lines →
+    Starting scope class area words books c step budget area words recent.Nothing budget c
+unfolding latestIn LatestStands
+starts-first c step budget s l = record { ready = s; held = held-none (s .laid); stands = tt; to = l; paid = refl }
+
+module _ {scope : Scope} {class area₀ words₀ : List ℕ} {books : Shelf} {c step : ℕ} {budget : ℕ} {area words : List ℕ} {l : Latest} {left start : ℕ}
+    (i : Starting scope class area₀ words₀ books c step budget area words l left start) (p : 0 < step) where
+  abbrev slim : Limits
+  slim = scope .limits
+
+  abbrev sls : List (List ℕ)
+  sls = linesAt area₀ words₀ (scope .lines)
+
+  abbrev views : ℕ → List View
+  views a = viewsFrom step (scope .lines) a
+
+  abbrev pub allStarts : List Stored → List (List ℕ) → Made (Option Pair)
+  allStarts ss ms = latest slim ss ms none (views c)
+
+  abbrev pub oneStart : List Stored → List (List ℕ) → Made Seen
+  oneStart ss ms = walk slim ss ms (latestIn books l) (endsFrom start step (scope .lines) start)
+
+  starts-split : start < scope .lines → views start ≡ endsFrom start step (scope .lines) start ++ views (min (start + step) (scope .lines))
+  unfolding viewsOf
+  starts-split h =
+      ap (viewsOf step (scope .lines)) (steps-more step start (scope .lines) p h ∙ ap (λ (m : List ℕ). start ∷ m) (sym (steps-least step start (scope .lines) p)))
+
+  module _ {area′ words′ : List ℕ} {r : Walked} (h : start < scope .lines) (w : Walks scope area words area′ words′ books (λ ss ms. oneStart ss ms) left r) where
+    past-start : andThen (walkedIn books r) (λ a n. pay (after-walk slim (texts books) sls (views (min (start + step) (scope .lines))) a) n) ≡ pay (allStarts (texts books) sls) budget
+    past-start =
+        sym (latest-past slim (texts books) sls books (latestIn books l) left r (endsFrom start step (scope .lines) start) (views (min (start + step) (scope .lines)))
+        (w .is ∙ ap (λ (ms : List (List ℕ)). pay (oneStart (texts books) ms) left) (i .held .same))) ∙
+        ap (λ (vs : List View). pay (latest slim (texts books) sls (latestIn books l) vs) left) (sym (starts-split h)) ∙ i .paid
+
+  module _ {area′ words′ : List ℕ} (h : start < scope .lines) where
+    pub starts-out : Walks scope area words area′ words′ books (λ ss ms. oneStart ss ms) left walked.Out →
+        Pairs scope area₀ words₀ area′ words′ books (λ ss ms. allStarts ss ms) budget walked.Out
+    unfolding walkedIn pairIn andThen WalkedStands
+    starts-out w = record { is = past-start h w; stands = tt; held = held-more (i .held) (w .held) }
+
+    module _ {l′ : Latest} {left′ : ℕ} where
+      pub starts-over : Walks scope area words area′ words′ books (λ ss ms. oneStart ss ms) left (walked.Over l′ left′) →
+          Pairs scope area₀ words₀ area′ words′ books (λ ss ms. allStarts ss ms) budget (walked.Over l′ left′)
+      unfolding walkedIn pairIn andThen WalkedStands
+      starts-over w = record {
+        is = sym (pay-done (latestIn books l′) left′) ∙ past-start h w;
+        stands = w .stands;
+        held = held-more (i .held) (w .held);
+      }
+
+      pub starts-next : {start′ : ℕ} → start′ ≡ min (start + step) (scope .lines) → Walks scope area words area′ words′ books (λ ss ms. oneStart ss ms) left (walked.On l′ left′) →
+          Starting scope class area₀ words₀ books c step budget area′ words′ l′ left′ start′
+      unfolding walkedIn andThen WalkedStands
+      starts-next {start′} e w = record {
+        ready = scanning-held (i .ready) (w .held);
+        held = held-more (i .held) (w .held);
+        stands = w .stands;
+        to = omega (arith, e);
+        paid = ap (λ (k : ℕ). pay (latest slim (texts books) sls (latestIn books l′) (views k)) left′) e ∙ past-start h w;
+      }
+
+  pub starts-end : scope .lines ≤ start → Pairs scope area₀ words₀ area words books (λ ss ms. allStarts ss ms) budget (walked.On l left)
+  unfolding pairIn WalkedStands viewsOf latest
+  starts-end h = record {
+    is = sym (sym (i .paid) ∙ ap (λ (m : List ℕ). pay (latest slim (texts books) sls (latestIn books l) (viewsOf step (scope .lines) m)) left) (steps-end step start (scope .lines) p h) ∙
+        none-left (latestIn books l));
+    stands = i .stands;
+    held = i .held;
+  }
+    where
+      none-left : (q : Option Pair) → pay (latest slim (texts books) sls q []) left ≡ some (record { value = q; left = left })
+      none-left none = pay-done none left
+      none-left (some x) = pay-done (some x) left

@@ -1,0 +1,70 @@
+-- `scan_views::see` meets its contract: one view is scored against all texts, and then it is decided.
+-- Assumes nothing.
+use borrow.Author.Needs.{needs}
+use Rattle.scan_views.proofs.RoundLaws.{above-as, see-out, see-low, see-high}
+use Rattle.scan_views.proofs.see.Statement.{statement}
+use Rattle.scan_views.proofs.see.Tie as tie
+
+best-above-requires : tie.Need-best-above-requires
+best-above-requires c κs =
+    let pre = c .before .before .before .before .before .before .before .pre in
+    let s = pre .0 in
+    ((s .classes, s .laid), (pre .1 .0, s .counted))
+
+enum-known-best : tie.Need-enum-known-best
+enum-known-best c = search needs
+
+enum-told : tie.Need-enum-told
+enum-told c = search needs
+
+same-length : tie.Need-same-length
+same-length c = search needs
+
+same-length-2 : tie.Need-same-length-2
+same-length-2 c = search needs
+
+returns : tie.Need-returns
+returns c = see-out _ _ _ _ _ _ _ (above-as (c .enum-told .given .1) (c .before .before .before .before .before .before .best-above .ensures))
+
+lower-requires : tie.Need-lower-requires
+lower-requires c κs = search needs
+
+same-length-3 : tie.Need-same-length-3
+same-length-3 c = search needs
+
+same-length-4 : tie.Need-same-length-4
+same-length-4 c = search needs
+
+returns-2 : tie.Need-returns-2
+returns-2 c =
+    let pre = c .before .before .before .before .before .before .before .before .before .before .before .before .before .before .before .before .before .before .pre in
+    see-low _ _ _ _ _ _ _ _ _ (above-as (c .before .before .before .before .best .given .1) (c .before .before .before .before .before .before .before .before .before .before .best-above .ensures)) _ (c .before .if1 .taken) (pre .1 .1) (c .lower .ensures)
+
+same-length-5 : tie.Need-same-length-5
+same-length-5 c = search needs
+
+same-length-6 : tie.Need-same-length-6
+same-length-6 c = search needs
+
+returns-3 : tie.Need-returns-3
+returns-3 c =
+    let pre = c .before .before .before .before .before .before .before .before .before .before .before .before .before .before .before .before .before .before .pre in
+    see-high _ _ _ _ _ _ _ _ _ (above-as (c .before .before .before .before .best .given .1) (c .before .before .before .before .before .before .before .before .before .before .best-above .ensures)) (c .before .if1 .left) (pre .1 .0) (pre .0 .some-text)
+
+pub see-spec : {M : Type 1} → statement M
+see-spec =
+    tie.close
+    (tie.spec
+    best-above-requires
+    enum-known-best
+    enum-told
+    same-length
+    same-length-2
+    returns
+    lower-requires
+    same-length-3
+    same-length-4
+    returns-2
+    same-length-5
+    same-length-6
+    returns-3)

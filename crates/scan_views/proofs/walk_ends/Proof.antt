@@ -1,0 +1,106 @@
+-- `scan_views::walk_ends` meets its contract: the loop's invariant is that the ends still to come, paid from what is left, are all ends paid
+-- from the budget.
+-- Assumes nothing.
+use mathlib.Core.Path.{ap, _∙_}
+use Prim.Native.Nat.{ℕ, _+_, _-_, min}
+use native.Mathlib.Numerals.{add-one}
+use native.Mathlib.Omega.{arith}
+use borrow.Author.Needs.{needs}
+use Rattle.detection_shelf.specs.Shelves.{shelf}
+use Rattle.scan_views.proofs.RoundLaws.{Ending, walks-as, ends-first, ends-next, ends-out, ends-over, ends-end}
+use Rattle.scan_views.proofs.walk_ends.Statement.{statement}
+use Rattle.scan_views.proofs.walk_ends.Tie as tie
+
+abbrev Inv-loop : tie.InvT-loop
+Inv-loop class area₀ words₀ scope start step book second budget past latest₀ left₀ end₀ area words latest left end =
+    Ending scope class area₀ words₀ (shelf book second) start step latest₀ budget area words latest left end
+
+abbrev μ-loop : tie.MeasureT-loop
+μ-loop class area₀ words₀ scope start step book second budget past latest₀ left₀ end₀ area words latest left end = past - end
+
+add-past : tie.Need-add-past Inv-loop μ-loop
+add-past c = omega (arith, c .before .before .before .before .before .pre .0 .few)
+
+loop-holds : tie.Need-loop-holds Inv-loop μ-loop
+loop-holds c =
+    let pre = c .before .before .before .before .before .pre in
+    ends-first _ _ _ _ (pre .0) (pre .1 .1) (pre .1 .0 .0)
+
+see-requires : tie.Need-see-requires Inv-loop μ-loop
+see-requires c κs =
+    let i = c .before .before .before .loop .inv in
+    (i .ready, ((i .from, omega (arith, c .before .before .loop-test .taken)), i .stands))
+
+enum-told : tie.Need-enum-told Inv-loop μ-loop
+enum-told c = search needs
+
+same-length : tie.Need-same-length Inv-loop μ-loop
+same-length c = c .before .before .before .before .before .before .see .ensures .held .area-long ∙ c .before .before .before .before .before .before .before .before .before .before .loop .inv .held .area-long
+
+same-length-2 : tie.Need-same-length-2 Inv-loop μ-loop
+same-length-2 c = c .before .before .before .before .before .before .see .ensures .held .words-long ∙ c .before .before .before .before .before .before .before .before .before .before .loop .inv .held .words-long
+
+returns : tie.Need-returns Inv-loop μ-loop
+returns c =
+    ends-out (c .before .before .before .before .before .before .before .before .before .before .loop .inv) (c .before .before .before .before .before .before .before .before .before .before .before .before .before .before .before .before .pre .1 .0 .1) (omega (arith, c .before .before .before .before .before .before .before .before .before .loop-test .taken)) (walks-as (c .enum-told .given .1) (c .before .before .before .before .before .before .see .ensures))
+
+enum-known-l : tie.Need-enum-known-l Inv-loop μ-loop
+enum-known-l c = search needs
+
+enum-known-l-2 : tie.Need-enum-known-l-2 Inv-loop μ-loop
+enum-known-l-2 c = search needs
+
+same-length-3 : tie.Need-same-length-3 Inv-loop μ-loop
+same-length-3 c = c .before .before .before .before .before .before .before .see .ensures .held .area-long ∙ c .before .before .before .before .before .before .before .before .before .before .before .loop .inv .held .area-long
+
+same-length-4 : tie.Need-same-length-4 Inv-loop μ-loop
+same-length-4 c = c .before .before .before .before .before .before .before .see .ensures .held .words-long ∙ c .before .before .before .before .before .before .before .before .before .before .before .loop .inv .held .words-long
+
+returns-2 : tie.Need-returns-2 Inv-loop μ-loop
+returns-2 c =
+    ends-over (c .before .before .before .before .before .before .before .before .before .before .before .loop .inv) (c .before .before .before .before .before .before .before .before .before .before .before .before .before .before .before .before .before .pre .1 .0 .1) (omega (arith, c .before .before .before .before .before .before .before .before .before .before .loop-test .taken)) (walks-as (c .before .l2 .given .1) (c .before .before .before .before .before .before .before .see .ensures))
+
+next-step-requires : tie.Need-next-step-requires Inv-loop μ-loop
+next-step-requires c κs = omega (arith, c .before .before .before .before .before .before .before .before .before .before .loop-test .taken)
+
+loop-less : tie.Need-loop-less Inv-loop μ-loop
+loop-less c = omega (arith, c .next-step .ensures, c .before .before .before .before .before .before .before .before .before .before .before .loop-test .taken, c .before .before .before .before .before .before .before .before .before .before .before .before .before .before .before .before .before .before .pre .1 .0 .1)
+
+loop-again : tie.Need-loop-again Inv-loop μ-loop
+loop-again c =
+    let e = c .next-step .ensures ∙ ap (λ (n : ℕ). min (c .before .before .before .before .before .before .before .before .before .before .before .before .loop .end + c .before .before .before .before .before .before .before .before .before .before .before .before .before .before .before .before .before .before .args .step) n) (add-one (c .before .before .before .before .before .before .before .before .before .before .before .before .before .before .before .before .before .before .args .scope .lines)) in
+    ends-next (c .before .before .before .before .before .before .before .before .before .before .before .before .loop .inv) (c .before .before .before .before .before .before .before .before .before .before .before .before .before .before .before .before .before .before .pre .1 .0 .1) (omega (arith, c .before .before .before .before .before .before .before .before .before .before .before .loop-test .taken)) e (walks-as (c .before .before .l .given .1) (c .before .before .before .before .before .before .before .before .see .ensures))
+
+same-length-5 : tie.Need-same-length-5 Inv-loop μ-loop
+same-length-5 c = c .before .loop .inv .held .area-long
+
+same-length-6 : tie.Need-same-length-6 Inv-loop μ-loop
+same-length-6 c = c .before .loop .inv .held .words-long
+
+returns-3 : tie.Need-returns-3 Inv-loop μ-loop
+returns-3 c = ends-end (c .before .loop .inv) (c .before .before .before .before .before .before .before .pre .1 .0 .1) (omega (arith, c .loop-test .left))
+
+pub walk-ends-spec : {M : Type 1} → statement M
+walk-ends-spec =
+    tie.close
+    (tie.spec
+    Inv-loop
+    μ-loop
+    add-past
+    loop-holds
+    see-requires
+    enum-told
+    same-length
+    same-length-2
+    returns
+    enum-known-l
+    enum-known-l-2
+    same-length-3
+    same-length-4
+    returns-2
+    next-step-requires
+    loop-less
+    loop-again
+    same-length-5
+    same-length-6
+    returns-3)

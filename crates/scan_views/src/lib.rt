@@ -1,0 +1,176 @@
+// Top-down's views: from a line on, the starts by steps, from each the ends by steps; and the latest that reaches the threshold.
+// From detection/scan.rs of spdx 0.13.6 (Copyright 2018 Amazon.com, Inc. or its affiliates. All Rights Reserved.
+// SPDX-License-Identifier: Apache-2.0), changed: `topdown_find_contained_license`, with every scoring charged. Assumes nothing.
+ghost use mathlib.Core.Path.{_≡_};
+ghost use mathlib.Core.List.{[], _∷_, map};
+ghost use mathlib.Core.Option.{none};
+ghost use Prim.Native.Nat.{suc, _+_, _≤_, _<_, min};
+ghost use Rattle.rules.specs.Search.{view};
+ghost use Rattle.rules.specs.Scan.{steps, viewsOf, latest as latestOf};
+ghost use Rattle.detection_shelf.specs.Shelves.{shelf};
+ghost use Rattle.scan_ranges.specs.Run.{Scanning};
+ghost use Rattle.scan_views.specs.Down.{walk, latestIn, LatestStands, Walks, Pairs, lowerIn};
+use detect::Chosen;
+use detect::best_above;
+use detection_shelf::Shelved;
+use rules::View;
+use scan_ranges::Scope;
+
+// The latest view that reached the threshold, and its best text: found, or none yet.
+pub enum Latest {
+    Nothing,
+    Pair(View, Shelved),
+}
+
+// A walk over views: the budget is out; or it goes on; or a score below the threshold has ended it. With the latest pair and the scorings left.
+pub enum Walked {
+    Out,
+    On(Latest, u64),
+    Over(Latest, u64),
+}
+
+// The next of some steps below n, or n. The sum is made only where it stays below n, so it never wraps.
+fn next_step(a: usize, step: u64, n: usize) -> usize
+    requires { ⌜ a ≤ n ⌝ }
+    ensures { λ r. ⌜ r ≡ min (a + step) n ⌝ }
+{
+    if (n - a) as u64 <= step {
+        return n;
+    }
+    a + step as usize
+}
+
+// A score below the threshold ends the walk once there is a pair.
+fn lower(latest: Latest, left: u64) -> Walked
+    ensures { λ r. ⌜ r ≡ lowerIn latest left ⌝ }
+{
+    match latest {
+        Latest::Nothing => Walked::On(Latest::Nothing, left),
+        Latest::Pair(v, t) => Walked::Over(Latest::Pair(v, t), left),
+    }
+}
+
+// One view more: below the threshold, which text is the best does not matter.
+fn see<'a>(
+    class: &[u8; 256],
+    area: &mut [u8],
+    words: &mut [u32],
+    scope: Scope,
+    v: View,
+    book: &'a [u8],
+    second: &'a [u8],
+    latest: Latest,
+    budget: u64,
+) -> Walked
+    requires { ⌜ Scanning scope (now class) (now area) (now words) (shelf (now book) (now second)) ⌝ }
+    requires { ⌜ (v .start ≤ v .end) × (v .end ≤ scope .lines) ⌝ }
+    requires { ⌜ LatestStands (shelf (now book) (now second)) (scope .lines) latest ⌝ }
+    ensures { λ r. ⌜ Walks scope (now (area .entry)) (now (words .entry)) (now (area .exit)) (now (words .exit)) (shelf (now (book .entry)) (now (second .entry))) (λ ss ls. walk (scope .limits) ss ls (latestIn (shelf (now (book .entry)) (now (second .entry))) latest) (v ∷ [])) budget r ⌝ }
+{
+    let n = scope.n;
+    let lines = scope.lines;
+    let texts = scope.texts;
+    let floor = scope.limits.threshold;
+    let Chosen::Found(best, left) = best_above(
+        class,
+        area,
+        words,
+        n,
+        lines,
+        v,
+        book,
+        second,
+        texts,
+        floor,
+        budget,
+    ) else {
+        return Walked::Out;
+    };
+    if best.value.score < floor {
+        return lower(latest, left);
+    }
+    let text = best.text;
+    Walked::On(Latest::Pair(v, text), left)
+}
+
+// The views from one start: the ends start, start + step, .. up to the last line.
+fn walk_ends<'a>(
+    class: &[u8; 256],
+    area: &mut [u8],
+    words: &mut [u32],
+    scope: Scope,
+    start: usize,
+    step: u64,
+    book: &'a [u8],
+    second: &'a [u8],
+    from: Latest,
+    budget: u64,
+) -> Walked
+    requires { ⌜ Scanning scope (now class) (now area) (now words) (shelf (now book) (now second)) ⌝ }
+    requires { ⌜ (start ≤ scope .lines) × (0 < step) ⌝ }
+    requires { ⌜ LatestStands (shelf (now book) (now second)) (scope .lines) from ⌝ }
+    ensures { λ r. ⌜ Walks scope (now (area .entry)) (now (words .entry)) (now (area .exit)) (now (words .exit)) (shelf (now (book .entry)) (now (second .entry))) (λ ss ls. walk (scope .limits) ss ls (latestIn (shelf (now (book .entry)) (now (second .entry))) from) (map (λ e. view start e) (steps step start (suc (scope .lines))))) budget r ⌝ }
+{
+    let past = scope.lines + 1;
+    let mut latest = from;
+    let mut left = budget;
+    let mut end = start;
+    while end < past {
+        let v = View { start, end };
+        match see(class, area, words, scope, v, book, second, latest, left) {
+            Walked::Out => return Walked::Out,
+            Walked::On(l, rest) => {
+                latest = l;
+                left = rest;
+            }
+            Walked::Over(l, rest) => return Walked::Over(l, rest),
+        }
+        end = next_step(end, step, past);
+    }
+    Walked::On(latest, left)
+}
+
+// All views from line c on: the starts c, c + step, .. below the last line.
+pub fn walk_starts<'a>(
+    class: &[u8; 256],
+    area: &mut [u8],
+    words: &mut [u32],
+    scope: Scope,
+    c: usize,
+    step: u64,
+    book: &'a [u8],
+    second: &'a [u8],
+    budget: u64,
+) -> Walked
+    requires { ⌜ Scanning scope (now class) (now area) (now words) (shelf (now book) (now second)) ⌝ }
+    requires { ⌜ (c ≤ scope .lines) × (0 < step) ⌝ }
+    ensures { λ r. ⌜ Pairs scope (now (area .entry)) (now (words .entry)) (now (area .exit)) (now (words .exit)) (shelf (now (book .entry)) (now (second .entry))) (λ ss ls. latestOf (scope .limits) ss ls none (viewsOf step (scope .lines) (steps step c (scope .lines)))) budget r ⌝ }
+{
+    let lines = scope.lines;
+    let mut latest = Latest::Nothing;
+    let mut left = budget;
+    let mut start = c;
+    while start < lines {
+        match walk_ends(
+            class,
+            area,
+            words,
+            scope,
+            start,
+            step,
+            book,
+            second,
+            latest,
+            left,
+        ) {
+            Walked::Out => return Walked::Out,
+            Walked::On(l, rest) => {
+                latest = l;
+                left = rest;
+            }
+            Walked::Over(l, rest) => return Walked::Over(l, rest),
+        }
+        start = next_step(start, step, lines);
+    }
+    Walked::On(latest, left)
+}

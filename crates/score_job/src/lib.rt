@@ -1,0 +1,104 @@
+// The job `score`: a view of a note against a stored text.
+// From detection/license.rs of spdx 0.13.6 (Copyright 2018 Amazon.com, Inc. or its affiliates. All Rights Reserved.
+// SPDX-License-Identifier: Apache-2.0), changed: `match_score` of a view, with refusals. Assumes nothing.
+ghost use mathlib.Core.Path.{_≡_};
+ghost use lib.ListN.{getD};
+ghost use Rattle.rules.specs.Lines.{lines};
+ghost use Rattle.rules.specs.Search.{noText, scoreView};
+ghost use Rattle.detection_shelf.specs.Shelves.{shelf, texts, booksOf, Lends, Counted};
+ghost use Rattle.refusals.specs.Admits.{ViewThrough};
+ghost use mathlib.Core.List.{[], _∷_};
+ghost use Rattle.rules.specs.Jobs.{lent, ScoreDone};
+use detection_shelf::Counts;
+use detection_shelf::body_of;
+use detection_shelf::stored_on;
+use license_charge::charge_exact;
+use license_notes::clear;
+use license_notes::lay;
+use license_views::view_table;
+use refusals::admit_view;
+use rules::Scored;
+use rules::View;
+use slices::class::class_table;
+
+// The work, of what is let through: the areas hold what it leaves.
+pub fn score_laid<'a>(
+    text: &[u8],
+    book: &'a [u8],
+    second: &'a [u8],
+    counts: Counts,
+    v: View,
+    k: u32,
+    area: &mut [u8],
+    words: &mut [u32],
+) -> f32
+    requires { ⌜ ViewThrough (now text) (shelf (now book) (now second)) v k (lent (now area) (now words)) ⌝ }
+    requires { ⌜ Counted (shelf (now book) (now second)) counts ⌝ }
+    ensures { λ r. ⌜ r ≡ scoreView (lines (now (text .entry))) (getD (texts (shelf (now (book .entry)) (now (second .entry)))) k noText) v .value .score ⌝ }
+{
+    let class = class_table();
+    let n = text.len();
+    let lines = lay(&class, text, area, words);
+    let t = view_table(&class, area, words, n, lines, v);
+    let found = stored_on(book, second, counts, k);
+    let body = body_of(book, second, found);
+    let charged = charge_exact(area, words, n, t, body, 1);
+    charged.value.score
+}
+
+// Over lent books, two or one: refusals 1 to 5 and 8 to 10, or the score. The areas are zero after an answer, and as they were after a refusal.
+fn score_lent<'a>(
+    text: &[u8],
+    book: &'a [u8],
+    second: &'a [u8],
+    two: bool,
+    v: View,
+    k: u32,
+    area: &mut [u8],
+    words: &mut [u32],
+) -> Scored
+    requires { ⌜ Lends (shelf (now book) (now second)) two ⌝ }
+    ensures { λ r. ⌜ ScoreDone (now (text .entry)) (booksOf (shelf (now (book .entry)) (now (second .entry))) two) v k (now (area .entry)) (now (area .exit)) (now (words .entry)) (now (words .exit)) r ⌝ }
+{
+    let admitted = admit_view(text, book, second, two, v, k, area.len(), words.len());
+    let refusal = admitted.refusal;
+    if refusal != 0 {
+        return Scored {
+            refusal,
+            score: 0.0,
+        };
+    }
+    let counts = admitted.texts;
+    let score = score_laid(text, book, second, counts, v, k, area, words);
+    clear(area, words);
+    Scored { refusal: 0, score }
+}
+
+// Two books, whose texts count on from the first into the second.
+pub fn score_both<'a>(
+    text: &[u8],
+    book: &'a [u8],
+    second: &'a [u8],
+    v: View,
+    k: u32,
+    area: &mut [u8],
+    words: &mut [u32],
+) -> Scored
+    ensures { λ r. ⌜ ScoreDone (now (text .entry)) (now (book .entry) ∷ now (second .entry) ∷ []) v k (now (area .entry)) (now (area .exit)) (now (words .entry)) (now (words .exit)) r ⌝ }
+{
+    score_lent(text, book, second, true, v, k, area, words)
+}
+
+// One book, refused by its own rows; below them nothing stands beside it.
+pub fn score_view(
+    text: &[u8],
+    book: &[u8],
+    v: View,
+    k: u32,
+    area: &mut [u8],
+    words: &mut [u32],
+) -> Scored
+    ensures { λ r. ⌜ ScoreDone (now (text .entry)) (now (book .entry) ∷ []) v k (now (area .entry)) (now (area .exit)) (now (words .entry)) (now (words .exit)) r ⌝ }
+{
+    score_lent(text, book, &book[..0], false, v, k, area, words)
+}

@@ -1,0 +1,61 @@
+-- What the leaves of `slices` count with the table of the classes is what the rules count with their tests; and where a word stands,
+-- there is room for it.
+-- Assumes nothing.
+use mathlib.Core.Path.{_≡_, sym, ap, _∙_}
+use mathlib.Core.Bool.{Bool, true, false, not}
+use mathlib.Core.List.{List, [], _∷_, map}
+use Prim.Native.Nat.{ℕ, _+_, _≤_, _<_}
+use native.Mathlib.Omega.{arith}
+use lib.Dec.{leb}
+use lib.ListN.{length, drop, length-drop}
+use borrow.Author.Tests.{leb-true}
+use Rattle.rules.specs.Bytes.{within, space, upper, lead, starts}
+use Rattle.rules.proofs.HitLaws.{lead-length, starts-length}
+use Rattle.slices.specs.Classes.{inClass, classTable}
+use Rattle.rules.specs.Passes.{lowered}
+use Rattle.rules.proofs.BoolLaws.{and-right}
+use Rattle.slices.proofs.KindLaws.{by-table, space-table, upper-table}
+
+-- a byte that is no space
+abbrev pub dark : ℕ → Bool
+dark x = not (space x)
+
+module _ (t l : List ℕ) (e : t ≡ classTable) where
+  space-of : inClass t 5 7 ≡ space
+  space-of = by-table 5 7 e space-table
+
+  pub spaces-of : lead (inClass t 5 7) l ≡ lead space l
+  spaces-of = ap (λ (f : ℕ → Bool). lead f l) space-of
+
+  pub others-of : lead (λ x. not (inClass t 5 7 x)) l ≡ lead dark l
+  others-of = ap (λ (f : ℕ → Bool). lead (λ x. not (f x)) l) space-of
+
+-- ---- a byte in lower case
+module _ (t : List ℕ) (b : ℕ) (e : t ≡ classTable) where
+  upper-of : inClass t 10 10 b ≡ upper b
+  upper-of = ap (λ (f : ℕ → Bool). f b) (by-table 10 10 e upper-table)
+
+  pub lower-yes : inClass t 10 10 b ≡ true → b + 32 ≡ lowered b
+  unfolding lowered
+  lower-yes h = rw (sym upper-of ∙ h)
+
+  pub lower-no : inClass t 10 10 b ≡ false → b ≡ lowered b
+  unfolding lowered
+  lower-no h = rw (sym upper-of ∙ h)
+
+  pub upper-most : inClass t 10 10 b ≡ true → b ≤ 90
+  unfolding upper within
+  upper-most h = leb-true b 90 (and-right (leb 65 b) (leb b 90) (sym upper-of ∙ h))
+
+pub lowered-next : (b : ℕ) {l l′ : List ℕ} → l ≡ b ∷ l′ → map lowered l ≡ lowered b ∷ map lowered l′
+lowered-next b h = rw h
+
+pub lowered-done : {l : List ℕ} → l ≡ [] → map lowered l ≡ []
+lowered-done h = rw h
+
+-- ---- a word that stands at a place ends within, and so does a run
+pub word-within : (w s : List ℕ) (at : ℕ) → starts w (drop at s) ≡ true → 0 < length w → at + length w ≤ length s
+word-within w s at h p = omega (arith, starts-length w (drop at s) h, length-drop at s)
+
+pub run-within : (p : ℕ → Bool) (s : List ℕ) (at : ℕ) → at ≤ length s → at + lead p (drop at s) ≤ length s
+run-within p s at h = omega (arith, lead-length p (drop at s), length-drop at s)
