@@ -7,6 +7,7 @@ ghost use Prim.Native.Nat.{_+_, _≤_, min};
 ghost use Rattle.rules.specs.Sizes.{totalMost};
 ghost use Rattle.rules.specs.Table as words;
 ghost use Rattle.floors.specs.Floors as floors;
+ghost use Rattle.ngram_score.specs.Shares.{Useless};
 use floors::Floor;
 use floors::beats;
 use rules::Value;
@@ -69,7 +70,7 @@ fn enough(floor: Floor, m: u32, a: u32, b: u32) -> bool
 // Sharing less than this does not beat the floor. It may be less than could be said; each answer is tested.
 pub fn useless(floor: Floor, a: u32, b: u32) -> u32
     requires { ⌜ (a ≤ totalMost) × (b ≤ totalMost) ⌝ }
-    ensures { λ r. ⌜ floors.Useless floor a b r ⌝ }
+    ensures { λ r. ⌜ Useless floor a b r ⌝ }
 {
     let most = smaller(a, b);
     if !enough(floor, most, a, b) {
