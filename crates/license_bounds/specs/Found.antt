@@ -10,14 +10,22 @@ use Rattle.rules.specs.Search.{Made, bounds}
 use Rattle.license_bounds.specs.declared.Searched.{Searched}
 use Rattle.license_bounds.specs.declared.Ranged.{Ranged}
 use Rattle.license_bounds.specs.declared.Task.{Task}
-use Rattle.license_charge.specs.Pay.{pay}
+use Rattle.license_charge.specs.Pay.{Paid, pay}
 use Rattle.preproc_table.specs.Entries.{linesAt}
 use Rattle.license_bounds.specs.Ready.{Working, Spans, Kept, OfBody, scoreAt}
 use mathlib.Core.Option.{Option, none, some}
 use Rattle.rules.specs.declared.Bounds.{Bounds}
 use Rattle.license_bounds.specs.declared.Searched.the-variants as searched
 use Rattle.license_bounds.specs.declared.Ranged.the-variants as ranged
-use Rattle.license_charge.specs.Pay.{Paid}
+
+-- what the code's answers say, case by case
+unfoldable pub searchedOf : Option (Paid Index) → Searched
+searchedOf none = searched.Out
+searchedOf (some p) = searched.Found (p .value) (p .left)
+
+unfoldable pub rangedOf : Option (Paid Bounds) → Ranged
+rangedOf none = ranged.Out
+rangedOf (some p) = ranged.Found (p .value) (p .left)
 
 -- the indexes from l to r can be scored
 pub record Sought (task : Task) (class area words body : List ℕ) (l r : ℕ) : Type 0 where
@@ -34,12 +42,3 @@ pub record Yields (task : Task) (class area₀ words₀ area words body : List �
 pub record Bounded (n lines : ℕ) (class area₀ words₀ area words body : List ℕ) (v : View) (budget : ℕ) (x : Ranged) : Type 0 where
   pub found : OfBody body (λ s. x ≡ rangedOf (pay (bounds (linesAt area₀ words₀ lines) v s) budget))
   pub kept : Kept n lines class area₀ words₀ area words body
-
--- what the code's answers say, case by case
-unfoldable pub searchedOf : Option (Paid Index) → Searched
-searchedOf none = searched.Out
-searchedOf (some p) = searched.Found (p .value) (p .left)
-
-unfoldable pub rangedOf : Option (Paid Bounds) → Ranged
-rangedOf none = ranged.Out
-rangedOf (some p) = ranged.Found (p .value) (p .left)
