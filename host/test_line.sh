@@ -535,7 +535,7 @@ out_is 'license: M1023, original, score 1.0000, from maker.book
   2048 scorings'
 run 0 scan --json most.book --beside maker.book two
 json '[[r["licence"], r["book"], r["number"]] for r in notes[0]["ranges"]]' '[["M1023", "maker.book", 2047]]'
-# the memory that README.md names, in MiB; a second book's is taken only for one
+# the memory that host/README.md names, in MiB; a second book's is taken only for one
 broken memory-75 0 scan a.book license
 broken memory-75 2 scan a.book --beside b.book license
 err_has 'no memory for'
