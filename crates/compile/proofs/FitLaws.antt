@@ -6,12 +6,12 @@ use Prim.Native.Nat.{ℕ, suc, _+_, _*_, _≤_, Ordering, Ordering·lt, Ordering
 use native.Mathlib.Omega.{arith}
 use lib.ListN.{length, length-append}
 use Rattle.rules.specs.Bytes.{order, split}
-use Rattle.rules.specs.Lines.{lines}
+use Rattle.rules.specs.Lines.{lines, size}
 use Rattle.rules.specs.Passes.{aggressive}
 use Rattle.rules.specs.Prefix.{Counted}
 use Rattle.rules.specs.Table.{pairs, bigrams, tally, tallied, tableOf, viewTable}
 use Rattle.rules.specs.Book.{entriesOut, tableOut, compiled}
-use Rattle.rules.proofs.GrowthLaws.{size, split-size, aggressive-length, lines-size}
+use Rattle.rules.proofs.GrowthLaws.{split-size, aggressive-length, lines-size}
 use Rattle.records.proofs.NumberLaws.{length-written}
 
 -- ---- entries: eight bytes and the bigram's own each

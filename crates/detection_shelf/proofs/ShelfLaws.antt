@@ -18,11 +18,11 @@ use borrow.Author.Tests.{leb-true, leb-false, le-leb, lt-leb}
 use Rattle.rules.specs.Sizes.{storedMost}
 use Rattle.rules.specs.Search.{Stored, noText}
 use Rattle.rules.specs.declared.Named.{Named}
-use Rattle.rules.specs.Book.{number, tableIn, recordsOf, entriesOf, stored, allSound, noPart, namesOf, nameParts}
+use Rattle.rules.specs.Book.{number, tableIn, recordsOf, entriesOf, stored, allSound, noPart, namesOf, nameParts, ReadAs}
 use Rattle.rules.proofs.SoundLaws.{StoredSound, sound-most}
 use Rattle.rules.proofs.ShelfLaws.{renumber, two-length, two-first, two-second, shelved-sound, names-length}
 use Rattle.rules.proofs.DownLaws.{Each}
-use Rattle.rules.proofs.NameLaws.{ReadAs, read-two, read-one}
+use Rattle.rules.proofs.NameLaws.{read-two, read-one}
 use Rattle.detection_texts.specs.declared.texts.Text.{Text}
 use Rattle.detection_shelf.specs.declared.Shelved.{Shelved}
 use Rattle.detection_shelf.specs.declared.Spot.{Spot}

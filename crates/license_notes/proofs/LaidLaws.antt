@@ -8,12 +8,12 @@ use native.Mathlib.Omega.{arith}
 use lib.Dec.{eqb}
 use lib.ListN.{length}
 use Rattle.rules.specs.Bytes.{text, newline, space, dropped, every, keep, runs, trimStart, addFront, trimEnd, trim, onFirst, split}
-use Rattle.rules.specs.Lines.{url, urls, gap, signs, lineBy, line, lines, lineCount}
+use Rattle.rules.specs.Lines.{url, urls, gap, signs, lineBy, line, lines, lineCount, size}
 use Rattle.rules.specs.Search.{blank}
 use Rattle.rules.specs.Sizes.{byteArea, wordArea}
 use Rattle.rules.specs.Refusal.{refusal, ofText}
 use Rattle.rules.proofs.BoolLaws.{and-left, and-right, and-both, cond-of}
-use Rattle.rules.proofs.GrowthLaws.{size, lines-size, blank-size}
+use Rattle.rules.proofs.GrowthLaws.{lines-size, blank-size}
 use Rattle.preproc_table.specs.Entries.{linesAt, Blanked}
 use Rattle.preproc_lines.specs.Normalised.{Normalised}
 use Rattle.preproc_test.proofs.CountLaws.{first-length, split-some, passed-length}

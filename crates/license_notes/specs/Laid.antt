@@ -7,7 +7,7 @@ use Prim.Native.Nat.{ℕ, _+_, _*_, _≤_}
 use lib.ListN.{length}
 use Rattle.rules.specs.Sizes.{textMost, byteArea, wordArea}
 use Rattle.preproc_table.specs.Entries.{linesAt, Apart}
-use Rattle.rules.proofs.GrowthLaws.{size}
+use Rattle.rules.specs.Lines.{size}
 use Rattle.prefix_list.specs.Listing.{plainLines}
 
 -- the lines of a note of n bytes stand in the areas, as `normalise` leaves them

@@ -10,7 +10,7 @@ use Rattle.rules.specs.declared.View.{View}
 use Rattle.rules.specs.Prefix.{strip, withoutPrefix}
 use Rattle.rules.specs.Passes.{aggressive}
 use Rattle.rules.specs.Search.{viewed}
-use Rattle.rules.proofs.GrowthLaws.{size}
+use Rattle.rules.specs.Lines.{size}
 use Rattle.slices.specs.declared.ends.Span.{Span}
 use Rattle.slices.specs.Classes.{classTable}
 use Rattle.preproc_table.specs.Entries.{linesAt, Apart}

@@ -11,7 +11,8 @@ use Rattle.lists.proofs.SliceLaws.{part-slice, part-rest}
 use Rattle.rules.specs.declared.View.{View}
 use Rattle.rules.specs.Table.{Table, bigrams, tableOf, viewTable}
 use Rattle.rules.specs.Search.{viewed}
-use Rattle.rules.proofs.GrowthLaws.{bigrams-length, aggressive-length, viewed-size, size}
+use Rattle.rules.specs.Lines.{size}
+use Rattle.rules.proofs.GrowthLaws.{bigrams-length, aggressive-length, viewed-size}
 use Rattle.preproc_table.specs.Entries.{startAt, endAt, lineAt, linesAt, Apart}
 use Rattle.preproc_table.proofs.EntryLaws.{lines-same}
 use Rattle.ngram_table.specs.Tables.{tableAt}

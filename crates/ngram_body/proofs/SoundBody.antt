@@ -15,12 +15,12 @@ use Rattle.rules.specs.Sizes.{totalMost}
 use Rattle.rules.specs.Bytes.{within, lower, digit, every, rises, order, split}
 use Rattle.rules.specs.Prefix.{Counted}
 use Rattle.rules.specs.Table.{Table, pairs, bigrams, tally, tallied, tableOf}
-use Rattle.rules.specs.Book.{number, written, Piece, whole, front, also, goOn, pieces, entryForm, entryOf, entriesOf, sum, term, twoTerms, soundEntries, soundTable, tableIn, entriesOut, tableOut}
+use Rattle.rules.specs.Book.{number, written, Piece, whole, front, also, goOn, pieces, entryForm, entryOf, entriesOf, sum, term, twoTerms, soundEntries, soundTable, tableIn, entriesOut, tableOut, Above, Rising}
 use Rattle.rules.proofs.BoolLaws.{and-left, and-right, and-both}
 use Rattle.rules.proofs.DownLaws.{Each}
 use Rattle.rules.proofs.WordLaws.{Words}
 use Rattle.rules.proofs.Steps.{pieces-step}
-use Rattle.rules.proofs.TableLaws.{Above, Rising, tallied-rising, tallied-sum}
+use Rattle.rules.proofs.TableLaws.{tallied-rising, tallied-sum}
 use Rattle.records.proofs.NumberLaws.{length-written, number-again}
 use Rattle.records.proofs.FrontLaws.{number-take, front-end, front-whole}
 use Rattle.ngram_body.specs.Bodies.{entryOut}

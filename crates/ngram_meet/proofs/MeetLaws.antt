@@ -21,10 +21,10 @@ use Rattle.rules.specs.Bytes.{order}
 use Rattle.rules.specs.Prefix.{Counted}
 use Rattle.rules.specs.declared.Value.{Value}
 use Rattle.rules.specs.Table.{Table, valueOf, score, countIn, meet, tallied, tableOf, bigrams}
-use Rattle.rules.specs.Book.{number, Piece, whole, broken, end, front, entryForm, entryOf, entriesOf, also, goOn, pieces, soundTable, tableIn, sum}
+use Rattle.rules.specs.Book.{number, Piece, whole, broken, end, front, entryForm, entryOf, entriesOf, also, goOn, pieces, soundTable, tableIn, sum, Rising}
 use Rattle.rules.proofs.Steps.{pieces-step}
 use Rattle.rules.proofs.OrderLaws.{flip, order-eq, order-flip, rises-is}
-use Rattle.rules.proofs.TableLaws.{Rising, meet-left, meet-right, meet-both, meet-le, tallied-rising, tallied-sum, sound-entries-rising}
+use Rattle.rules.proofs.TableLaws.{meet-left, meet-right, meet-both, meet-le, tallied-rising, tallied-sum, sound-entries-rising}
 use Rattle.rules.proofs.SoundLaws.{table-sound}
 use Rattle.records.proofs.FrontLaws.{number-take, front-end, front-broken, front-whole}
 use Rattle.sort_tally.specs.Group.{entriesAt}

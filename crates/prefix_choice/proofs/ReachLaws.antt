@@ -12,9 +12,8 @@ use lib.Seq.{slice, getD-drop}
 use borrow.Author.Tests.{ltb-true, ltb-false, eqb-true, eqb-false, ne-eqb}
 use Rattle.lists.proofs.SliceLaws.{slice-next, slice-done}
 use Rattle.rules.specs.Bytes.{newline, every, starts}
-use Rattle.rules.specs.Prefix.{Counted}
+use Rattle.rules.specs.Prefix.{Counted, reached}
 use Rattle.rules.proofs.BoolLaws.{and-left, and-right}
-use Rattle.rules.proofs.PrefixLaws.{reached}
 use Rattle.sort_spread.specs.Sort.{endsPart, marksLeft, partOf}
 use Rattle.sort_tally.specs.Group.{entriesFrom, entriesAt}
 use Rattle.prefix_list.specs.Listing.{plain}

@@ -12,10 +12,9 @@ use lib.Seq.{slice, getD-take, getD-drop}
 use borrow.Author.Tests.{ltb-true, ltb-false, lt-ltb, le-ltb, leb-false}
 use Rattle.lists.proofs.SliceLaws.{part-at}
 use Rattle.rules.specs.Bytes.{same}
-use Rattle.rules.specs.Prefix.{prefixes, fourFifths, strip, withoutPrefix}
-use Rattle.rules.specs.Table.{tallied}
-use Rattle.rules.proofs.TableLaws.{occurs}
-use Rattle.rules.proofs.PrefixLaws.{firstMost, reached, without-prefix, same-self}
+use Rattle.rules.specs.Prefix.{prefixes, fourFifths, strip, withoutPrefix, reached}
+use Rattle.rules.specs.Table.{tallied, occurs}
+use Rattle.rules.proofs.PrefixLaws.{firstMost, without-prefix, same-self}
 use Rattle.sort_spread.specs.Sort.{partOf, InOrder, Leads}
 use Rattle.sort_tally.specs.Group.{Group, starts, counts, entriesAt, partsAt}
 use Rattle.sort_parts.proofs.PartLaws.{part-front, part-short}

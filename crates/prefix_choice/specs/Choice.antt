@@ -6,7 +6,7 @@ use Prim.Native.Nat.{ℕ, _+_, _*_, _≤_, _<_}
 use lib.ListN.{length, getD}
 use lib.Seq.{slice}
 use Rattle.rules.specs.Prefix.{prefixes, strip, withoutPrefix}
-use Rattle.rules.proofs.TableLaws.{occurs}
+use Rattle.rules.specs.Table.{occurs}
 use Rattle.sort_spread.specs.Sort.{partLater, msorted}
 use Rattle.sort_tally.specs.Group.{groups, Grouped, partsAt}
 use Rattle.sort_tally.proofs.StableLaws.{Climbing}

@@ -7,7 +7,7 @@ ghost use mathlib.Core.List.{List};
 ghost use Prim.Native.Nat.{ℕ, _+_, _≤_, _<_};
 ghost use lib.ListN.{length, take, drop, getD};
 ghost use lib.Seq.{slice};
-ghost use Rattle.rules.proofs.PrefixLaws.{reached};
+ghost use Rattle.rules.specs.Prefix.{reached};
 ghost use Rattle.sort_tally.specs.Group.{groups, Grouped, entriesAt};
 ghost use Rattle.sort_spread.specs.Sort.{partLater, msorted};
 ghost use Rattle.sort_tally.proofs.StableLaws.{Has};

@@ -12,7 +12,7 @@ use lib.Seq.{slice, take-take, length-take-le}
 use Rattle.lists.proofs.SliceLaws.{part-slice, slice-part}
 use Rattle.rules.specs.Bytes.{space, trim, same}
 use Rattle.rules.specs.Prefix.{common, prefixes}
-use Rattle.rules.proofs.TableLaws.{occurs}
+use Rattle.rules.specs.Table.{occurs}
 use Rattle.slices.specs.Ends.{Bare}
 use Rattle.slices.specs.declared.ends.Span.{Span}
 use Rattle.slices.proofs.EndLaws.{bare-within, bare-trim}

@@ -6,7 +6,7 @@ ghost use Prim.Native.Nat.{_+_, _*_, _-_, _≤_, _<_};
 ghost use lib.ListN.{length, take, drop};
 ghost use lib.Seq.{slice, paste};
 ghost use Rattle.rules.specs.Prefix.{prefixes};
-ghost use Rattle.rules.proofs.TableLaws.{occurs};
+ghost use Rattle.rules.specs.Table.{occurs};
 ghost use Rattle.slices.specs.Classes.{classTable};
 ghost use Rattle.preproc_table.specs.Entries.{linesFrom, Apart};
 ghost use Rattle.prefix_list.specs.Listing.{Home, Lies, Shared, Stands};

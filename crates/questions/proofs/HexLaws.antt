@@ -9,7 +9,8 @@ use lib.Dec.{leb, ltb}
 use lib.ListN.{length, take, drop, getD, length-take, length-drop}
 use borrow.Author.Tests.{leb-true, leb-false, ltb-true}
 use Rattle.lists.proofs.SliceLaws.{drop-next, drop-done}
-use Rattle.lists.proofs.TableLaws.{tab, tab-at}
+use Rattle.lists.specs.Tables.{tab}
+use Rattle.lists.proofs.TableLaws.{tab-at}
 use Rattle.rules.specs.Bytes.{every}
 use Rattle.rules.proofs.BoolLaws.{and-left, and-right}
 use Rattle.questions.specs.Hex.{hexValue, hexByte, unhexed, hexGlyph, pairs, hexed}

@@ -9,9 +9,9 @@ use lib.Dec.{T}
 use lib.Ieee.{Float, nan, inf, fin, le, isNan}
 use lib.Seq.{slice}
 use Rattle.rules.specs.Table.{Table, bigrams, tableOf, valueOf}
-use Rattle.rules.specs.Book.{entriesOf, soundTable, tableIn}
+use Rattle.rules.specs.Book.{entriesOf, soundTable, tableIn, Proper}
 use Rattle.rules.specs.Refusal.{unit}
-use Rattle.rules.proofs.TableLaws.{Proper, table-proper, value-unit, sound-entries-rising}
+use Rattle.rules.proofs.TableLaws.{table-proper, value-unit, sound-entries-rising}
 use Rattle.rules.proofs.SoundLaws.{table-sound}
 use Rattle.ngram_table.specs.Tables.{tableAt}
 use Rattle.license_views.specs.declared.Viewed.{Viewed}

@@ -23,13 +23,13 @@ licence : String → String → List ℕ
 licence n s = rec 1 (text n) ++ rec 2 (compiled (text s))
 
 a1 : List ℕ
-a1 = licence "A" "My First License"
+a1 = licence "A" "a b"
 
 b1 : List ℕ
-b1 = licence "B" "another text of some words"
+b1 = licence "B" "c d"
 
 note : List ℕ
-note = text "My First License"
+note = text "a b"
 
 room : Areas
 room = record { bytes = 100_000; words = 100_000 }
@@ -67,14 +67,14 @@ got =
     shown note (a1 ∷ b1 ∷ []) 9 ∷
     shown note (b1 ∷ a1 ∷ []) 9 ∷
     shown note (a1 ∷ a1 ∷ []) 9 ∷
-    shown note ((b1 ++ licence "C" "My First License") ∷ a1 ∷ []) 9 ∷
-    shown note (b1 ∷ (a1 ++ licence "C" "My First License") ∷ []) 9 ∷
+    shown note ((b1 ++ licence "C" "a b") ∷ a1 ∷ []) 9 ∷
+    shown note (b1 ∷ (a1 ++ licence "C" "a b") ∷ []) 9 ∷
     shown note ([] ∷ a1 ∷ []) 9 ∷
     shown note (a1 ∷ [] ∷ []) 9 ∷
     shown note ([] ∷ [] ∷ []) 9 ∷
-    shown note (a1 ∷ take 57 a1 ∷ []) 9 ∷
-    shown note ([] ∷ take 57 a1 ∷ []) 9 ∷
-    shown (text "none of it") (b1 ∷ a1 ∷ []) 9 ∷
+    shown note (a1 ∷ take 31 a1 ∷ []) 9 ∷
+    shown note ([] ∷ take 31 a1 ∷ []) 9 ∷
+    shown (text "x y") (b1 ∷ a1 ∷ []) 9 ∷
     shown note (b1 ∷ a1 ∷ []) 1 ∷
     shown note (b1 ∷ a1 ∷ []) 2 ∷
     above 0xbf800000 note (a1 ∷ b1 ∷ []) 9 ∷
@@ -84,12 +84,12 @@ got =
     found (b1 ∷ a1 ∷ []) 1 ∷
     found (b1 ∷ a1 ∷ []) 2 ∷
     down note (b1 ∷ a1 ∷ []) ∷
-    shown note (licence "A" "another text of some words" ∷ a1 ∷ []) 9 ∷
-    shown note (take 57 a1 ∷ a1 ∷ []) 9 ∷
+    shown note (licence "A" "c d" ∷ a1 ∷ []) 9 ∷
+    shown note (take 31 a1 ∷ a1 ∷ []) 9 ∷
     shown note (a1 ∷ []) 9 ∷
-    shown note ((b1 ++ licence "C" "My First License") ∷ []) 9 ∷
+    shown note ((b1 ++ licence "C" "a b") ∷ []) 9 ∷
     shown note ([] ∷ []) 9 ∷
-    shown note (take 57 a1 ∷ []) 9 ∷
+    shown note (take 31 a1 ∷ []) 9 ∷
     []
 
 pub both-hold :
@@ -97,7 +97,7 @@ pub both-hold :
     (0 ∷ 2 ∷ 0x3f800000 ∷ 2 ∷ 1 ∷ 0 ∷ 6 ∷ 1 ∷ []) ∷
     (0 ∷ 2 ∷ 0x3f800000 ∷ 2 ∷ 1 ∷ 1 ∷ 6 ∷ 1 ∷ []) ∷
     (0 ∷ 2 ∷ 0x3f800000 ∷ 2 ∷ 1 ∷ 0 ∷ 6 ∷ 1 ∷ []) ∷
-    (0 ∷ 3 ∷ 0x3f800000 ∷ 2 ∷ 1 ∷ 0 ∷ 95 ∷ 1 ∷ []) ∷
+    (0 ∷ 3 ∷ 0x3f800000 ∷ 2 ∷ 1 ∷ 0 ∷ 38 ∷ 1 ∷ []) ∷
     (0 ∷ 3 ∷ 0x3f800000 ∷ 2 ∷ 1 ∷ 1 ∷ 6 ∷ 1 ∷ []) ∷
     (0 ∷ 1 ∷ 0x3f800000 ∷ 2 ∷ 1 ∷ 1 ∷ 6 ∷ 1 ∷ []) ∷
     (0 ∷ 1 ∷ 0x3f800000 ∷ 2 ∷ 1 ∷ 0 ∷ 6 ∷ 1 ∷ []) ∷
@@ -117,7 +117,7 @@ pub both-hold :
     (0 ∷ 2 ∷ 0x3f800000 ∷ 2 ∷ 1 ∷ 1 ∷ 6 ∷ 1 ∷ []) ∷
     (4 ∷ 0 ∷ 0 ∷ 0 ∷ 0 ∷ 0 ∷ 0 ∷ 0 ∷ []) ∷
     (0 ∷ 1 ∷ 0x3f800000 ∷ 2 ∷ 1 ∷ 0 ∷ 6 ∷ 1 ∷ []) ∷
-    (0 ∷ 2 ∷ 0x3f800000 ∷ 2 ∷ 1 ∷ 0 ∷ 95 ∷ 1 ∷ []) ∷
+    (0 ∷ 2 ∷ 0x3f800000 ∷ 2 ∷ 1 ∷ 0 ∷ 38 ∷ 1 ∷ []) ∷
     (5 ∷ 0 ∷ 0 ∷ 0 ∷ 0 ∷ 0 ∷ 0 ∷ 0 ∷ []) ∷
     (4 ∷ 0 ∷ 0 ∷ 0 ∷ 0 ∷ 0 ∷ 0 ∷ 0 ∷ []) ∷
     []

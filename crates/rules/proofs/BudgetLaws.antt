@@ -10,12 +10,7 @@ use mathlib.Core.List.{List, [], _∷_, _++_}
 use lib.ListN.{length, take}
 use lib.Dec.{leb, leb·suc-suc, leb·suc-zero}
 use Rattle.rules.specs.Search.{Scoring}
-use Rattle.rules.specs.Scan.{Event, paid, overall, found, Recorded, after, afford, scorings, records}
-
--- ys begins with xs
-pub record Begins {A : Type 0} (xs ys : List A) : Type 0 where
-  pub rest : List A
-  pub is : ys ≡ xs ++ rest
+use Rattle.rules.specs.Scan.{Event, paid, overall, found, Recorded, after, afford, Begins, scorings, records}
 
 begins-cons : {A : Type 0} (x : A) {xs ys : List A} → Begins xs ys → Begins (x ∷ xs) (x ∷ ys)
 begins-cons {A} x b = record { rest = b .rest; is = ap (λ (l : List A). x ∷ l) (b .is) }

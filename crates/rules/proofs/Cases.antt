@@ -175,6 +175,10 @@ half = 0x3f000000
 note : List ℕ
 note = text "My First License"
 
+-- a book whose one text is `a b`, for the rows that score often: their scores are exact, and cheap to compute
+slim : List ℕ
+slim = with (body 1 1 (entry 1 (text "a b")))
+
 tiny : Areas
 tiny = record { bytes = 0; words = 0 }
 
@@ -186,12 +190,15 @@ others =
     boundsCase (text "my first license\n\n") bookA (0 ∷ 0 ∷ 2 ∷ unity ∷ 7 ∷ []) ∷
     viewCase "x\n\ncopyright a\ncopyright b\n\ny" "x copyright a copyright b y" ∷
     viewCase "x\n\ncopyright a\n\ncopyright b\n\ny" "x copyright b y" ∷
-    scanCase (text "my first license\nmy first license\nmy first license") bookA (limits 0x3f666666 unity) (TopDown 1) 100 room 12
+    scanCase (text "a b\na b\na b") slim (limits 0x3f666666 unity) (TopDown 1) 100 room 12
     ((0 ∷ 13 ∷ 0 ∷ 0 ∷ 0 ∷ 2 ∷ []) ++ noName ++ (0 ∷ 0 ∷ 1 ∷ unity ∷ 0 ∷ 2 ∷ 3 ∷ unity ∷ []) ++ replicate 4 7) ∷
     -- the passes
     viewCase "abcd xabcd\nabcd e\nx\nabcd e\nabcd e" "xabcd e x e e" ∷
     viewCase "\ncopyright x\n\nb c" "b c" ∷
-    viewCase "a license version 2 copyright me\n\nb c" "b c" ∷
+    -- the title with its tail: were it none, B would take it, and not the line after it
+    viewCase "a license copyright me\n\nfoo copyright bar\nb c" "b c" ∷
+    viewCase "a license version 2 copyright me\n\nfoo copyright bar\nb c" "b c" ∷
+    bytesCase (aggressive (lines (text "foo license" ++ 11 ∷ 13 ∷ text "body text"))) (text "body text") ∷
     viewCase "abc x\nabc y\nabc z" "abc x abc y abc z" ∷
     viewCase "copyright company\nb c" "b c" ∷
     viewCase "" "" ∷
@@ -209,6 +216,13 @@ others =
     scanCase note bookA (limits half unity) (Elimination true 1) 5 room 4
     ((12 ∷ 5 ∷ unity ∷ 2 ∷ 1 ∷ 1 ∷ []) ++ name (text "A") 63 ++ 0 ∷ 0 ∷ 1 ∷ unity ∷ []) ∷
     scanCase note bookA (limits half 0x3f7fffff) (Elimination true 1) 100 room 4 ((0 ∷ 1 ∷ unity ∷ 2 ∷ 1 ∷ 0 ∷ []) ++ name (text "A") 63 ++ replicate 4 7) ∷
+    -- above the shallow limit alone goes on; no line but the range is blanked; of the pairs the latest, whose bounds take a scoring more
+    scanCase (text "a b\nx y") slim (limits 0x3f666666 0) (Elimination true 1) 100 room 4
+    ((0 ∷ 7 ∷ half ∷ 0 ∷ 0 ∷ 1 ∷ []) ++ noName ++ 0 ∷ 0 ∷ 1 ∷ unity ∷ []) ∷
+    scanCase (text "a b\na b") slim (limits half unity) (Elimination true 2) 100 room 8
+    ((0 ∷ 14 ∷ half ∷ 0 ∷ 0 ∷ 2 ∷ []) ++ noName ++ 0 ∷ 0 ∷ 1 ∷ unity ∷ 0 ∷ 1 ∷ 2 ∷ unity ∷ []) ∷
+    scanCase (text "a b\nx y") slim (limits half unity) (TopDown 1) 100 room 8
+    ((0 ∷ 9 ∷ 0 ∷ 0 ∷ 0 ∷ 1 ∷ []) ++ noName ++ (0 ∷ 0 ∷ 1 ∷ unity ∷ []) ++ replicate 4 7) ∷
     -- no results without optimize; a budget of none; the largest step; -0.0 is from 0.0
     scanCase note bookA (limits half half) (Elimination false 2) 100 room 0 ((0 ∷ 1 ∷ unity ∷ 2 ∷ 1 ∷ 0 ∷ []) ++ name (text "A") 63) ∷
     scanCase note bookA (limits half half) (Elimination false 2) 0 room 0 ((12 ∷ 0 ∷ 0 ∷ 0 ∷ 0 ∷ 0 ∷ []) ++ noName) ∷
@@ -292,6 +306,6 @@ others =
 
 pub others-hold : map (λ c. c .got) others ≡ map (λ c. c .want) others
 unfolding
-    others readCase shown unsound with bare body entry rec refusedCase tiny note half unity nan name noName scanCase boundsCase scoreCase compileCase
-    bookCase viewCase lineCase wholeView limits room bookA bodyA opened
+    others readCase shown unsound with bare body entry rec refusedCase tiny slim note half unity nan name noName scanCase boundsCase scoreCase compileCase
+    bookCase bytesCase viewCase lineCase wholeView limits room bookA bodyA opened
 others-hold = refl

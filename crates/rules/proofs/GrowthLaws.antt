@@ -1,23 +1,25 @@
 -- How long what the passes make is. A line grows only by its URLs, to 21 bytes for each 8 (`urls-length`), every other pass shrinks; so the
--- bigrams of any view of a text that is not refused number at most `totalMost` (`view-total`), and t is exact.
+-- bigrams of any view of a text that is not refused number at most `totalMost` (`view-few`, `view-total`), and t of a scoring is below 2^24
+-- (`scoring-t`), so exact.
 -- Assumes nothing.
 use mathlib.Core.Path.{_≡_, refl, sym, ap, _∙_}
 use mathlib.Core.Bool.{Bool, true, false, cond, not, _&&_, _||_, false≢true}
 use mathlib.Core.List.{List, [], _∷_, _++_, map}
-use Prim.Native.Nat.{ℕ, zero, suc, _+_, _-_, _*_, _≤_, _<_, zero-le}
+use Prim.Native.Nat.{ℕ, zero, suc, _+_, _-_, _*_, _^_, _≤_, _<_, zero-le}
 use native.Mathlib.Omega.{arith}
 use lib.Dec.{ltb, eqb}
 use lib.ListN.{length, take, drop, length-append, length-drop, length-map}
 use borrow.Author.Tests.{eqb-true, not-true}
 use Rattle.rules.specs.Bytes.{text, within, space, dropped, every, word, lead, lineLen, solid, starts, keep, runs, trimStart, addFront, trimEnd, trim, onFirst, split, join}
-use Rattle.rules.specs.Lines.{url, urls, gap, signs, lineBy, line, lines}
+use Rattle.rules.specs.Lines.{url, urls, gap, signs, lineBy, line, lines, size}
 use Rattle.rules.specs.Sizes.{textMost, totalMost}
 use Rattle.rules.specs.Prefix.{Counted, winner, reach, fourFifths, prefixes, seeAll, strip, stripWinner, withoutPrefix}
 use Rattle.rules.specs.Passes.{vertical, lowered, titleLine, withoutTitle, withoutCopyright, passes, aggressive}
-use Rattle.rules.specs.Table.{pairs, bigrams, tableOf, viewTable}
-use Rattle.rules.specs.Search.{View, viewed, blank}
+use Rattle.rules.specs.Table.{pairs, bigrams, tableOf, viewTable, valueOf}
+use Rattle.rules.specs.Search.{View, viewed, blank, Stored, scored, scoreView}
 use Rattle.rules.proofs.BoolLaws.{and-left, and-right, cond-of}
 use Rattle.rules.proofs.HitLaws.{withoutCopyright-length}
+use Rattle.rules.proofs.SoundLaws.{StoredSound}
 
 -- ---- passes that shrink
 pub keep-length : (p : ℕ → Bool) (s : List ℕ) → length (keep p s) ≤ length s
@@ -166,10 +168,6 @@ passes-length s =
     omega (arith, trim-length seven)
 
 -- ---- lines, with a newline each
-unfoldable pub size : List (List ℕ) → ℕ
-size [] = 0
-size (l ∷ ls) = suc (length l) + size ls
-
 pub join-length : (ls : List (List ℕ)) → length (join ls) ≤ size ls
 unfolding join size
 join-length [] = zero-le
@@ -269,8 +267,18 @@ pub bigrams-length : (s : List ℕ) → length (bigrams s) ≤ length s
 unfolding bigrams
 bigrams-length s = omega (arith, pairs-length (split 32 s), size-most (split 32 s), split-size 32 s)
 
--- of any view of a text that is not refused, also with lines blanked
-pub view-total : (t : List ℕ) (ls : List (List ℕ)) (v : View) → length t ≤ textMost → size ls ≤ size (lines t) → viewTable (viewed ls v) .total ≤ totalMost
+-- of any view of a text that is not refused, also with lines blanked: 21 for each 8 of 1,048,577
+pub view-few : (t : List ℕ) (ls : List (List ℕ)) (v : View) → length t ≤ textMost → size ls ≤ size (lines t) →
+    viewTable (viewed ls v) .total ≤ 2_752_514
 unfolding viewTable tableOf
-view-total t ls v h k =
+view-few t ls v h k =
     omega (arith, bigrams-length (aggressive (viewed ls v)), aggressive-length (viewed ls v), viewed-size ls v, lines-size t)
+
+pub view-total : (t : List ℕ) (ls : List (List ℕ)) (v : View) → length t ≤ textMost → size ls ≤ size (lines t) → viewTable (viewed ls v) .total ≤ totalMost
+view-total t ls v h k = omega (arith, view-few t ls v h k)
+
+-- t of a scoring against a stored text of a sound book: two tables at `totalMost` would have 2 ^ 24, a view has fewer
+pub scoring-t : (t : List ℕ) (ls : List (List ℕ)) (v : View) (s : Stored) → length t ≤ textMost → size ls ≤ size (lines t) → StoredSound s →
+    scoreView ls s v .value .t < 2 ^ 24
+unfolding scoreView scored valueOf
+scoring-t t ls v s h k q = omega (arith, view-few t ls v h k, q .total-to)

@@ -1,5 +1,5 @@
 -- The name in a scan's answer, as a part of a lent book.
---     ReadAs, read-two, read-one        lent books that have the texts of `a` and then of `b`, and their names where these stand
+--     read-two, read-one                lent books that have the texts of `a` and then of `b`, and their names where these stand
 --     text-named                        of every stored text, and of none, the part's bytes are the name
 --     answer-named, answer-length       so they are of the text that a scan names: the bytes of its answer's copy, and as many
 -- Assumes nothing.
@@ -21,19 +21,15 @@ use Rattle.rules.specs.declared.Scanned.{Scanned}
 use Rattle.rules.specs.Sizes.{nameMost}
 use Rattle.rules.specs.Search.{Stored, noText, recurse, turns}
 use Rattle.rules.specs.Scan.{verdict}
-use Rattle.rules.specs.Book.{Record, recordsOf, pieces, goOn, front, entriesOf, storedKind, tableIn, storedIn, storedOf, storedFrom, stored, shelved, namesIn, namesOf, nameParts, noPart, partIn}
+use Rattle.rules.specs.Book.{Record, recordsOf, pieces, goOn, front, entriesOf, storedKind, tableIn, storedIn, storedOf, storedFrom, shelved, namesIn, namesOf, nameParts, noPart, partIn, Lies, ReadAs}
 use Rattle.rules.specs.Refusal.{Areas}
 use Rattle.rules.specs.Jobs.{over, happened, named, namePart, answered, scan}
 use Rattle.rules.proofs.DownLaws.{Each, each-append, each-at, each-of}
 use Rattle.rules.proofs.SoundLaws.{within-from}
-use Rattle.rules.proofs.ShelfLaws.{shelved-one, shelved-empty, shelved-number, part-is-name, Lies, part-lies}
+use Rattle.rules.proofs.ShelfLaws.{shelved-one, shelved-empty, shelved-number, part-is-name, part-lies}
 use Rattle.rules.proofs.VerdictLaws.{named-one}
 
 -- ---- lent books that are read as `a` and then `b`
-pub record ReadAs (a b : List ℕ) (bs : List (List ℕ)) : Type 0 where
-  pub texts : shelved 0 bs ≡ shelved 0 (a ∷ b ∷ [])
-  pub names : nameParts false bs ≡ nameParts false (a ∷ b ∷ [])
-
 pub read-two : (a b : List ℕ) → ReadAs a b (a ∷ b ∷ [])
 read-two a b = record { texts = refl; names = refl }
 

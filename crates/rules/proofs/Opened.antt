@@ -2,10 +2,10 @@
 -- Assumes nothing.
 use Rattle.rules.specs.Bytes.{text, within, among, newline, space, upper, lower, digit, word, dropped, lead, lineLen, solid, starts, holds, every, keep, runs, trimStart, addFront, trimEnd, trim, onFirst, split, join, order, same, rises}
 use Rattle.rules.specs.Class.{signOf, classOf}
-use Rattle.rules.specs.Lines.{url, urls, gap, signs, lineBy, line, lines, lineCount}
-use Rattle.rules.specs.Prefix.{common, prefixes, see, seeAll, winner, reach, fourFifths, strip, stripWinner, withoutPrefix}
+use Rattle.rules.specs.Lines.{url, urls, gap, signs, lineBy, line, lines, lineCount, size}
+use Rattle.rules.specs.Prefix.{common, prefixes, see, seeAll, winner, reach, reached, fourFifths, strip, stripWinner, withoutPrefix}
 use Rattle.rules.specs.Passes.{vertical, lowered, titleEnd, titleRest, titleLine, withoutTitle, paragraph, hitA, hitB, item, spaced, items, hitC, orElse, hit, withoutCopyright, passes, aggressive}
-use Rattle.rules.specs.Table.{pairs, bigrams, tally, tallied, tableOf, viewTable, countIn, meet, float, score, valueOf}
+use Rattle.rules.specs.Table.{pairs, bigrams, tally, tallied, occurs, tableOf, viewTable, countIn, meet, float, score, valueOf}
 use Rattle.rules.specs.Search.{whole, viewed, blank, noText, scored, scoreView, turns, recurse, higher, sweepFrom, sweep, narrow, search, bounds, noBest, better, bestFrom, best}
 use Rattle.rules.specs.Scan.{after, names, stops, below, eachPass, elimination, stepsOn, steps, viewsOf, latest, settled, contained, andOn, downOn, downFrom, topDown, events, afford, scorings, records, verdict, numbers}
 use Rattle.rules.specs.Count.{enough, roundsOn, rounds, mostFor, mostElimination, mostTopDown}
@@ -18,10 +18,10 @@ unfoldable pub opened : Unit {0}
 unfolding
     text within among newline space upper lower digit word dropped lead lineLen solid starts holds every keep runs trimStart addFront trimEnd trim onFirst split join order same rises
     signOf classOf
-    url urls gap signs lineBy line lines lineCount
-    common prefixes see seeAll winner reach fourFifths strip stripWinner withoutPrefix
+    url urls gap signs lineBy line lines lineCount size
+    common prefixes see seeAll winner reach reached fourFifths strip stripWinner withoutPrefix
     vertical lowered titleEnd titleRest titleLine withoutTitle paragraph hitA hitB item spaced items hitC orElse hit withoutCopyright passes aggressive
-    pairs bigrams tally tallied tableOf viewTable countIn meet float score valueOf
+    pairs bigrams tally tallied occurs tableOf viewTable countIn meet float score valueOf
     whole viewed blank noText scored scoreView turns recurse higher sweepFrom sweep narrow search bounds noBest better bestFrom best
     after names stops below eachPass elimination stepsOn steps viewsOf latest settled contained andOn downOn downFrom topDown events afford scorings records verdict numbers
     enough roundsOn rounds mostFor mostElimination mostTopDown

@@ -11,10 +11,11 @@ use lib.Dec.{ltb, eqb, isEq}
 use lib.ListN.{length}
 use borrow.Author.Tests.{ltb-true, ltb-false, lt-ltb, le-ltb, ne-eqb, eqb-true}
 use Rattle.rules.specs.Bytes.{order, same, starts}
-use Rattle.rules.specs.Prefix.{Counted, prefixes, see, seeAll, winner, reach, fourFifths, strip, stripWinner, withoutPrefix}
-use Rattle.rules.specs.Table.{tally, tallied, countIn}
+use Rattle.rules.specs.Prefix.{Counted, prefixes, see, seeAll, winner, reach, reached, fourFifths, strip, stripWinner, withoutPrefix}
+use Rattle.rules.specs.Table.{tally, tallied, countIn, occurs}
 use Rattle.rules.proofs.OrderLaws.{flip, order-eq, order-flip, rises-is, same-by}
-use Rattle.rules.proofs.TableLaws.{Rising, tally-cons, placed, count-none, occurs, tallied-count, tallied-rising}
+use Rattle.rules.specs.Book.{Rising}
+use Rattle.rules.proofs.TableLaws.{tally-cons, placed, count-none, tallied-count, tallied-rising}
 
 -- ---- equal byte strings
 pub same-self : (g : List ℕ) → same g g ≡ true
@@ -186,11 +187,6 @@ module _ (many : List ℕ → ℕ) where
       go false e more = more b ∙ most-others p b ps (ltb-false (many b) (many p) e)
 
 -- ---- the sum
--- the counts of all entries that start with p, and one more for each
-unfoldable pub reached : List ℕ → List Counted → ℕ
-reached p [] = 0
-reached p (e ∷ es) = cond (starts p (e .bytes)) (e .count + 1) 0 + reached p es
-
 module _ (p : List ℕ) where
   abbrev share : List ℕ → ℕ → ℕ
   share g n = cond (starts p g) n 0

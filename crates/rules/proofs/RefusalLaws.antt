@@ -1,14 +1,15 @@
 -- The first refusal that applies: a text too long, a byte too high, lines too many, over any text of that kind; and of scan, that 12 comes
--- exactly if nothing else is refused and the list of scorings is longer than the budget, and that the count is the smaller of both.
+-- exactly if nothing else is refused and the list of scorings is longer than the budget, that the count is the smaller of both, and 0
+-- where anything else is refused.
 -- Assumes nothing.
 use mathlib.Core.Path.{_≡_, refl, sym, ap, _∙_}
-use Prim.Native.Nat.{ℕ, _+_, _≤_, _<_, min}
+use Prim.Native.Nat.{ℕ, _≤_, _<_, min}
 use native.Mathlib.Omega.{arith}
-use mathlib.Core.Bool.{Bool, true, false, not, _||_, cond}
+use mathlib.Core.Bool.{Bool, true, false, _||_, cond}
 use mathlib.Core.List.{List, [], _∷_, _++_}
 use lib.ListN.{length, length-map}
 use lib.Dec.{ltb, eqb}
-use borrow.Author.Tests.{lt-ltb, le-ltb, eqb-true, eqb-false, ltb-true}
+use borrow.Author.Tests.{lt-ltb, le-ltb, ne-eqb, eqb-true, eqb-false, ltb-true, ltb-false}
 use Rattle.rules.specs.declared.Limits.{Limits}
 use Rattle.rules.specs.declared.Mode.{Mode}
 use Rattle.rules.specs.Sizes.{textMost, linesMost}
@@ -160,3 +161,37 @@ module _ (t : List ℕ) (bs : List (List ℕ)) (lim : Limits) (mode : Mode) (a :
         where
           no : 12 ≡ before → before ≤ 10 → ⊥
           no e l = omega arith
+
+  -- 0 only where nothing is refused before any work and the budget pays the list
+  pub scan-zero : (b : ℕ) → refusal (ofScan t bs lim mode b a results) ≡ 0 → (before ≡ 0) × (length (scorings full) ≤ b)
+  scan-zero b h = at (eqb before 0) refl
+    where
+      paid : (u : Bool) → ltb b (length (scorings full)) ≡ u → _≡_ {A = ℕ} 0 (cond u 12 0) → length (scorings full) ≤ b
+      paid true q e = absurd (no e)
+        where
+          no : _≡_ {A = ℕ} 0 12 → ⊥
+          no e = omega arith
+      paid false q e = ltb-false b (length (scorings full)) q
+
+      at : (u : Bool) → eqb before 0 ≡ u → (before ≡ 0) × (length (scorings full) ≤ b)
+      at true q =
+          let z = eqb-true before 0 q in
+          (z, paid (ltb b (length (scorings full))) refl (sym h ∙ scan-then b z))
+      at false q = let k = eqb-false before 0 q in absurd (k (sym (scan-before b k) ∙ h))
+
+  -- what is refused before any work makes no scoring
+  pub scan-none : (b : ℕ) → (before ≡ 0 → ⊥) → scan t bs lim mode b a results .count ≡ 0
+  unfolding scan answered happened scorings
+  scan-none b h =
+      let n = refusal (ofScan t bs lim mode b a results) in
+      let e = scan-before b h in
+      let l = refusal-most (beforeScan t bs lim mode a results) scan-numbered in
+      simp (ne-eqb n 0 (λ z. h (sym e ∙ z)), ne-eqb n 12 (λ z. omega (arith, z, e, l)))
+
+  -- so a limit on the list of what is not refused is one on every count
+  pub scan-within : (b m : ℕ) → (before ≡ 0 → length (scorings full) ≤ m) → scan t bs lim mode b a results .count ≤ m
+  scan-within b m h = at (eqb before 0) refl
+    where
+      at : (u : Bool) → eqb before 0 ≡ u → scan t bs lim mode b a results .count ≤ m
+      at true q = let z = eqb-true before 0 q in omega (arith, scan-count b z, h z)
+      at false q = omega (arith, scan-none b (eqb-false before 0 q))

@@ -1,5 +1,5 @@
--- The limits on what a scan does: its scorings (`elimination-count`, `topDown-count`), which fit 64 bits (`count-fits`), and its records
--- (`elimination-records`, `topDown-records`), which fit the results area whatever the budget (`results-fit`).
+-- The limits on what a scan does: its scorings (`elimination-count`, `topDown-count`), which fit 64 bits (`elimination-fits`, `topDown-fits`),
+-- and its records (`elimination-records`, `topDown-records`), which fit the results area whatever the budget (`results-fit`).
 -- Assumes nothing.
 use mathlib.Core.Path.{_≡_, refl, ap, _∙_}
 use Prim.Native.Nat.{ℕ, zero, suc, _+_, _-_, _*_, _/_, _^_, _≤_, _<_, zero-le}
@@ -213,13 +213,13 @@ most-fits : (n : ℕ) → n ≤ linesMost → mostFor n ≤ 52
 unfolding mostFor
 most-fits n h = omega (arith, rounds-least n 24 (omega arith))
 
-elimination-fits : (N P L : ℕ) → N ≤ 2 * storedMost → P < 65_536 → L ≤ linesMost → mostElimination N P L < 2 ^ 64
+pub elimination-fits : (N P L : ℕ) → N ≤ 2 * storedMost → P < 65_536 → L ≤ linesMost → mostElimination N P L < 2 ^ 64
 unfolding mostElimination
 elimination-fits N P L h k l =
     let c = most-fits L l in
     omega (arith, mul-le-mul {n₁ = P} {m₁ = N + 2 * mostFor L} {n₂ = 65_535} {m₂ = 2 * storedMost + 2 * 52} (omega arith) (omega arith))
 
-topDown-fits : (N s L : ℕ) → N ≤ 2 * storedMost → L ≤ linesMost → mostTopDown N s L < 2 ^ 64
+pub topDown-fits : (N s L : ℕ) → N ≤ 2 * storedMost → L ≤ linesMost → mostTopDown N s L < 2 ^ 64
 unfolding mostTopDown
 topDown-fits N s L h l =
     let f = L / s in
@@ -230,10 +230,6 @@ topDown-fits N s L h l =
     let v = mul-le-mul {n₁ = N} {m₁ = (f + 1) * (f + 2) / 2} {n₂ = 2 * storedMost} {m₂ = (g + 1) * (g + 2) / 2} h (omega arith) in
     let r : N * ((f + 1) * (f + 2) / 2) + 2 * mostFor L ≤ 2 * storedMost * ((g + 1) * (g + 2) / 2) + 2 * 52 = omega arith in
     omega (arith, mul-le-mul l r)
-
-pub count-fits : (N P s L : ℕ) → N ≤ 2 * storedMost → P < 65_536 → L ≤ linesMost →
-    (mostElimination N P L < 2 ^ 64) × (mostTopDown N s L < 2 ^ 64)
-count-fits N P s L h k l = (elimination-fits N P L h k l, topDown-fits N s L h l)
 
 -- ---- what a budget leaves of the records fits the results area
 pub numbers-length : (rs : List Recorded) → length (numbers rs) ≡ recordWidth * length rs

@@ -13,9 +13,9 @@ use lib.Ieee.Fits.{and-i, round-fits}
 use lib.Ieee.Order.{round-mono}
 use borrow.Author.Tests.{eq-eqb, eqb-true}
 use Rattle.rules.specs.Sizes.{totalMost}
-use Rattle.rules.specs.Table.{nought, one, float, score}
+use Rattle.rules.specs.Table.{nought, one, float, score, Close}
 use Rattle.rules.specs.Refusal.{unit}
-use Rattle.rules.proofs.ScoreRound.{R, quotient, one-at, zero-at, below-one, above-zero, Close, close, close-zero}
+use Rattle.rules.proofs.ScoreRound.{R, quotient, one-at, zero-at, below-one, above-zero, close, close-zero}
 
 -- r is the score of m shared among totals a and b
 pub record ScoreFacts (m a b : ℕ) (r : Float) : Type 0 where

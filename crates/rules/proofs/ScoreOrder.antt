@@ -1,38 +1,35 @@
 -- Scores and limits, the binary32 values from 0.0 to 1.0, are ordered as whole numbers: `lt` and `le` of two of them are `ltb` and `leb`
--- of their ranks, so the order is total (`order-total`), and two of one rank that have no sign are one value (`rank-inj`).
+-- of their ranks, so the order is total (`order-total`).
 -- Assumes nothing.
 use mathlib.Core.Path.{_≡_, refl, sym, ap, ap₂, _∙_}
 use mathlib.Core.Logic.{_≢_}
 use Prim.Native.Nat.{ℕ, zero, suc, _-_, _*_, _/_, _%_, _^_, _≤_, _<_, compare, Ordering, Ordering·lt, Ordering·eq, Ordering·gt}
-use native.Mathlib.Nat.{lt-of-not-le, not-le-of-lt, lt-irrefl, zero-add, mul-one, one-mul, mul-comm, mul-assoc, mul-right-comm, mul-pos, mul-lt-mul-of-pos-right, lt-of-mul-lt-mul-right, eq-of-mul-eq-mul-right, mul-div-cancel, div-one, zero-mul, zero-div, zero-lt-suc, pow-suc}
+use native.Mathlib.Nat.{lt-of-not-le, not-le-of-lt, zero-add, mul-one, mul-comm, mul-assoc, mul-right-comm, mul-pos, mul-lt-mul-of-pos-right, lt-of-mul-lt-mul-right, eq-of-mul-eq-mul-right, mul-div-cancel, div-one, zero-mul, zero-div}
 use native.Mathlib.Omega.{arith}
-use mathlib.Core.Bool.{Bool, true, false, _&&_, _||_, true≢false}
+use mathlib.Core.Bool.{Bool, true, false, _&&_, _||_}
 use lib.IntN.{ℤ, pos, negsuc}
 use lib.Dec.{T, isLe, isEq, ltb, leb, eqb, leb→le, eqb→eq}
 use lib.Pow.{pow-pos, pow-lt}
 use lib.Ieee.{Float, nan, inf, fin, binary32, up, down, fits, lt, le, eq, below, level}
-use lib.Ieee.Exact.{HasValue}
-use lib.Ieee.Fits.{up-pos, down-pos, and-l, and-r}
+use lib.Ieee.Fits.{down-pos, and-l, and-r}
 use borrow.Author.Tests.{lt-ltb, le-ltb, eq-eqb}
-use Rattle.rules.specs.Table.{nought, one}
+use Rattle.rules.specs.Table.{nought, one, times}
 use Rattle.rules.specs.Refusal.{unit}
 use Rattle.rules.proofs.OrderLaws.{Compared, compared, compare-is, flip, compare-flip}
-use Rattle.rules.proofs.ScoreRound.{times, split}
+use Rattle.rules.proofs.ScoreRound.{split}
 
 -- x in units of the format's smallest value, 2 ^ -149
 abbrev pub rank : Float → ℕ
 rank x = times 149 x
 
--- ---- what `fits` says of an m above 0, and of 0: m is odd or 0, and the rank has nothing cut off
-module _ (s : Bool) (m : ℕ) (e : ℤ) (t : T (fits binary32 (fin s (suc m) e))) where
-  parts : (suc m % 2 ≡ 1) × (down e ≤ 2 ^ 149)
-  unfolding fits
-  parts =
-      let o : Bool = eqb (suc m % 2) 1 in
-      let a : Bool = ltb (suc m) (2 ^ 24) in
-      let c : Bool = leb (down e) (2 ^ 149) in
-      let u = and-l (o && a && c) (ltb (suc m * up e) (2 ^ 128 * down e)) t in
-      (eqb→eq (suc m % 2) 1 (and-l o a (and-l (o && a) c u)), leb→le (down e) (2 ^ 149) (and-r (o && a) c u))
+-- ---- what `fits` says of an m above 0: no bit lies below the smallest value, so the rank has nothing cut off
+fits-down : (s : Bool) (m : ℕ) (e : ℤ) → T (fits binary32 (fin s (suc m) e)) → down e ≤ 2 ^ 149
+unfolding fits
+fits-down s m e t =
+    let o : Bool = eqb (suc m % 2) 1 in
+    let a : Bool = ltb (suc m) (2 ^ 24) in
+    let c : Bool = leb (down e) (2 ^ 149) in
+    leb→le (down e) (2 ^ 149) (and-r (o && a) c (and-l (o && a && c) (ltb (suc m * up e) (2 ^ 128 * down e)) t))
 
 low-enough : (k : ℕ) → 2 ^ k ≤ 2 ^ 149 → k ≤ 149
 low-enough k h = let g : k < 150 = lt-of-not-le (λ (g : 150 ≤ k). not-le-of-lt (pow-lt g) h) in less k g
@@ -48,7 +45,7 @@ shift n k h =
 exact : (s : Bool) (m : ℕ) (e : ℤ) → T (fits binary32 (fin s m e)) → rank (fin s m e) * down e ≡ m * up e * 2 ^ 149
 exact s m (pos k) t = mul-one (m * 2 ^ k * 2 ^ 149 / 1) ∙ div-one (m * 2 ^ k * 2 ^ 149)
 exact s zero (negsuc k) t = ap (λ (z : ℕ). z * 2 ^ suc k) (zero-div (2 ^ suc k)) ∙ zero-mul (2 ^ suc k)
-exact s (suc m) (negsuc k) t = shift (suc m * 1) (suc k) (low-enough (suc k) (parts s m (negsuc k) t .1))
+exact s (suc m) (negsuc k) t = shift (suc m * 1) (suc k) (low-enough (suc k) (fits-down s m (negsuc k) t))
 
 -- ---- the tests of the format by `compare`, where only a zero has the sign set
 abbrev isLt : Ordering → Bool
@@ -183,68 +180,3 @@ module _ (x y : Float) (p : T (fits binary32 x)) (q : T (fits binary32 y)) (h : 
       go Ordering·lt l a b = lower a b (λ e. omega arith)
       go Ordering·eq l a b = equal a b l
       go Ordering·gt l a b = higher a b (λ e. omega arith)
-
--- ---- one rank, one value: an odd number times a power of two gives both
-even-odd : (m t : ℕ) → m % 2 ≡ 1 → m ≡ t * 2 → ⊥
-even-odd m t o h = omega arith
-
-two : (n b : ℕ) → n * 2 ^ suc b ≡ n * 2 ^ b * 2
-two n b = ap (λ (x : ℕ). n * x) (pow-suc 2 b) ∙ sym (mul-assoc n (2 ^ b) 2)
-
-odd-pow : (m n a b : ℕ) → m % 2 ≡ 1 → n % 2 ≡ 1 → m * 2 ^ a ≡ n * 2 ^ b → (m ≡ n) × (a ≡ b)
-odd-pow m n zero zero o p h = (sym (mul-one m) ∙ h ∙ mul-one n, refl)
-odd-pow m n zero (suc b) o p h = absurd (even-odd m (n * 2 ^ b) o (sym (mul-one m) ∙ h ∙ two n b))
-odd-pow m n (suc a) zero o p h = absurd (even-odd n (m * 2 ^ a) p (sym (mul-one n) ∙ sym h ∙ two m a))
-odd-pow m n (suc a) (suc b) o p h =
-    let r = odd-pow m n a b o p (eq-of-mul-eq-mul-right 2 (zero-lt-suc 1) (m * 2 ^ a) (n * 2 ^ b) (sym (two m a) ∙ h ∙ two n b)) in
-    (r .0, ap suc (r .1))
-
--- of two odd numbers with equal magnitudes
-same-odd : (m n : ℕ) (e d : ℤ) → m % 2 ≡ 1 → n % 2 ≡ 1 → m * up e * down d ≡ n * up d * down e → (m ≡ n) × (e ≡ d)
-same-odd m n (pos k) (pos l) o p h =
-    let r = odd-pow m n k l o p (sym (mul-one (m * 2 ^ k)) ∙ h ∙ mul-one (n * 2 ^ l)) in
-    (r .0, ap pos (r .1))
-same-odd m n (pos k) (negsuc l) o p h =
-    absurd (even-odd n (m * 2 ^ k * 2 ^ l) p (sym (mul-one n) ∙ sym (mul-one (n * 1)) ∙ sym h ∙ two (m * 2 ^ k) l))
-same-odd m n (negsuc k) (pos l) o p h =
-    absurd (even-odd m (n * 2 ^ l * 2 ^ k) o (sym (mul-one m) ∙ sym (mul-one (m * 1)) ∙ h ∙ two (n * 2 ^ l) k))
-same-odd m n (negsuc k) (negsuc l) o p h =
-    let r = odd-pow m n (suc l) (suc k) o p (rw (mul-one m, mul-one n) at h) in
-    (r .0, ap negsuc (omega arith))
-
--- a zero's exponent is 0
-flat : (e : ℤ) → up e * down e ≡ 1 → e ≡ pos 0
-flat (pos zero) h = refl
-flat (pos (suc k)) h = absurd (even-odd 1 (2 ^ k) refl (sym h ∙ mul-one (2 ^ suc k) ∙ pow-suc 2 k))
-flat (negsuc k) h = absurd (even-odd 1 (2 ^ k) refl (sym h ∙ one-mul (2 ^ suc k) ∙ pow-suc 2 k))
-
-zero-exp : (s : Bool) (e : ℤ) → T (fits binary32 (fin s zero e)) → e ≡ pos 0
-unfolding fits
-zero-exp s e t = flat e (eqb→eq (up e * down e) 1 t)
-
-some-rank : (n : ℕ) (d e : ℤ) → 0 * up e * down d ≡ suc n * up d * down e → ⊥
-some-rank n d e h =
-    let z : suc n * up d * down e ≡ 0 = sym h ∙ simp zero-mul in
-    lt-irrefl 0 (rw z at (mul-pos (mul-pos (zero-lt-suc n) (up-pos d)) (down-pos e)))
-
-same-value : (s : Bool) (m : ℕ) (e : ℤ) (n : ℕ) (d : ℤ) → T (fits binary32 (fin s m e)) → T (fits binary32 (fin s n d))
-    → m * up e * down d ≡ n * up d * down e → fin s m e ≡ fin s n d
-same-value s zero e zero d p q h = ap (fin s zero) (zero-exp s e p ∙ sym (zero-exp s d q))
-same-value s zero e (suc n) d p q h = absurd (some-rank n d e h)
-same-value s (suc m) e zero d p q h = absurd (some-rank m e d (sym h))
-same-value s (suc m) e (suc n) d p q h =
-    let r = same-odd (suc m) (suc n) e d (parts s m e p .0) (parts s n d q .0) h in
-    ap₂ (fin s) (r .0) (r .1)
-
-pub rank-inj : (x y : Float) (a b c d : ℕ) → T (fits binary32 x) → T (fits binary32 y) → HasValue x false a b → HasValue y false c d
-    → rank x ≡ rank y → x ≡ y
-rank-inj nan y a b c d p q v w h = absurd v
-rank-inj (inf s) y a b c d p q v w h = absurd v
-rank-inj (fin true m e) y a b c d p q v w h = absurd (true≢false (v .0))
-rank-inj (fin false m e) nan a b c d p q v w h = absurd w
-rank-inj (fin false m e) (inf s) a b c d p q v w h = absurd w
-rank-inj (fin false m e) (fin true n g) a b c d p q v w h = absurd (true≢false (w .0))
-rank-inj (fin false m e) (fin false n g) a b c d p q v w h =
-    same-value false m e n g p q
-    (eq-of-mul-eq-mul-right (2 ^ 149) (pow-pos 149) (m * up e * down g) (n * up g * down e)
-    (left false m e false n g p q ∙ ap (λ (z : ℕ). z * (down e * down g)) h ∙ sym (right false m e false n g p q)))

@@ -1,5 +1,5 @@
 -- 2 m / t rounded once to binary32: what the division of two exact whole numbers is (`quotient`), where it is 1.0 (`one-at`, `below-one`)
--- and 0.0 (`zero-at`, `above-zero`), and how far it lies from the fraction (`Close`, `close`).
+-- and 0.0 (`zero-at`, `above-zero`), and how far it lies from the fraction (`close`).
 -- Assumes nothing.
 use mathlib.Core.Path.{_≡_, refl, sym, ap, _∙_, subst}
 use mathlib.Core.Logic.{inl, inr}
@@ -19,7 +19,7 @@ use lib.Ieee.Order.{drop, kept, round-mono}
 use lib.Ieee.Positive.{first-pos}
 use lib.Ieee.Scale.{round-same, grid, overflow, round-val}
 use borrow.Author.Tests.{ne-eqb}
-use Rattle.rules.specs.Table.{nought, one, float}
+use Rattle.rules.specs.Table.{nought, one, float, times, Close}
 use Rattle.rules.proofs.OrderLaws.{Compared, compared}
 
 -- ---- the division of two whole numbers that the format holds
@@ -155,23 +155,12 @@ narrow (fin t m e) S v =
     let q = mul-assoc (m * up e) (2 ^ 46) (2 ^ 103) ∙ v .1 ∙ mul-right-comm S (2 ^ 103) (down e) in
     (v .0, eq-of-mul-eq-mul-right (2 ^ 103) (pow-pos 103) (m * up e * 2 ^ 46) (S * down e) q)
 
--- the size of x times 2 ^ k, rounded down
-abbrev pub times : ℕ → Float → ℕ
-times k nan = 0
-times k (inf s) = 0
-times k (fin s m e) = m * up e * 2 ^ k / down e
-
 times-of : (k : ℕ) (x : Float) (S : ℕ) → HasValue x false S (2 ^ k) → times k x ≡ S
 times-of k nan S v = absurd v
 times-of k (inf t) S v = absurd v
 times-of k (fin t m e) S v = ap (λ (z : ℕ). z / down e) (v .1) ∙ mul-div-cancel S (down-pos e)
 
--- the distance: S is r times 2 ^ 46 with nothing cut off, and |S t - 2 m 2 ^ 46| is at most t 2 ^ 21
-pub record Close (m t : ℕ) (r : Float) : Type 0 where
-  pub exact : HasValue r false (times 46 r) (2 ^ 46)
-  pub at-most : times 46 r * t ≤ 2 * m * 2 ^ 46 + t * 2 ^ 21
-  pub at-least : 2 * m * 2 ^ 46 ≤ times 46 r * t + t * 2 ^ 21
-
+-- ---- the distance
 pub close-zero : (t : ℕ) → Close 0 t nought
 close-zero t = record { exact = (refl, refl); at-most = omega arith; at-least = omega arith }
 

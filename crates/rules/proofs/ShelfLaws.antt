@@ -2,13 +2,13 @@
 --     storedFrom-is        numbered from n they are the book's own, n higher
 --     storedFrom-length, storedFrom-at
 --     shelved-one, shelved-empty, shelved-two
---     shelved-number, shelved-sound
+--     shelved-number, shelved-sound, shelved-most
 --     part-is-name         the part's bytes are the text's name, whatever its number
---     parts-length, names-length
+--     names-length
 --     parts-lie, part-lies each part lies in its book; so does the part of any text, and of none
 -- Assumes nothing.
 use mathlib.Core.Path.{_≡_, refl, sym, ap, ap₂, _∙_}
-use Prim.Native.Nat.{ℕ, zero, suc, _+_, _-_, _≤_, _<_}
+use Prim.Native.Nat.{ℕ, zero, suc, _+_, _-_, _*_, _≤_, _<_}
 use native.Mathlib.Nat.{not-suc-le-zero, le-of-suc-le-suc, add-zero, zero-add, add-suc}
 use native.Mathlib.Omega.{arith}
 use mathlib.Core.Bool.{Bool, true, false, cond}
@@ -19,13 +19,14 @@ use lib.Seq.{getD-append-add, drop-drop, length-take-le}
 use lib.Dec.{ltb, eqb}
 use borrow.Author.Tests.{ltb-true, ltb-false}
 use Rattle.rules.specs.declared.Named.{Named}
+use Rattle.rules.specs.Sizes.{storedMost}
 use Rattle.rules.specs.Jobs.{namePart}
 use Rattle.rules.specs.Search.{Stored, noText, recurse, turns}
-use Rattle.rules.specs.Book.{number, Front, front, also, goOn, pieces, recordForm, Record, recordOf, recordsOf, entriesOf, storedKind, tableIn, storedIn, storedOf, storedFrom, stored, sound, shelved, allSound, namesIn, noPart, namesOf, nameParts, partIn}
+use Rattle.rules.specs.Book.{number, Front, front, also, goOn, pieces, recordForm, Record, recordOf, recordsOf, entriesOf, storedKind, tableIn, storedIn, storedOf, storedFrom, stored, sound, shelved, allSound, namesIn, noPart, namesOf, nameParts, partIn, Lies}
 use Rattle.rules.proofs.BoolLaws.{and-left, and-right}
 use Rattle.rules.proofs.DownLaws.{Each, each-append}
 use Rattle.rules.proofs.Steps.{front-cut, pieces-step}
-use Rattle.rules.proofs.SoundLaws.{StoredSound, storedFrom-sound, storedFrom-number}
+use Rattle.rules.proofs.SoundLaws.{StoredSound, storedFrom-sound, storedFrom-number, sound-most}
 
 -- ---- one book, numbered from n on
 abbrev pub renumber : ℕ → Stored → Stored
@@ -113,6 +114,15 @@ shelved-sound n (b ∷ bs) h =
     let ss = storedFrom n b in
     each-append StoredSound ss (shelved (n + length ss) bs) (storedFrom-sound n b (and-left (sound b) (allSound bs) h))
     (shelved-sound (n + length ss) bs (and-right (sound b) (allSound bs) h))
+
+pub shelved-most : (n : ℕ) (bs : List (List ℕ)) → allSound bs ≡ true → length (shelved n bs) ≤ length bs * storedMost
+unfolding shelved allSound
+shelved-most n [] h = omega arith
+shelved-most n (b ∷ bs) h =
+    let ss = storedFrom n b in
+    let more = shelved-most (n + length ss) bs (and-right (sound b) (allSound bs) h) in
+    let here = sound-most b (and-left (sound b) (allSound bs) h) in
+    omega (arith, length-append ss (shelved (n + length ss) bs), storedFrom-length n b, here, more)
 
 pub shelved-number : (n : ℕ) (bs : List (List ℕ)) (k : ℕ) → k < length (shelved n bs) → getD (shelved n bs) k noText .number ≡ n + k
 unfolding shelved
@@ -243,10 +253,6 @@ module _ (a b : List ℕ) where
       (map-two (partIn a b) (namesOf true (recordsOf b)) [] ∙ ap (λ (x : List (List ℕ)). x ++ []) (names-of a b true n) ∙ sym (map-two (λ s. s .name) (storedFrom n b) [])) ∙
       sym (map-two (λ s. s .name) (storedFrom 0 a) (storedFrom n b ++ []))
 
-  pub parts-length : length (nameParts false bs) ≡ length (shelved 0 bs)
-  parts-length =
-      sym (length-map (nameParts false bs) (partIn a b)) ∙ ap length parts-names ∙ length-map (shelved 0 bs) (λ s. s .name)
-
   pub part-is-name : (k : ℕ) → partIn a b (getD (nameParts false bs) k noPart) ≡ getD (shelved 0 bs) k noText .name
   unfolding noText
   part-is-name k =
@@ -255,15 +261,12 @@ module _ (a b : List ℕ) where
 
 -- ---- each part lies in its book
 module _ (a b : List ℕ) where
-  abbrev pub Lies : Named → Type 0
-  Lies p = p .at + p .len ≤ length (cond (p .second) b a)
-
-  lie-in : (second : Bool) (place : ℕ) (p : Named) (rs : List Record) → place ≤ length (cond second b a) → recordsOf (drop place (cond second b a)) ≡ some rs → Lies p →
-      Each Lies (namesIn second place p rs)
+  lie-in : (second : Bool) (place : ℕ) (p : Named) (rs : List Record) → place ≤ length (cond second b a) → recordsOf (drop place (cond second b a)) ≡ some rs → Lies a b p →
+      Each (Lies a b) (namesIn second place p rs)
   unfolding namesIn
   lie-in second place p [] l e h = tt
   lie-in second place p (r ∷ rs) l e h =
-      each-append Lies (cond (storedKind (r .kind)) (p ∷ []) []) _ (this (storedKind (r .kind)))
+      each-append (Lies a b) (cond (storedKind (r .kind)) (p ∷ []) []) _ (this (storedKind (r .kind)))
       (lie-in second (place + 6 + length (r .body)) (cond (eqb (r .kind) 1) name p) rs fits behind (under (eqb (r .kind) 1)))
     where
       book : List ℕ
@@ -284,38 +287,38 @@ module _ (a b : List ℕ) where
           let q : place + 6 + length (r .body) ≡ place + (6 + length (r .body)) = omega arith in
           ap (λ (k : ℕ). recordsOf (drop k book)) q ∙ ap recordsOf (sym (drop-drop (6 + length (r .body)) place book)) ∙ cut .1
 
-      under : (t : Bool) → Lies (cond t name p)
+      under : (t : Bool) → Lies a b (cond t name p)
       under true = fits
       under false = h
 
-      this : (t : Bool) → Each Lies (cond t (p ∷ []) [])
+      this : (t : Bool) → Each (Lies a b) (cond t (p ∷ []) [])
       this true = (h, tt)
       this false = tt
 
-  lie-of : (second : Bool) → Each Lies (namesOf second (recordsOf (cond second b a)))
+  lie-of : (second : Bool) → Each (Lies a b) (namesOf second (recordsOf (cond second b a)))
   unfolding namesOf
   lie-of second = at (recordsOf (cond second b a)) refl
     where
-      at : (o : Option (List Record)) → recordsOf (cond second b a) ≡ o → Each Lies (namesOf second o)
+      at : (o : Option (List Record)) → recordsOf (cond second b a) ≡ o → Each (Lies a b) (namesOf second o)
       at none e = tt
       at (some rs) e = lie-in second 0 (record { second = second; at = 0; len = 0 }) rs (omega arith) e (omega arith)
 
-  pub parts-lie : Each Lies (nameParts false (a ∷ b ∷ []))
+  pub parts-lie : Each (Lies a b) (nameParts false (a ∷ b ∷ []))
   unfolding nameParts
   parts-lie =
-      each-append Lies (namesOf false (recordsOf a)) (namesOf true (recordsOf b) ++ []) (lie-of false)
-      (each-append Lies (namesOf true (recordsOf b)) [] (lie-of true) tt)
+      each-append (Lies a b) (namesOf false (recordsOf a)) (namesOf true (recordsOf b) ++ []) (lie-of false)
+      (each-append (Lies a b) (namesOf true (recordsOf b)) [] (lie-of true) tt)
 
-  lie-at : (l : List Named) (k : ℕ) → Each Lies l → Lies (getD l k noPart)
+  lie-at : (l : List Named) (k : ℕ) → Each (Lies a b) l → Lies a b (getD l k noPart)
   lie-at [] k h = omega arith
   lie-at (p ∷ l) zero h = h .0
   lie-at (p ∷ l) (suc k) h = lie-at l k (h .1)
 
   -- so does the part of any text, and of none
-  pub part-lies : (w : Stored) → Lies (namePart (nameParts false (a ∷ b ∷ [])) w)
+  pub part-lies : (w : Stored) → Lies a b (namePart (nameParts false (a ∷ b ∷ [])) w)
   unfolding namePart
   part-lies w = by (eqb (w .kind) 0)
     where
-      by : (q : Bool) → Lies (cond q noPart (getD (nameParts false (a ∷ b ∷ [])) (w .number) noPart))
+      by : (q : Bool) → Lies a b (cond q noPart (getD (nameParts false (a ∷ b ∷ [])) (w .number) noPart))
       by true = omega arith
       by false = lie-at (nameParts false (a ∷ b ∷ [])) (w .number) parts-lie

@@ -15,7 +15,6 @@ use Rattle.rules.specs.Sizes.{bookMost, storedMost, totalMost, nameMost}
 use Rattle.rules.specs.Bytes.{within, rises}
 use Rattle.rules.specs.Prefix.{Counted}
 use Rattle.rules.specs.Search.{Stored, noText}
-use Rattle.rules.specs.Book
 use Rattle.rules.specs.Book.{number, Front, front, recordForm, Record, recordsOf, At, placed, recordAt, entriesOf, sum, soundEntries, soundTable, soundName, storedKind, soundBody, follows, soundRecords, tableIn, storedIn, storedOf, storedFrom, stored, filled, sound}
 use Rattle.rules.proofs.BoolLaws.{and-left, and-right, and-not}
 use Rattle.rules.proofs.Steps.{front-cut}

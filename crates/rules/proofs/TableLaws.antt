@@ -3,7 +3,7 @@
 -- Assumes nothing.
 use mathlib.Core.Path.{_≡_, refl, sym, ap, ap₂, _∙_}
 use mathlib.Core.Logic.{_↔_, _≢_, inl, inr}
-use Prim.Native.Nat.{ℕ, _+_, _*_, _≤_, _<_, min, Ordering, Ordering·lt, Ordering·eq, Ordering·gt}
+use Prim.Native.Nat.{ℕ, _+_, _*_, _^_, _≤_, _<_, min, Ordering, Ordering·lt, Ordering·eq, Ordering·gt}
 use native.Mathlib.Nat.{zero-add, add-comm, min-comm, eq-zero-or-pos}
 use native.Mathlib.Omega.{arith}
 use mathlib.Core.Bool.{Bool, true, false, _&&_, cond}
@@ -14,26 +14,16 @@ use borrow.Author.Tests.{ltb-true}
 use Rattle.rules.specs.Sizes.{totalMost}
 use Rattle.rules.specs.Bytes.{order, same, rises, split}
 use Rattle.rules.specs.Prefix.{Counted}
-use Rattle.rules.specs.Table.{Table, tally, tallied, tableOf, countIn, meet, nought, one, score, valueOf}
-use Rattle.rules.specs.Book.{sum, twoTerms, soundEntries}
+use Rattle.rules.specs.Table.{Table, tally, tallied, occurs, tableOf, countIn, meet, nought, one, score, valueOf, Close}
+use Rattle.rules.specs.Book.{sum, Above, Rising, Proper, twoTerms, soundEntries}
 use Rattle.rules.specs.Search.{Stored}
 use Rattle.rules.specs.Refusal.{unit}
 use Rattle.rules.proofs.BoolLaws.{and-left, and-right}
 use Rattle.rules.proofs.SoundLaws.{StoredSound}
 use Rattle.rules.proofs.OrderLaws.{flip, order-eq, order-flip, order-trans, rises-is, same-by}
-use Rattle.rules.proofs.ScoreRound.{Close}
 use Rattle.rules.proofs.ScoreLaws.{ScoreFacts, score-facts}
 
 -- ---- counts from 1, strictly rising by bytes
--- the first entry stands above g
-abbrev pub Above : List ℕ → List Counted → Type 0
-Above g [] = Unit {0}
-Above g (e ∷ es) = rises g (e .bytes) ≡ true
-
-abbrev pub Rising : List Counted → Type 0
-Rising [] = Unit {0}
-Rising (e ∷ es) = (0 < e .count) × Above (e .bytes) es × Rising es
-
 pub above-trans : (g h : List ℕ) (es : List Counted) → order g h ≡ Ordering·lt → Above h es → Above g es
 above-trans g h [] l a = tt
 above-trans g h (e ∷ es) l a = rises-is g (e .bytes) .1 (order-trans g h (e .bytes) l (rises-is h (e .bytes) .0 a))
@@ -98,11 +88,6 @@ tally-count g h (e ∷ es) = rw (tally-cons g e es) (go (order g (e .bytes)) ref
     go Ordering·lt q ih = refl
     go Ordering·eq q ih = rw (← order-eq g (e .bytes) .0 q) (more (same g h) (e .count) (countIn es h))
     go Ordering·gt q ih = omega arith
-
--- how often g stands in gs
-unfoldable pub occurs : List ℕ → List (List ℕ) → ℕ
-occurs g [] = 0
-occurs g (h ∷ gs) = cond (same h g) 1 0 + occurs g gs
 
 pub tallied-count : (g : List ℕ) (gs : List (List ℕ)) → countIn (tallied gs) g ≡ occurs g gs
 unfolding tallied countIn occurs
@@ -282,11 +267,6 @@ module _ (es fs : List Counted) (r : Rising es) (s : Rising fs) where
           meet-full .0 (omega (arith, meet-self es r, meet-self fs s, meet-symmetric))
 
 -- ---- tables whose total is the sum of their counts
-pub record Proper (a : Table) : Type 0 where
-  pub rising : Rising (a .entries)
-  pub summed : a .total ≡ sum (a .entries)
-  pub limited : a .total ≤ totalMost
-
 pub table-proper : (gs : List (List ℕ)) → length gs ≤ totalMost → Proper (tableOf gs)
 unfolding tableOf
 table-proper gs h = record { rising = tallied-rising gs; summed = sym (tallied-sum gs); limited = h }
@@ -339,3 +319,8 @@ module _ (a b : Table) (p : Proper a) (q : Proper b) where
 
   pub value-unit : T (unit (valueOf a b .score))
   value-unit = facts .in-unit
+
+  -- t is 2 ^ 24 at most, so exact; of a scoring it is less (`scoring-t` of GrowthLaws)
+  pub value-t : valueOf a b .t ≤ 2 ^ 24
+  unfolding valueOf
+  value-t = omega (arith, p .limited, q .limited)

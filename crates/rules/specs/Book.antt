@@ -1,6 +1,7 @@
 -- The book: its records, when it is sound, its stored texts; and the table body that compile writes.
 -- Assumes nothing.
-use Prim.Native.Nat.{ℕ, zero, suc, _+_, _*_, _/_, _%_}
+use mathlib.Core.Path.{_≡_}
+use Prim.Native.Nat.{ℕ, zero, suc, _+_, _*_, _/_, _%_, _≤_, _<_}
 use mathlib.Core.Bool.{Bool, true, false, not, _&&_, _||_, cond}
 use mathlib.Core.List.{List, [], _∷_, _++_}
 use mathlib.Core.Option.{Option, none, some}
@@ -109,6 +110,21 @@ entriesOf body = pieces entryForm entryOf (drop 8 body)
 unfoldable pub sum : List Counted → ℕ
 sum [] = 0
 sum (e ∷ es) = e .count + sum es
+
+-- counts from 1, strictly rising by bytes: the first entry stands above g, and each above the one before
+abbrev pub Above : List ℕ → List Counted → Type 0
+Above g [] = Unit {0}
+Above g (e ∷ es) = rises g (e .bytes) ≡ true
+
+abbrev pub Rising : List Counted → Type 0
+Rising [] = Unit {0}
+Rising (e ∷ es) = (0 < e .count) × Above (e .bytes) es × Rising es
+
+-- a text's table and a sound book's: rising, its total is the sum of its counts, which is limited
+pub record Proper (a : Table) : Type 0 where
+  pub rising : Rising (a .entries)
+  pub summed : a .total ≡ sum (a .entries)
+  pub limited : a .total ≤ totalMost
 
 -- a non-empty run of a-z, 0-9, `_`
 unfoldable pub term : List ℕ → Bool
@@ -224,6 +240,15 @@ nameParts second (b ∷ bs) = namesOf second (recordsOf b) ++ nameParts true bs
 -- the bytes of a part, of the first book or of the second
 abbrev pub partIn : List ℕ → List ℕ → Named → List ℕ
 partIn first second p = take (p .len) (drop (p .at) (cond (p .second) second first))
+
+-- it lies in that book
+abbrev pub Lies : List ℕ → List ℕ → Named → Type 0
+Lies first second p = p .at + p .len ≤ length (cond (p .second) second first)
+
+-- lent books that have the texts of `a` and then of `b`, and their names where these stand
+pub record ReadAs (a b : List ℕ) (bs : List (List ℕ)) : Type 0 where
+  pub texts : shelved 0 bs ≡ shelved 0 (a ∷ b ∷ [])
+  pub names : nameParts false bs ≡ nameParts false (a ∷ b ∷ [])
 
 -- ---- compile: the table body of a text
 unfoldable pub entriesOut : List Counted → List ℕ

@@ -1,6 +1,6 @@
 -- Bytes, and the list functions that the passes are made of. A text is the list of its bytes, a line too.
 -- Assumes nothing.
-use Prim.Native.Nat.{ℕ, suc, _+_, compare, Ordering, Ordering·lt, Ordering·eq, Ordering·gt}
+use Prim.Native.Nat.{ℕ, suc, compare, Ordering, Ordering·lt, Ordering·eq, Ordering·gt}
 use Prim.Native.Char.{code}
 use Prim.Native.String.{String}
 use Prim.Native.String

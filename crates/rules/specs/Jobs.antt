@@ -1,7 +1,7 @@
 -- The public jobs: for every input the answer, and what each lent area holds after it. A refusal's answer is its number, all else zero.
 -- Assumes nothing.
 use mathlib.Core.Path.{_≡_}
-use Prim.Native.Nat.{ℕ, _+_}
+use Prim.Native.Nat.{ℕ}
 use mathlib.Core.Bool.{false, _||_, cond}
 use mathlib.Core.List.{List, [], _++_}
 use lib.Dec.{eqb}
@@ -16,7 +16,7 @@ use Rattle.rules.specs.declared.Bounded.{Bounded}
 use Rattle.rules.specs.declared.Scanned.{Scanned}
 use Rattle.rules.specs.Sizes.{nameMost}
 use Rattle.rules.specs.Lines.{lines}
-use Rattle.rules.specs.Table.{nought, one}
+use Rattle.rules.specs.Table.{nought}
 use Rattle.rules.specs.Search.{View, Stored, noText, Best, scoreView, bounds}
 use Rattle.rules.specs.Scan.{Event, events, afford, scorings, records, verdict, names, numbers}
 use Rattle.rules.specs.Book.{stored, shelved, nameParts, noPart, compiled}

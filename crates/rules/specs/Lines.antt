@@ -1,6 +1,6 @@
 -- Line passes, on each piece between newline bytes.
 -- Assumes nothing.
-use Prim.Native.Nat.{ℕ}
+use Prim.Native.Nat.{ℕ, suc, _+_}
 use mathlib.Core.Bool.{Bool, false, not, _&&_, _||_, cond}
 use mathlib.Core.List.{List, [], _∷_, _++_, map}
 use lib.ListN.{length, drop}
@@ -49,3 +49,8 @@ lines t = map line (split 10 t)
 -- L
 unfoldable pub lineCount : List ℕ → ℕ
 lineCount t = length (split 10 t)
+
+-- how many bytes lines take, with a newline each
+unfoldable pub size : List (List ℕ) → ℕ
+size [] = 0
+size (l ∷ ls) = suc (length l) + size ls

@@ -1,12 +1,13 @@
--- Bigrams, tables of them, and the score.
+-- Bigrams, tables of them, the score, and how far it lies from the fraction.
 -- Assumes nothing.
-use Prim.Native.Nat.{ℕ, _+_, _*_, min, Ordering·lt, Ordering·eq, Ordering·gt}
+use Prim.Native.Nat.{ℕ, _+_, _*_, _/_, _^_, _≤_, min, Ordering·lt, Ordering·eq, Ordering·gt}
 use mathlib.Core.Bool.{false, _||_, cond}
 use mathlib.Core.List.{List, [], _∷_, _++_}
 use lib.Dec.{eqb}
 use lib.ListN.{length}
 use lib.IntN.{pos}
-use lib.Ieee.{Float, fin, binary32, div, ofInt}
+use lib.Ieee.{Float, nan, inf, fin, up, down, binary32, div, ofInt}
+use lib.Ieee.Exact.{HasValue}
 pub use Rattle.rules.specs.declared.Value.{Value}
 use Rattle.rules.specs.Bytes.{order, same, split}
 use Rattle.rules.specs.Prefix.{Counted}
@@ -40,6 +41,11 @@ tally g (e ∷ es) =
 unfoldable pub tallied : List (List ℕ) → List Counted
 tallied [] = []
 tallied (g ∷ gs) = tally g (tallied gs)
+
+-- how often g stands in gs
+unfoldable pub occurs : List ℕ → List (List ℕ) → ℕ
+occurs g [] = 0
+occurs g (h ∷ gs) = cond (same h g) 1 0 + occurs g gs
 
 unfoldable pub tableOf : List (List ℕ) → Table
 tableOf gs = record { total = length gs; entries = tallied gs }
@@ -77,3 +83,16 @@ unfoldable pub valueOf : Table → Table → Value
 valueOf a b =
     let shared = meet (a .entries) (b .entries) in
     record { score = score shared (a .total) (b .total); m = shared; t = a .total + b .total }
+
+-- ---- how far a score may lie from the fraction
+-- the size of x times 2 ^ k, rounded down
+abbrev pub times : ℕ → Float → ℕ
+times k nan = 0
+times k (inf s) = 0
+times k (fin s m e) = m * up e * 2 ^ k / down e
+
+-- S is r times 2 ^ 46 with nothing cut off, and |S t - 2 m 2 ^ 46| is at most t 2 ^ 21
+pub record Close (m t : ℕ) (r : Float) : Type 0 where
+  pub exact : HasValue r false (times 46 r) (2 ^ 46)
+  pub at-most : times 46 r * t ≤ 2 * m * 2 ^ 46 + t * 2 ^ 21
+  pub at-least : 2 * m * 2 ^ 46 ≤ times 46 r * t + t * 2 ^ 21

@@ -18,7 +18,7 @@ use borrow.Author.Tests.{leb-true, leb-false, lt-ltb, le-ltb, ne-eqb}
 use Rattle.rules.specs.declared.Limits.{Limits}
 use Rattle.rules.specs.declared.Mode.{Mode}
 use Rattle.rules.specs.declared.Scanned.{Scanned}
-use Rattle.rules.specs.Book.{shelved, nameParts, noPart}
+use Rattle.rules.specs.Book.{shelved, nameParts, noPart, ReadAs}
 use Rattle.rules.specs.Sizes.{nameMost}
 use Rattle.rules.specs.Lines.{lines}
 use Rattle.rules.specs.Table.{nought}
@@ -30,7 +30,6 @@ use Rattle.rules.specs.Refusal.{refusal, ofScan, beforeScan, resultsNeed, Areas
 use Rattle.rules.specs.Jobs.{over, lent, named, namePart, answered, happened, scan, resultsAfter, areaAfter, ScanDone}
 use Rattle.rules.proofs.BudgetLaws.{afford-count}
 use Rattle.rules.proofs.RefusalLaws.{lines-count, scan-before, scan-then, scan-happened}
-use Rattle.rules.proofs.NameLaws.{ReadAs}
 use Rattle.rules.proofs.ScanCountLaws.{results-fit, numbers-length}
 use Rattle.detection_texts.specs.Texts.{part}
 use Rattle.detect.specs.declared.Best.{Best}

@@ -1,35 +1,50 @@
 -- Demand 3 at the face: what a caller concludes from `ScanDone`, the contract of the job `scan`, alone.
+--     answer-all                        where 0 is answered, the answer is the full scan's,
+--     count-all, results-all            so the count is the length of its list of scorings, and the results are its records
 --     count-exact                       the count is the number of scorings that the budget pays of the definition's list
---     elimination-most, topDown-most    the two limits on the count
+--     elimination-most, topDown-most    the two limits on the count, whatever is refused
+--     count-fits                        the count is below 2^64, of one or two books and passes of 16 bits, whatever the budget
 --     over-budget, only-over            12 comes exactly where nothing is refused before any work and the list is longer than the budget
 --     over-counts                       the count is then the budget
---     recorded-stays                    the records that it has written are the first of the full scan's
+--     recorded-stays, recorded-first    the records that it has written are the first of the full scan's
+--     t-below                           t of every scoring that a scan may make is below 2^24, so exact
 --     part-lies, part-named, part-length   the name's part lies in the book that it names, its bytes are the name, and as many
 --     part-handed                       `name_part` of the answer hands back the part that the definition gives
 -- Assumes nothing.
-use mathlib.Core.Path.{_≡_, sym, ap, _∙_, subst}
-use mathlib.Core.Bool.{Bool}
+use mathlib.Core.Path.{_≡_, refl, sym, ap, _∙_, subst}
+use mathlib.Core.Bool.{Bool, true, false, not, _&&_}
 use mathlib.Core.List.{List}
-use Prim.Native.Nat.{ℕ, _≤_, _<_, min}
+use Prim.Native.Nat.{ℕ, _-_, _*_, _^_, _≤_, _<_, min}
 use native.Mathlib.Omega.{arith}
-use lib.ListN.{length, take}
+use lib.Dec.{ltb, eqb}
+use lib.ListN.{length, getD, take}
+use borrow.Author.Tests.{ltb-false, not-false}
 use Rattle.rules.specs.declared.Limits.{Limits}
 use Rattle.rules.specs.declared.Mode.{Mode}
 use Rattle.rules.specs.declared.Mode.the-variants.{Elimination, TopDown}
 use Rattle.rules.specs.declared.Scanned.{Scanned}
-use Rattle.rules.specs.Lines.{lines, lineCount}
-use Rattle.rules.specs.Scan.{Event, events, afford, scorings, records, numbers}
-use Rattle.rules.specs.Book.{shelved, partIn}
+use Rattle.rules.specs.Sizes.{textMost, linesMost, storedMost}
+use Rattle.rules.specs.Bytes.{every}
+use Rattle.rules.specs.Lines.{lines, lineCount, size}
+use Rattle.rules.specs.declared.View.{View}
+use Rattle.rules.specs.Search.{noText, scoreView}
+use Rattle.rules.specs.Scan.{Event, events, afford, Begins, scorings, records, numbers}
+use Rattle.rules.specs.Book.{allSound, shelved, nameParts, partIn, Lies, ReadAs}
 use Rattle.rules.specs.Count.{mostElimination, mostTopDown}
-use Rattle.rules.specs.Refusal.{refusal, beforeScan, ofScan}
+use Rattle.rules.specs.Refusal.{refusal, ofText, ofBooks, unit, stepZero, beforeScan, ofScan}
 use Rattle.rules.specs.Jobs.{lent, over, answered, scan, resultsAfter, ScanDone}
-use Rattle.rules.proofs.ShelfLaws.{Lies}
-use Rattle.rules.proofs.NameLaws.{ReadAs, answer-lies, answer-named, answer-length}
+use Rattle.rules.proofs.DownLaws.{each-at}
+use Rattle.rules.proofs.SoundLaws.{StoredSound}
+use Rattle.rules.proofs.ShelfLaws.{shelved-sound, shelved-most}
+use Rattle.rules.proofs.GrowthLaws.{scoring-t}
+use Rattle.rules.proofs.NameLaws.{answer-lies, answer-named, answer-length}
+use Rattle.rules.proofs.BudgetLaws.{afford-all, records-begins}
+use Rattle.rules.proofs.RefusalLaws.{lines-count, scan-over, scan-only, scan-zero, scan-count, scan-within, scan-happened}
+use Rattle.rules.proofs.ScanCountLaws.{elimination-count, topDown-count, elimination-fits, topDown-fits}
 use Rattle.detection_shelf.specs.Shelves.{fitting}
 use Rattle.detection_shelf.proofs.ShelfLaws.{part-fits}
-use Rattle.rules.proofs.BudgetLaws.{Begins, records-begins}
-use Rattle.rules.proofs.RefusalLaws.{lines-count, scan-over, scan-only, scan-count, scan-happened}
-use Rattle.rules.proofs.ScanCountLaws.{elimination-count, topDown-count}
+use Rattle.refusals.proofs.AdmitLaws.{row-passes}
+use Rattle.scan_job.proofs.ModeLaws.{step-above}
 
 module _ {t : List ℕ} {bs : List (List ℕ)} {lim : Limits} {mode : Mode} {budget : ℕ} {b₀ b w₀ w r₀ r : List ℕ} {a : Scanned}
     (d : ScanDone t bs lim mode budget b₀ b w₀ w r₀ r a) where
@@ -66,21 +81,97 @@ module _ {t : List ℕ} {bs : List (List ℕ)} {lim : Limits} {mode : Mode} {bud
   pub recorded-first : Begins (records (afford budget full)) (records full)
   recorded-first = records-begins budget full
 
+  -- ---- where 0 is answered
+  pub only-paid : a .refusal ≡ 0 → (before ≡ 0) × (length (scorings full) ≤ budget)
+  only-paid e = scan-zero t bs lim mode (lent b₀ w₀) (length r₀) budget (sym number ∙ e)
+
+  pub answer-all : a .refusal ≡ 0 → a ≡ answered 0 lim (nameParts false bs) full
+  unfolding scan
+  answer-all e =
+      let o = only-paid e in
+      let n = sym number ∙ e in
+      let es = scan-happened t bs lim mode (lent b₀ w₀) (length r₀) budget (o .0) ∙ afford-all budget full (o .1) in
+      d .answer ∙ (λ i. answered (n i) lim (nameParts false bs) (es i))
+
+  pub count-all : a .refusal ≡ 0 → a .count ≡ length (scorings full)
+  unfolding answered
+  count-all e = ap (λ (x : Scanned). x .count) (answer-all e)
+
+  pub results-all : a .refusal ≡ 0 → r ≡ over (numbers (records full)) r₀
+  results-all e =
+      let o = only-paid e in
+      recorded-stays (o .0) ∙ ap (λ (es : List Event). over (numbers (records es)) r₀) (afford-all budget full (o .1))
+
+  -- ---- what is not refused before any work
+  record Passed : Type 0 where
+    short : length t ≤ textMost
+    few : lineCount t ≤ linesMost
+    sound : allSound bs ≡ true
+    step : stepZero mode ≡ false
+
+  passed : before ≡ 0 → Passed
+  unfolding beforeScan ofText ofBooks
+  passed z =
+      let one = row-passes 0 (ltb textMost (length t)) _ z in
+      let two = row-passes 1 (not (every (λ x. ltb x 128) t)) _ (one .1) in
+      let three = row-passes 2 (ltb linesMost (lineCount t)) _ (two .1) in
+      let four = row-passes 3 (not (allSound bs)) _ (three .1) in
+      let five = row-passes 4 (eqb (length (shelved 0 bs)) 0) _ (four .1) in
+      let six = row-passes 5 (not (unit (lim .threshold) && unit (lim .shallow))) _ (five .1) in
+      let seven = row-passes 6 (stepZero mode) _ (six .1) in
+      record { short = ltb-false _ _ (one .0); few = ltb-false _ _ (three .0); sound = not-false _ (four .0); step = seven .0 }
+
+  -- a limit on the list of what is not refused
+  counted-within : (m : ℕ) → (before ≡ 0 → length (scorings full) ≤ m) → a .count ≤ m
+  counted-within m h =
+      omega (arith, ap (λ (x : Scanned). x .count) (d .answer), scan-within t bs lim mode (lent b₀ w₀) (length r₀) budget m h)
+
+  few-texts : before ≡ 0 → length bs ≤ 2 → length (shelved 0 bs) ≤ 2 * storedMost
+  few-texts z l = omega (arith, shelved-most 0 bs (passed z .sound), l)
+
+  few-lines : before ≡ 0 → length (lines t) ≤ linesMost
+  few-lines z = omega (arith, lines-count t, passed z .few)
+
+  -- of any view, over the note's lines or what blanking leaves of them, against any stored text
+  pub t-below : before ≡ 0 → (ls : List (List ℕ)) → size ls ≤ size (lines t) → (v : View) (k : ℕ) → k < length (shelved 0 bs) →
+      scoreView ls (getD (shelved 0 bs) k noText) v .value .t < 2 ^ 24
+  t-below z ls l v k h =
+      let p = passed z in
+      scoring-t t ls v (getD (shelved 0 bs) k noText) (p .short) l (each-at StoredSound (shelved 0 bs) k noText h (shelved-sound 0 bs (p .sound)))
+
 -- ---- the two limits
 module _ {t : List ℕ} {bs : List (List ℕ)} {lim : Limits} {budget : ℕ} {b₀ b w₀ w r₀ r : List ℕ} {a : Scanned} where
   pub elimination-most : (optimize : Bool) (p : ℕ) (d : ScanDone t bs lim (Elimination optimize p) budget b₀ b w₀ w r₀ r a) →
-      refusal (beforeScan t bs lim (Elimination optimize p) (lent b₀ w₀) (length r₀)) ≡ 0 →
       a .count ≤ mostElimination (length (shelved 0 bs)) p (lineCount t)
   unfolding events
-  elimination-most optimize p d z =
-      omega (arith, count-exact d z, elimination-count lim optimize p (shelved 0 bs) (lines t), ap (mostElimination (length (shelved 0 bs)) p) (lines-count t))
+  elimination-most optimize p d =
+      counted-within d (mostElimination (length (shelved 0 bs)) p (lineCount t))
+      (λ z. omega (arith, elimination-count lim optimize p (shelved 0 bs) (lines t), ap (mostElimination (length (shelved 0 bs)) p) (lines-count t)))
 
-  pub topDown-most : (s : ℕ) → 0 < s → (d : ScanDone t bs lim (TopDown s) budget b₀ b w₀ w r₀ r a) →
-      refusal (beforeScan t bs lim (TopDown s) (lent b₀ w₀) (length r₀)) ≡ 0 →
-      a .count ≤ mostTopDown (length (shelved 0 bs)) s (lineCount t)
+  pub topDown-most : (s : ℕ) (d : ScanDone t bs lim (TopDown s) budget b₀ b w₀ w r₀ r a) → a .count ≤ mostTopDown (length (shelved 0 bs)) s (lineCount t)
   unfolding events
-  topDown-most s p d z =
-      omega (arith, count-exact d z, topDown-count lim s (shelved 0 bs) (lines t) p, ap (mostTopDown (length (shelved 0 bs)) s) (lines-count t))
+  topDown-most s d =
+      counted-within d (mostTopDown (length (shelved 0 bs)) s (lineCount t))
+      (λ z. omega (arith, topDown-count lim s (shelved 0 bs) (lines t) (step-above (TopDown s) s refl (passed d z .step)), ap (mostTopDown (length (shelved 0 bs)) s) (lines-count t)))
+
+  -- below 2^64 whatever the budget, for the lent books are one or two and the passes a u16
+  pub count-fits : (mode : Mode) (d : ScanDone t bs lim mode budget b₀ b w₀ w r₀ r a) → length bs ≤ 2 →
+      ((optimize : Bool) (p : ℕ) → mode ≡ Elimination optimize p → p < 65_536) → a .count < 2 ^ 64
+  unfolding events
+  count-fits (Elimination optimize p) d l k =
+      let h : before d ≡ 0 → length (scorings (full d)) ≤ 2 ^ 64 - 1 = λ z. omega (
+        arith,
+        elimination-count lim optimize p (shelved 0 bs) (lines t),
+        elimination-fits (length (shelved 0 bs)) p (length (lines t)) (few-texts d z l) (k optimize p refl) (few-lines d z),
+      ) in
+      omega (arith, counted-within d (2 ^ 64 - 1) h)
+  count-fits (TopDown s) d l k =
+      let h : before d ≡ 0 → length (scorings (full d)) ≤ 2 ^ 64 - 1 = λ z. omega (
+        arith,
+        topDown-count lim s (shelved 0 bs) (lines t) (step-above (TopDown s) s refl (passed d z .step)),
+        topDown-fits (length (shelved 0 bs)) s (length (lines t)) (few-texts d z l) (few-lines d z),
+      ) in
+      omega (arith, counted-within d (2 ^ 64 - 1) h)
 
 -- ---- the name as a part of a lent book: of `first`, or of `second`, which has no bytes where one book is lent (`read-one`, `read-two`)
 module _ {t first second : List ℕ} {bs : List (List ℕ)} {lim : Limits} {mode : Mode} {budget : ℕ} {b₀ b w₀ w r₀ r : List ℕ} {a : Scanned}

@@ -23,10 +23,12 @@ use Rattle.rules.specs.Search.{Made, Stored, noText, Span, width, low, high, hi
 use Rattle.rules.specs.Refusal.{unit}
 use Rattle.rules.proofs.BoolLaws.{cond-of}
 use Rattle.rules.proofs.Steps.{search-near, search-far}
-use Rattle.rules.proofs.GrowthLaws.{size, bigrams-length, aggressive-length, viewed-size}
+use Rattle.rules.specs.Lines.{size}
+use Rattle.rules.proofs.GrowthLaws.{bigrams-length, aggressive-length, viewed-size}
 use Rattle.rules.proofs.SoundLaws.{StoredSound}
 use Rattle.rules.proofs.DownLaws.{each-at}
-use Rattle.rules.proofs.TableLaws.{Proper, table-proper, stored-proper, value-unit}
+use Rattle.rules.specs.Book.{Proper}
+use Rattle.rules.proofs.TableLaws.{table-proper, stored-proper, value-unit}
 use Rattle.detection_shelf.specs.declared.Shelved.{Shelved}
 use Rattle.detection_shelf.specs.declared.Counts.{Counts}
 use Rattle.detection_shelf.proofs.ShelfLaws.{stands-text, stands-inside, counted-sound}

@@ -8,7 +8,8 @@ use native.Mathlib.Omega.{arith}
 use lib.Dec.{ltb, eqb, lit<, lit≤}
 use lib.ListN.{getD, List·getD-eq-default}
 use borrow.Author.Tests.{ltb-true, ltb-false, le-leb, lt-leb, eqb-true, ne-eqb}
-use Rattle.lists.proofs.TableLaws.{tab, tab-at, tab-length}
+use Rattle.lists.specs.Tables.{tab}
+use Rattle.lists.proofs.TableLaws.{tab-at, tab-length}
 use Rattle.rules.specs.Bytes.{text, within, among, newline, space, upper, lower, digit, word, dropped, every}
 use Rattle.rules.specs.Lines.{gap}
 use Rattle.rules.specs.Class.{classOf}

@@ -4,7 +4,7 @@ use Prim.Native.Nat.{ℕ}
 use mathlib.Core.Bool.{Bool}
 use mathlib.Core.List.{List}
 use lib.ListN.{getD}
-use Rattle.lists.proofs.TableLaws.{tab}
+use Rattle.lists.specs.Tables.{tab}
 use Rattle.rules.specs.Bytes.{within}
 use Rattle.rules.specs.Class.{classOf}
 

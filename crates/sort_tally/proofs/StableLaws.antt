@@ -13,9 +13,10 @@ use lib.Dec.{ltb, leb, eqb}
 use lib.ListN.{length, take, drop, getD}
 use borrow.Author.Tests.{ltb-true, ltb-false, le-ltb, leb-false, lt-leb, eqb-true, eq-eqb}
 use Rattle.rules.specs.Bytes.{order, same}
-use Rattle.rules.specs.Table.{countIn}
+use Rattle.rules.specs.Table.{countIn, occurs}
 use Rattle.rules.proofs.OrderLaws.{order-trans, rises-is, same-by}
-use Rattle.rules.proofs.TableLaws.{Above, Rising, count-none, occurs}
+use Rattle.rules.specs.Book.{Above, Rising}
+use Rattle.rules.proofs.TableLaws.{count-none}
 use Rattle.rules.proofs.PrefixLaws.{same-self}
 use Rattle.sort_spread.specs.Sort.{partLater, rightNext, merged, msorted, countOf, Leads, InOrder}
 use Rattle.sort_tally.specs.Group.{Group, groupsFrom, groups, starts, counts, partsAt}

@@ -12,9 +12,10 @@ use lib.Seq.{length-take-le}
 use borrow.Author.Tests.{eq-eqb, ne-eqb, lt-ltb, le-ltb}
 use Rattle.rules.specs.Bytes.{order, same, rises}
 use Rattle.rules.specs.Prefix.{Counted}
-use Rattle.rules.specs.Table.{tallied, countIn}
+use Rattle.rules.specs.Table.{tallied, countIn, occurs}
 use Rattle.rules.proofs.OrderLaws.{Compared, compared, flip, order-eq, order-flip, rises-is}
-use Rattle.rules.proofs.TableLaws.{Above, Rising, occurs, tallied-count, tallied-rising, entries-exactly}
+use Rattle.rules.specs.Book.{Above, Rising}
+use Rattle.rules.proofs.TableLaws.{tallied-count, tallied-rising, entries-exactly}
 use Rattle.sort_spread.specs.Sort.{partOf, lexLater, partLater, msorted, countOf, Leads, InOrder}
 use Rattle.sort_spread.specs.Spread.{Shuffled}
 use Rattle.sort_tally.specs.Group.{Group, groupsFrom, groups, starts, counts, Grouped, entriesFrom, entriesAt, partsAt}

@@ -11,7 +11,7 @@ use lib.Seq.{slice, length-take-le}
 use Rattle.rules.specs.declared.View.{View}
 use Rattle.lists.proofs.SliceLaws.{slice-first}
 use Rattle.rules.specs.Prefix.{prefixes, strip, withoutPrefix}
-use Rattle.rules.proofs.TableLaws.{occurs}
+use Rattle.rules.specs.Table.{occurs}
 use Rattle.rules.specs.Search.{viewed}
 use Rattle.rules.proofs.PrefixLaws.{without-none}
 use Rattle.preproc_table.specs.Entries.{linesFrom, linesAt}

@@ -8,7 +8,7 @@ use denote.Ref.{now}
 use lib.ListN.{length, take, drop}
 use lib.Seq.{slice}
 use Rattle.lists.proofs.SliceLaws.{part-slice}
-use Rattle.rules.proofs.TableLaws.{occurs}
+use Rattle.rules.specs.Table.{occurs}
 use Rattle.rules.proofs.PrefixLaws.{same-true}
 use Rattle.slices.specs.declared.ends.Span.{Span}
 use Rattle.prefix_list.specs.Listing.{Home}
