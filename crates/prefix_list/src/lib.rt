@@ -15,6 +15,8 @@ ghost use Rattle.rules.specs.Sizes.{textMost, byteArea, wordArea};
 use preproc_table::line_end;
 use preproc_table::line_start;
 use rules::View;
+use slices::class::SPACE_HIGH;
+use slices::class::SPACE_LOW;
 use slices::ends::Span;
 use slices::ends::bare;
 use slices::two::common_len;
@@ -69,7 +71,7 @@ pub fn shared(class: &[u8; 256], area: &[u8], table: &[u32], i: usize) -> Span
     let stop = line_end(table, j);
     let line = &area[start..end];
     let k = common_len(line, &area[next..stop]);
-    let s = bare(class, 5, 7, &line[..k]);
+    let s = bare(class, SPACE_LOW, SPACE_HIGH, &line[..k]);
     Span {
         start: start + s.start,
         end: start + s.end,

@@ -13,7 +13,7 @@ use Rattle.rules.specs.Bytes.{starts, trim, join}
 use Rattle.rules.specs.Prefix.{strip}
 use Rattle.rules.proofs.HitLaws.{starts-length}
 use Rattle.slices.specs.declared.ends.Span.{Span}
-use Rattle.slices.specs.Classes.{inClass, classTable}
+use Rattle.slices.specs.Classes.{classTable, spaceIn}
 use Rattle.slices.specs.Ends.{Bare}
 use Rattle.slices.proofs.EndLaws.{bare-within, bare-trim}
 use Rattle.slices.proofs.KindLaws.{by-table, space-table}
@@ -101,7 +101,7 @@ module _ (area table : List ℕ) (i : ℕ) (p : Prefix) where
     unfolding left lineAt
     left-plain f k = record { low = omega arith; order = omega arith; high = omega arith; bytes = rw (f, ← u, ← v) }
 
-    module _ (t : List ℕ) (k : ℕ) (s : Span) (q : Past area a e (p .at) (p .len) k) (b : Bare (inClass t 5 7) (take (e - k) (drop k area)) s) where
+    module _ (t : List ℕ) (k : ℕ) (s : Span) (q : Past area a e (p .at) (p .len) k) (b : Bare (spaceIn t) (take (e - k) (drop k area)) s) where
       pub left-within : (s .start ≤ s .end) × (k + s .end ≤ e)
       left-within =
           let w = bare-within b in
@@ -113,7 +113,7 @@ module _ (area table : List ℕ) (i : ℕ) (p : Prefix) where
       left-strip c f =
           let w = left-within in
           let r : slice (k + s .start) (k + s .end) area ≡ trim (take (e - k) (drop k area)) =
-          sym (slice-part (s .start) (s .end) (e - k) k area (omega arith)) ∙ bare-trim b (by-table 5 7 c space-table) in
+          sym (slice-part (s .start) (s .end) (e - k) k area (omega arith)) ∙ bare-trim b (by-table spaceIn c space-table) in
           record {
             low = omega (arith, q .low);
             order = omega arith;

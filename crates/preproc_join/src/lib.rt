@@ -13,6 +13,8 @@ ghost use Rattle.slices.specs.Classes.{classTable};
 ghost use Rattle.preproc_join.specs.Joins.{Past, Left, Puts, Put, Added, Below, Joined, tails, viewLines};
 use preproc_table::line_end;
 use preproc_table::line_start;
+use slices::class::SPACE_HIGH;
+use slices::class::SPACE_LOW;
 use slices::ends::Span;
 use slices::ends::bare;
 use slices::two::starts_with;
@@ -60,7 +62,7 @@ fn line_part(class: &[u8; 256], area: &[u8], table: &[u32], i: usize, p: Prefix)
     let e = line_end(table, i);
     if p.strip {
         let k = past_prefix(area, a, e, p.at, p.len);
-        let s = bare(class, 5, 7, &area[k..e]);
+        let s = bare(class, SPACE_LOW, SPACE_HIGH, &area[k..e]);
         return Span {
             start: k + s.start,
             end: k + s.end,
