@@ -13,6 +13,7 @@ ghost use Rattle.slices.specs.Classes.{spaceIn};
 use slices::class::SPACE_HIGH;
 use slices::class::SPACE_LOW;
 use slices::class::in_class;
+use slices::copy::put;
 use slices::two::starts_with;
 
 // At the place stands a byte that is no space.
@@ -63,19 +64,6 @@ fn goes_on(class: &[u8; 256], inside: bool, b: u8) -> bool
         return !in_class(class, SPACE_LOW, SPACE_HIGH, b);
     }
     false
-}
-
-// All of p, written to dst from w on.
-pub fn put(p: &[u8], dst: &mut [u8], w: usize) -> usize
-    requires { ⌜ w + length (now p) ≤ length (now dst) ⌝ }
-    ensures { λ r. ⌜ (r ≡ w + length (now (p .entry))) × (now (dst .exit) ≡ take w (now (dst .entry)) ++ now (p .entry) ++ drop r (now (dst .entry))) ⌝ }
-{
-    let mut i = 0;
-    while i < p.len() {
-        dst[w + i] = p[i];
-        i += 1;
-    }
-    w + i
 }
 
 // The first n, with each URL made the fixed one, written from `to` on; answers where that ends. Each byte is read once, and at each up to
