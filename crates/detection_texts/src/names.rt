@@ -7,6 +7,7 @@ ghost use lib.ListN.{length, replicate};
 ghost use Rattle.rules.specs.Sizes.{nameMost};
 ghost use Rattle.rules.specs.Jobs.{over};
 ghost use Rattle.detection_texts.specs.Texts.{part};
+use slices::copy::put;
 
 // 64 bytes, zero-filled, and the length.
 pub struct Name {
@@ -19,11 +20,7 @@ fn padded(s: &[u8]) -> [u8; 64]
     ensures { λ r. ⌜ r ≡ over (now (s .entry)) (replicate nameMost 0) ⌝ }
 {
     let mut bytes: [u8; 64] = [0; 64];
-    let mut i: usize = 0;
-    while i < s.len() {
-        bytes[i] = s[i];
-        i += 1;
-    }
+    put(s, &mut bytes, 0);
     bytes
 }
 

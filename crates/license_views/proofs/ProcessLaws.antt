@@ -14,7 +14,7 @@ use Rattle.rules.specs.Lines.{size}
 use Rattle.slices.specs.declared.ends.Span.{Span}
 use Rattle.slices.specs.Classes.{classTable}
 use Rattle.preproc_table.specs.Entries.{linesAt, Apart}
-use Rattle.preproc_table.proofs.EntryLaws.{lines-viewed, lines-kept}
+use Rattle.preproc_table.proofs.EntryLaws.{lines-viewed, lines-kept, lines-below, apart-below}
 use Rattle.prefix_list.specs.Listing.{plainLines}
 use Rattle.prefix_choice.specs.Choice.{Strips}
 use Rattle.prefix_choice.specs.declared.Common.{Common}
@@ -23,7 +23,6 @@ use Rattle.preproc_view.specs.Whole as view
 use Rattle.preproc_view.specs.Whole.{viewAt}
 use Rattle.license_notes.specs.Laid.{Laid, Held}
 use Rattle.license_views.specs.Tabled.{Processed, behind}
-use Rattle.license_views.proofs.ViewLaws.{lines-below, apart-below}
 
 -- areas that agree below hold the same lines
 module _ (n lines : ℕ) (area₀ words₀ area words : List ℕ) (laid : Laid n lines area₀ words₀) (area-long : length area ≡ length area₀)

@@ -1,11 +1,11 @@
 -- A view's table in the areas: what the functions below ask and give, over the lists that the areas hold.
 -- Assumes nothing.
-use mathlib.Core.Path.{_≡_, sym, ap, ap₂, _∙_}
+use mathlib.Core.Path.{_≡_, sym, ap, _∙_}
 use mathlib.Core.List.{List, _++_, append-nil}
 use Prim.Native.Nat.{ℕ, _+_, _-_, _*_, _≤_, _<_}
 use native.Mathlib.Omega.{arith}
-use lib.ListN.{length, getD, take, drop, length-drop, drop-of-length-le}
-use lib.Seq.{slice, drop-at, length-take-le, getD-take}
+use lib.ListN.{length, take, drop, length-drop, drop-of-length-le}
+use lib.Seq.{slice, drop-at, length-take-le}
 use borrow.Rule.Slice.PartMut.{putMid, take-put}
 use Rattle.lists.proofs.SliceLaws.{part-slice, part-rest}
 use Rattle.rules.specs.declared.View.{View}
@@ -13,8 +13,8 @@ use Rattle.rules.specs.Table.{Table, bigrams, tableOf, viewTable}
 use Rattle.rules.specs.Search.{viewed}
 use Rattle.rules.specs.Lines.{size}
 use Rattle.rules.proofs.GrowthLaws.{bigrams-length, aggressive-length, viewed-size}
-use Rattle.preproc_table.specs.Entries.{startAt, endAt, lineAt, linesAt, Apart}
-use Rattle.preproc_table.proofs.EntryLaws.{lines-same}
+use Rattle.preproc_table.specs.Entries.{linesAt}
+use Rattle.preproc_table.proofs.EntryLaws.{lines-below, apart-below}
 use Rattle.ngram_table.specs.Tables.{tableAt}
 use Rattle.license_views.specs.declared.Viewed.{Viewed}
 use Rattle.slices.specs.declared.ends.Span.{Span}
@@ -28,33 +28,6 @@ behind-put a xs ys h =
     drop-at (take a xs) (ys ++ drop (length xs - a) (drop a xs)) a (length-take-le a xs h) ∙
     ap (λ (l : List ℕ). ys ++ l) (drop-of-length-le (drop a xs) {i = length xs - a} (rw length-drop (omega arith))) ∙
     append-nil ys
-
--- entries of the line table are read below it
-entry-same : (k : ℕ) (t t′ : List ℕ) → take k t ≡ take k t′ → (i : ℕ) → i < k → getD t i 0 ≡ getD t′ i 0
-entry-same k t t′ e i h = sym (getD-take k t i 0 h) ∙ ap (λ (l : List ℕ). getD l i 0) e ∙ getD-take k t′ i 0 h
-
-module _ (lines k : ℕ) (fits : 2 * lines ≤ k) (t t′ : List ℕ) (e : take k t ≡ take k t′) where
-  start-same : (i : ℕ) → i < lines → startAt t i ≡ startAt t′ i
-  start-same i h = entry-same k t t′ e (2 * i) (omega arith)
-
-  end-same : (i : ℕ) → i < lines → endAt t i ≡ endAt t′ i
-  end-same i h = entry-same k t t′ e (2 * i + 1) (omega arith)
-
-  pub lines-below : (area : List ℕ) → linesAt area t lines ≡ linesAt area t′ lines
-  unfolding linesAt lineAt
-  lines-below area =
-      lines-same area area t t′ 0 lines (λ j h l.
-      let j< : j < lines = omega arith in
-      ap₂ (λ (a b : ℕ). slice a b area) (start-same j j<) (end-same j j<))
-
-  pub apart-below : (first last : ℕ) → Apart first last t lines → Apart first last t′ lines
-  apart-below first last p =
-      record {
-        low = λ i h. omega (arith, p .low i h, start-same i h);
-        order = λ i h. omega (arith, p .order i h, start-same i h, end-same i h);
-        high = λ i h. omega (arith, p .high i h, end-same i h);
-        apart = λ i j h l. omega (arith, p .apart i j h l, end-same i (omega arith), start-same j l);
-      }
 
 -- ---- the table of a view
 module _ {n lines : ℕ} {v : View} {area₀ words₀ : List ℕ} {r : Span} {area words : List ℕ} (p : Processed n lines v area₀ words₀ r area words) where

@@ -1,15 +1,14 @@
--- The loops that write a table's body: a run of bytes (`bytes-..`), an entry (`entry-put`), all entries (`body-..`), and the length
+-- The loops that write a table's body: an entry (`entry-put`), all entries (`body-..`), and the length
 -- of the whole (`length-..`).
 -- Assumes nothing.
 use mathlib.Core.Path.{_≡_, refl, sym, ap, _∙_}
 use mathlib.Core.List.{List, [], _++_, append-assoc}
 use Prim.Native.Nat.{ℕ, zero, suc, _+_, _*_, _-_, _≤_, _<_}
 use native.Mathlib.Omega.{arith}
-use lib.ListN.{length, take, drop, set, getD, length-append, length-drop, length-take}
-use lib.Seq.{slice, length-take-le}
+use lib.ListN.{length, take, drop, getD, length-append, length-drop}
+use lib.Seq.{paste}
 use Rattle.lists.specs.Wrote.{Wrote}
-use Rattle.lists.proofs.SliceLaws.{slice-next, slice-done, part-at}
-use Rattle.lists.proofs.WriteLaws.{Part, part-start, part-from, part-put, part-puts, part-space, part-end}
+use Rattle.lists.proofs.WriteLaws.{Part, part-start, part-puts, part-space, part-end}
 use Rattle.rules.specs.Prefix.{Counted}
 use Rattle.rules.specs.Book.{written, entriesOut, tableOut}
 use Rattle.records.specs.Written.{putAt}
@@ -21,37 +20,15 @@ use Rattle.ngram_table.specs.Tables.{tableAt}
 use Rattle.ngram_body.specs.Bodies.{entryOut}
 use Rattle.ngram_table.proofs.LeftLaws.{viewLeft, viewEntry, view-next, view-end}
 
--- ---- a run of bytes
-length-slice-le : (from to : ℕ) (s : List ℕ) → length (slice from to s) ≤ to - from
-length-slice-le from to s = simp (length-drop, length-take) (omega arith)
-
-pub record Copies (s d₀ d : List ℕ) (from to at i w : ℕ) : Type 0 where
-  pub low : from ≤ i
-  pub part : Part (take at d₀ ++ slice from to s) (slice i to s) d₀ d w
-
-pub bytes-start : (s d : List ℕ) (from to at : ℕ) → at + (to - from) ≤ length d → Copies s d d from to at from at
-bytes-start s d from to at h =
-    record { low = omega arith; part = part-from at (slice from to s) d (omega (arith, length-slice-le from to s)) }
-
-module _ {s d₀ d : List ℕ} {from to at i w : ℕ} (c : Copies s d₀ d from to at i w) where
-  pub bytes-next : i < to → to ≤ length s → Copies s d₀ (set d w (getD s i 0)) from to at (i + 1) (w + 1)
-  bytes-next h k = record { low = omega (arith, c .low); part = part-put (slice-next s i to h k) (c .part) }
-
-  pub bytes-end : to ≤ i → at ≤ length d₀ → d ≡ putAt at (slice from to s) d₀
-  unfolding putAt
-  bytes-end h k =
-      let e = part-end (slice-done s i to h) (c .part) in
-      let n : w ≡ at + length (slice from to s) = omega (arith, e .count, length-append (take at d₀) (slice from to s), length-take-le at d₀ k) in
-      e .bytes ∙ ap (λ (j : ℕ). take at d₀ ++ slice from to s ++ drop j d₀) n
-
 -- ---- an entry
 module _ (s : List ℕ) (a : ℕ) where
   abbrev part : List ℕ
   part = partOf 32 2 (drop a s)
 
-  -- the part is the run of bytes from its start to its end
-  part-slice-is : slice a (a + length part) s ≡ part
-  part-slice-is = sym (part-at a (length part) s) ∙ sym (part-front 32 2 (drop a s))
+  -- the part is what a copy of as many bytes from a on writes
+  part-pasted : (at : ℕ) (d : List ℕ) → paste d at (drop a s) (length part) ≡ putAt at part d
+  unfolding putAt
+  part-pasted at d = ap (λ (l : List ℕ). take at d ++ l ++ drop (at + length part) d) (sym (part-front 32 2 (drop a s)))
 
   pub part-inside : a < a + length part → a + length part ≤ length s
   part-inside h = omega (arith, part-short 32 2 (drop a s), length-drop a s)
@@ -59,12 +36,11 @@ module _ (s : List ℕ) (a : ℕ) where
   pub part-most : length part ≤ length s
   part-most = omega (arith, part-short 32 2 (drop a s), length-drop a s)
 
-  pub entry-put : (count at stop len : ℕ) (d : List ℕ) → stop ≡ a + length part → len ≡ stop - a → at + (8 + length part) ≤ length d →
-      putAt (at + 8) (slice a stop s) (putAt (at + 4) (written 4 len) (putAt at (written 4 count) d)) ≡
+  pub entry-put : (count at len : ℕ) (d : List ℕ) → len ≡ length part → at + (8 + length part) ≤ length d →
+      paste (putAt (at + 4) (written 4 len) (putAt at (written 4 count) d)) (at + 8) (drop a s) len ≡
       putAt at (entryOut (record { bytes = part; count = count })) d
   unfolding entryOut
-  entry-put count at stop len d e l h =
-      let n : len ≡ length part = omega arith in
+  entry-put count at len d n h =
       let four = length-written 4 count in
       let x = written 4 count in
       let y = written 4 (length part) in
@@ -73,7 +49,7 @@ module _ (s : List ℕ) (a : ℕ) where
       ap (λ (k : ℕ). putAt (at + k) y (putAt at x d)) (sym four) ∙ put-two at x y d (omega arith) in
       let q : putAt (at + 8) part (putAt at (x ++ y) d) ≡ putAt at (x ++ y ++ part) d =
       ap (λ (k : ℕ). putAt (at + k) part (putAt at (x ++ y) d)) (sym eight) ∙ put-two at (x ++ y) part d (omega arith) in
-      rw (e, n, part-slice-is, p) q
+      rw (n, part-pasted (at + 8) (putAt (at + 4) y (putAt at x d)), p) q
 
 pub length-entry : (e : Counted) → length (entryOut e) ≡ 8 + length (e .bytes)
 unfolding entryOut

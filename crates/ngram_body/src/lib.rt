@@ -2,9 +2,8 @@
 // From detection/ngram.rs of spdx 0.13.6 (Copyright 2018 Amazon.com, Inc. or its affiliates. All Rights Reserved.
 // SPDX-License-Identifier: Apache-2.0), changed: the table of a text in bytes. Assumes nothing.
 ghost use mathlib.Core.Path.{_≡_};
-ghost use Prim.Native.Nat.{_+_, _-_, _≤_, _<_};
+ghost use Prim.Native.Nat.{_+_, _≤_, _<_};
 ghost use lib.ListN.{length, drop};
-ghost use lib.Seq.{slice};
 ghost use Rattle.lists.specs.Wrote.{Wrote};
 ghost use Rattle.rules.specs.Book.{tableOut};
 ghost use Rattle.records.specs.Written.{putAt};
@@ -13,23 +12,9 @@ ghost use Rattle.ngram_table.specs.Tables.{tableAt};
 ghost use Rattle.ngram_body.specs.Bodies.{entryOut};
 use ngram_table::TableSize;
 use records::numbers::write_u32;
+use slices::copy::copy_to;
 use slices::wide::wide;
 use sort_parts::part_end;
-
-// The bytes [from, to) of the text at `at` of the output.
-fn put_bytes(text: &[u8], from: usize, to: usize, out: &mut [u8], at: usize)
-    requires { ⌜ (from < to → to ≤ length (now text)) ⌝ }
-    requires { ⌜ at + (to - from) ≤ length (now out) ⌝ }
-    ensures { λ _. ⌜ now (out .exit) ≡ putAt at (slice from to (now (text .entry))) (now (out .entry)) ⌝ }
-{
-    let mut i = from;
-    let mut w = at;
-    while i < to {
-        out[w] = text[i];
-        w = w + 1;
-        i = i + 1;
-    }
-}
 
 // The entry of the bigram that starts at a: its count, its length, its bytes, at `at` of the output. The place behind it comes back.
 fn put_entry(text: &[u8], a: usize, count: u32, out: &mut [u8], at: usize) -> usize
@@ -42,8 +27,7 @@ fn put_entry(text: &[u8], a: usize, count: u32, out: &mut [u8], at: usize) -> us
     let len = end - a;
     write_u32(out, at, count);
     write_u32(out, at + 4, len as u32);
-    put_bytes(text, a, end, out, at + 8);
-    at + 8 + len
+    copy_to(text, a, len, out, at + 8)
 }
 
 // The length of the body of the table in p, over the text.

@@ -1,4 +1,4 @@
--- The list that stands is read back as the prefixes, by their starts (`tabled`); and the line table and the lines are as they were.
+-- The list that stands is read back as the prefixes, by their starts (`tabled`); and the lines are as they were.
 -- Assumes nothing.
 use mathlib.Core.Path.{_≡_, refl, sym, ap, ap₂, _∙_}
 use mathlib.Core.Logic.{_⊎_, inl, inr}
@@ -17,13 +17,12 @@ use Rattle.sort_tally.specs.Group.{groupsFrom, groups, starts, Grouped, partsAt
 use Rattle.sort_tally.proofs.GroupLaws.{groups-few}
 use Rattle.sort_spread.proofs.OrderLaws.{length-msorted}
 use Rattle.sort_tally.proofs.StableLaws.{Has, has-cases, has-none, Climbing, grouped, group-has}
-use Rattle.preproc_table.specs.Entries.{startAt, endAt, linesFrom, Apart}
-use Rattle.preproc_table.proofs.EntryLaws.{lines-same}
+use Rattle.preproc_table.specs.Entries.{linesFrom, Apart}
+use Rattle.preproc_table.proofs.EntryLaws.{lines-same, line-same}
 use Rattle.prefix_list.specs.declared.Listed.{Listed}
 use Rattle.prefix_list.specs.Listing.{plain, plainLines, listed, startsFrom, Stands}
 use Rattle.prefix_choice.specs.Choice as choice
 use Rattle.prefix_choice.proofs.ReachLaws.{part-whole}
-use Rattle.prefix_list.proofs.ListLaws.{same-start, same-end, same-line}
 use Rattle.prefix_choice.proofs.WinnerLaws.{starts-long}
 
 -- ---- the list, read back
@@ -137,25 +136,10 @@ module _ (n : ℕ) (ls : List (List ℕ)) (area₀ table₀ : List ℕ) (r : Lis
   pub stands-none : r .k ≡ 0 → prefixes ls ≡ []
   stands-none e = starts-none (4 * n) (prefixes ls) (starts-count ∙ e)
 
--- ---- the line table and the lines, as they were
+-- ---- the lines, as they were
 module _ (n count : ℕ) (area₀ table₀ area table : List ℕ) (apart : Apart n (4 * n) table₀ count) (lines : count ≤ n + 1)
     (area-low : take (4 * n) area ≡ take (4 * n) area₀) (table-low : take (2 * n + 2) table ≡ take (2 * n + 2) table₀) where
-  abbrev start-same : (i : ℕ) → i < count → startAt table i ≡ startAt table₀ i
-  start-same i h = same-start n area₀ table₀ area table area-low table-low i (omega arith)
-
-  abbrev end-same : (i : ℕ) → i < count → endAt table i ≡ endAt table₀ i
-  end-same i h = same-end n area₀ table₀ area table area-low table-low i (omega arith)
-
-  pub apart-same : Apart n (4 * n) table count
-  apart-same =
-      record {
-        low = λ i h. rw (start-same i h) (apart .low i h);
-        order = λ i h. rw (start-same i h, end-same i h) (apart .order i h);
-        high = λ i h. rw (end-same i h) (apart .high i h);
-        apart = λ i j h l. rw (end-same i (omega arith), start-same j l) (apart .apart i j h l);
-      }
-
   pub view-same : (i m : ℕ) → i + m ≤ count → linesFrom area table i m ≡ linesFrom area₀ table₀ i m
   view-same i m h =
       lines-same area area₀ table table₀ i m
-      (λ j a b. same-line n area₀ table₀ area table area-low table-low j (omega arith) (apart .high j (omega arith)))
+      (λ j a b. line-same count (2 * n + 2) (omega arith) table table₀ table-low (4 * n) area area₀ area-low j (omega arith) (apart .high j (omega arith)))

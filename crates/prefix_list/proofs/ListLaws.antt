@@ -8,12 +8,13 @@ use native.Mathlib.Nat.{add-zero}
 use native.Mathlib.Numerals.{add-one}
 use native.Mathlib.Omega.{arith}
 use lib.Dec.{ltb}
-use lib.ListN.{length, take, drop, set, getD, length-set, length-drop}
-use lib.Seq.{slice, slice-empty, paste, length-paste, take-paste, take-suc-set, take-take, drop-append-le, length-take-le, getD-take, take-append-le}
+use lib.ListN.{length, take, drop, set, length-set, length-drop}
+use lib.Seq.{slice, slice-empty, paste, length-paste, take-paste, take-suc-set, take-take, drop-append-le, length-take-le, take-append-le}
 use borrow.Author.Tests.{lt-ltb, le-ltb}
-use Rattle.lists.proofs.SliceLaws.{part-at, slice-first}
+use Rattle.lists.proofs.SliceLaws.{part-at}
 use Rattle.slices.specs.declared.ends.Span.{Span}
 use Rattle.preproc_table.specs.Entries.{startAt, endAt, lineAt, Apart}
+use Rattle.preproc_table.proofs.EntryLaws.{start-same, end-same, line-same}
 use Rattle.prefix_list.specs.Listing.{listed, startsFrom, Lies, Shared, Stands}
 use Rattle.prefix_list.proofs.ShareLaws.{rest, both, prefixes-step, prefixes-done}
 
@@ -39,24 +40,6 @@ pub record Listing (n i₀ stop : ℕ) (area₀ table₀ area table : List ℕ) 
   pub bytes : slice (4 * n) w area ++ listed (rest area₀ table₀ stop i) ≡ listed (rest area₀ table₀ stop i₀)
   pub starts : slice (2 * n + 2) (2 * n + 2 + k) table ++ startsFrom w (rest area₀ table₀ stop i) ≡ startsFrom (4 * n) (rest area₀ table₀ stop i₀)
 
--- the first entries of a table, and the lines that they name, where the fronts of the areas are as they were
-module _ (n : ℕ) (area₀ table₀ area table : List ℕ) (area-low : take (4 * n) area ≡ take (4 * n) area₀) (table-low : take (2 * n + 2) table ≡ take (2 * n + 2) table₀) where
-  same-number : (j : ℕ) → j < 2 * n + 2 → getD table j 0 ≡ getD table₀ j 0
-  same-number j h = sym (getD-take (2 * n + 2) table j 0 h) ∙ rw table-low (getD-take (2 * n + 2) table₀ j 0 h)
-
-  pub same-start : (i : ℕ) → i < n + 1 → startAt table i ≡ startAt table₀ i
-  same-start i h = same-number (2 * i) (omega arith)
-
-  pub same-end : (i : ℕ) → i < n + 1 → endAt table i ≡ endAt table₀ i
-  same-end i h = same-number (2 * i + 1) (omega arith)
-
-  pub same-bytes : (a e : ℕ) → e ≤ 4 * n → slice a e area ≡ slice a e area₀
-  same-bytes a e h = sym (slice-first a e (4 * n) area h) ∙ rw area-low (slice-first a e (4 * n) area₀ h)
-
-  pub same-line : (i : ℕ) → i < n + 1 → endAt table₀ i ≤ 4 * n → lineAt area table i ≡ lineAt area₀ table₀ i
-  unfolding lineAt
-  same-line i h l = rw (same-start i h, same-end i h) (same-bytes (startAt table₀ i) (endAt table₀ i) l)
-
 module _ (n count stop : ℕ) (area₀ table₀ : List ℕ) (apart : Apart n (4 * n) table₀ count) (up : stop ≤ count) (lines : count ≤ n + 1)
     (bytes-room : 8 * n + 64 ≤ length area₀) (words-room : 12 * n + 64 ≤ length table₀) where
   pub listing-start : (i₀ : ℕ) → i₀ ≤ stop → Listing n i₀ stop area₀ table₀ area₀ table₀ 0 (4 * n) i₀
@@ -77,10 +60,10 @@ module _ (n count stop : ℕ) (area₀ table₀ : List ℕ) (apart : Apart n (4 
 
   module _ (i₀ : ℕ) (area table : List ℕ) (k w i : ℕ) (l : Listing n i₀ stop area₀ table₀ area table k w i) (h : i + 1 < stop) where
     abbrev from-start : (j : ℕ) → j < n + 1 → startAt table j ≡ startAt table₀ j
-    from-start = same-start n area₀ table₀ area table (l .area-low) (l .table-low)
+    from-start = start-same (n + 1) (2 * n + 2) (omega arith) table table₀ (l .table-low)
 
     abbrev from-end : (j : ℕ) → j < n + 1 → endAt table j ≡ endAt table₀ j
-    from-end = same-end n area₀ table₀ area table (l .area-low) (l .table-low)
+    from-end = end-same (n + 1) (2 * n + 2) (omega arith) table table₀ (l .table-low)
 
     pub listing-lies : Lies area table i
     listing-lies =
@@ -101,7 +84,7 @@ module _ (n count stop : ℕ) (area₀ table₀ : List ℕ) (apart : Apart n (4 
       above = omega (arith, sh .low, from-start i (omega arith))
 
       abbrev line-of : (j : ℕ) → j < stop → lineAt area table j ≡ lineAt area₀ table₀ j
-      line-of j b = same-line n area₀ table₀ area table (l .area-low) (l .table-low) j (omega arith) (apart .high j (omega arith))
+      line-of j b = line-same (n + 1) (2 * n + 2) (omega arith) table table₀ (l .table-low) (4 * n) area area₀ (l .area-low) j (omega arith) (apart .high j (omega arith))
 
       taken : slice (s .start) (s .end) area ≡ both area₀ table₀ i
       taken = sh .bytes ∙ rw (line-of i (omega arith), line-of (i + 1) h)

@@ -3,8 +3,8 @@
 // SPDX-License-Identifier: Apache-2.0), changed: its map is a sorted table, and ties go to the first seen. Assumes nothing.
 ghost use mathlib.Core.Path.{_≡_};
 ghost use Prim.Native.Nat.{_+_, _*_, _-_, _≤_, _<_};
-ghost use lib.ListN.{length, take, drop};
-ghost use lib.Seq.{slice, paste};
+ghost use lib.ListN.{length, take};
+ghost use lib.Seq.{slice};
 ghost use Rattle.rules.specs.Prefix.{prefixes};
 ghost use Rattle.rules.specs.Table.{occurs};
 ghost use Rattle.slices.specs.Classes.{classTable};
@@ -15,6 +15,9 @@ ghost use Rattle.rules.specs.Sizes.{textMost, byteArea, wordArea};
 use preproc_table::line_end;
 use preproc_table::line_start;
 use rules::View;
+use slices::class::SPACE_HIGH;
+use slices::class::SPACE_LOW;
+use slices::copy::copy_up;
 use slices::ends::Span;
 use slices::ends::bare;
 use slices::two::common_len;
@@ -69,22 +72,10 @@ pub fn shared(class: &[u8; 256], area: &[u8], table: &[u32], i: usize) -> Span
     let stop = line_end(table, j);
     let line = &area[start..end];
     let k = common_len(line, &area[next..stop]);
-    let s = bare(class, 5, 7, &line[..k]);
+    let s = bare(class, SPACE_LOW, SPACE_HIGH, &line[..k]);
     Span {
         start: start + s.start,
         end: start + s.end,
-    }
-}
-
-// k bytes from `from` to `to`, which lies past them. One walk.
-fn copy_bytes(area: &mut [u8], from: usize, k: usize, to: usize)
-    requires { ⌜ (from + k ≤ to) × (to + k ≤ length (now area)) ⌝ }
-    ensures { λ r. ⌜ now (area .exit) ≡ paste (now (area .entry)) to (drop from (now (area .entry))) k ⌝ }
-{
-    let mut i = 0;
-    while i < k {
-        area[to + i] = area[from + i];
-        i = i + 1;
     }
 }
 
@@ -93,8 +84,7 @@ fn put_prefix(area: &mut [u8], from: usize, k: usize, to: usize)
     requires { ⌜ (from + k ≤ to) × (to + k < length (now area)) ⌝ }
     ensures { λ r. ⌜ take (to + k + 1) (now (area .exit)) ≡ take to (now (area .entry)) ++ (slice from (from + k) (now (area .entry)) ++ 10 ∷ []) ⌝ }
 {
-    copy_bytes(area, from, k, to);
-    let end = to + k;
+    let end = copy_up(area, from, k, to);
     area[end] = 10;
 }
 

@@ -8,6 +8,10 @@ ghost use lib.ListN.{length, drop};
 ghost use Rattle.rules.specs.Bytes.{digit, lead, holds};
 ghost use Rattle.rules.specs.Passes.{paragraph, hitA, hitB, item, spaced, items, hitC, hit};
 ghost use Rattle.slices.specs.Classes.{classTable};
+use slices::class::FOUR;
+use slices::class::OTHER_DIGIT;
+use slices::class::SPACE_HIGH;
+use slices::class::SPACE_LOW;
 use slices::class::in_class;
 use slices::lead::byte_run;
 use slices::lead::line_len;
@@ -82,10 +86,10 @@ fn is_digit(class: &[u8; 256], b: u8) -> bool
     requires { ⌜ now class ≡ classTable ⌝ }
     ensures { λ r. ⌜ r ≡ digit b ⌝ }
 {
-    if in_class(class, 4, 4, b) {
+    if in_class(class, FOUR, FOUR, b) {
         return true;
     }
-    in_class(class, 8, 8, b)
+    in_class(class, OTHER_DIGIT, OTHER_DIGIT, b)
 }
 
 // How many digits stand here.
@@ -123,7 +127,7 @@ fn spaced_len(class: &[u8; 256], s: &[u8], at: usize) -> usize
     requires { ⌜ (now class ≡ classTable) × (at ≤ length (now s)) ⌝ }
     ensures { λ r. ⌜ r ≡ spaced (drop at (now (s .entry))) ⌝ }
 {
-    let k = run_len(class, 5, 7, s, at);
+    let k = run_len(class, SPACE_LOW, SPACE_HIGH, s, at);
     if k == 0 {
         return 0;
     }

@@ -1,71 +1,25 @@
--- Bytes copied up within one area; what is left of a line; and the lines of a view joined behind all lines.
+-- What is left of a line; and the lines of a view joined behind all lines.
 -- Assumes nothing.
 use mathlib.Core.Path.{_≡_, refl, sym, ap, ap₂, _∙_}
 use mathlib.Core.Bool.{true, false}
 use mathlib.Core.List.{List, [], _∷_, _++_, map, append-nil}
 use Prim.Native.Nat.{ℕ, zero, suc, _+_, _-_, _≤_, _<_}
 use native.Mathlib.Omega.{arith}
-use lib.ListN.{length, take, drop, getD, set, length-append}
-use lib.Seq.{slice, length-slice, length-take-le, getD-take, drop-drop}
-use Rattle.lists.proofs.SliceLaws.{slice-next, slice-done, part-slice, slice-part, slice-first}
+use lib.ListN.{length, take, drop, set, length-append}
+use lib.Seq.{slice, paste, length-slice, length-take-le, drop-drop}
+use Rattle.lists.proofs.SliceLaws.{part-slice, slice-part, slice-first}
 use Rattle.lists.proofs.WriteLaws.{Part, part-count, part-from, part-put, part-puts, part-space, part-source, part-end, part-there}
 use Rattle.rules.specs.Bytes.{starts, trim, join}
 use Rattle.rules.specs.Prefix.{strip}
 use Rattle.rules.proofs.HitLaws.{starts-length}
 use Rattle.slices.specs.declared.ends.Span.{Span}
-use Rattle.slices.specs.Classes.{inClass, classTable}
+use Rattle.slices.specs.Classes.{classTable, spaceIn}
 use Rattle.slices.specs.Ends.{Bare}
 use Rattle.slices.proofs.EndLaws.{bare-within, bare-trim}
 use Rattle.slices.proofs.KindLaws.{by-table, space-table}
 use Rattle.preproc_table.specs.Entries.{startAt, endAt, lineAt, linesFrom}
 use Rattle.preproc_join.specs.declared.Prefix.{Prefix}
 use Rattle.preproc_join.specs.Joins.{Past, left, Left, Puts, Put, Added, viewLines, tails, Below, Joined}
-
--- ---- copied up: the reader is at i, the writer at w
-pub record Copying (d₀ d : List ℕ) (a e to i w : ℕ) : Type 0 where
-  pub from : a ≤ i
-  pub within : i ≤ e
-  pub below : e ≤ to
-  pub step : w ≡ to + (i - a)
-  pub part : Part (take to d₀ ++ slice a e d₀) (slice i e d₀) d₀ d w
-
-pub copying-start : (d : List ℕ) (a e to : ℕ) → a ≤ e → e ≤ to → to + (e - a) ≤ length d → Copying d d a e to a to
-copying-start d a e to h k r =
-    record {
-      from = omega arith;
-      within = h;
-      below = k;
-      step = omega arith;
-      part = part-from to (slice a e d) d (omega (arith, length-slice a e d (omega arith)));
-    }
-
-module _ {d₀ d : List ℕ} {a e to i w : ℕ} (c : Copying d₀ d a e to i w) where
-  copying-read : i < e → slice i e d₀ ≡ getD d i 0 ∷ slice (i + 1) e d₀
-  copying-read h =
-      let l : e ≤ length d₀ = omega (arith, c .part .at, c .part .long, c .below, c .step) in
-      let s : take to d ≡ take to d₀ = part-source to (slice a e d₀) (omega (arith, c .step)) (c .part) in
-      let g : getD d i 0 ≡ getD d₀ i 0 =
-      sym (getD-take to d i 0 (omega (arith, c .below))) ∙ ap (λ (m : List ℕ). getD m i 0) s ∙ getD-take to d₀ i 0 (omega (arith, c .below)) in
-      slice-next d₀ i e h l ∙ rw (← g)
-
-  pub copying-more : i < e → Copying d₀ (set d w (getD d i 0)) a e to (i + 1) (w + 1)
-  copying-more h =
-      record {
-        from = omega (arith, c .from);
-        within = omega arith;
-        below = c .below;
-        step = omega (arith, c .from, c .step);
-        part = part-put (copying-read h) (c .part);
-      }
-
-  pub copying-room : i < e → w < length d
-  copying-room h = omega (arith, part-space (getD d i 0 ∷ []) (slice (i + 1) e d₀) (copying-read h) (c .part))
-
-  pub copying-end : e ≤ i → (w ≡ to + (e - a)) × (d ≡ take to d₀ ++ slice a e d₀ ++ drop w d₀)
-  copying-end h =
-      let q : i ≡ e = omega (arith, c .within) in
-      let t = part-end (slice-done d₀ i e h) (c .part) in
-      (omega (arith, c .step), t .bytes)
 
 -- ---- behind a prefix
 module _ (area : List ℕ) (a e at len : ℕ) (h : a ≤ e) (k : e ≤ length area) (l : at + len ≤ length area) where
@@ -101,7 +55,7 @@ module _ (area table : List ℕ) (i : ℕ) (p : Prefix) where
     unfolding left lineAt
     left-plain f k = record { low = omega arith; order = omega arith; high = omega arith; bytes = rw (f, ← u, ← v) }
 
-    module _ (t : List ℕ) (k : ℕ) (s : Span) (q : Past area a e (p .at) (p .len) k) (b : Bare (inClass t 5 7) (take (e - k) (drop k area)) s) where
+    module _ (t : List ℕ) (k : ℕ) (s : Span) (q : Past area a e (p .at) (p .len) k) (b : Bare (spaceIn t) (take (e - k) (drop k area)) s) where
       pub left-within : (s .start ≤ s .end) × (k + s .end ≤ e)
       left-within =
           let w = bare-within b in
@@ -113,7 +67,7 @@ module _ (area table : List ℕ) (i : ℕ) (p : Prefix) where
       left-strip c f =
           let w = left-within in
           let r : slice (k + s .start) (k + s .end) area ≡ trim (take (e - k) (drop k area)) =
-          sym (slice-part (s .start) (s .end) (e - k) k area (omega arith)) ∙ bare-trim b (by-table 5 7 c space-table) in
+          sym (slice-part (s .start) (s .end) (e - k) k area (omega arith)) ∙ bare-trim b (by-table spaceIn c space-table) in
           record {
             low = omega (arith, q .low);
             order = omega arith;
@@ -158,12 +112,12 @@ module _ {class area table : List ℕ} {i : ℕ} {p : Prefix} {to : ℕ} {s : Sp
   within : endAt table i ≤ length area
   within = omega (arith, q .below, q .room)
 
-  pub put-fits : (s .start ≤ s .end) × (s .end ≤ to) × (to + (s .end - s .start) ≤ length area)
-  put-fits = (l .order, omega (arith, l .high, q .below), omega (arith, q .room, left-length area table i p within l))
+  pub put-fits : (s .start + (s .end - s .start) ≤ to) × (to + (s .end - s .start) ≤ length area)
+  put-fits = (omega (arith, l .order, l .high, q .below), omega (arith, q .room, left-length area table i p within l))
 
-  pub put-there : {r : ℕ} {d : List ℕ} → r ≡ to + (s .end - s .start) → d ≡ take to area ++ slice (s .start) (s .end) area ++ drop r area →
+  pub put-there : {r : ℕ} {d : List ℕ} → r ≡ to + (s .end - s .start) → d ≡ paste area to (drop (s .start) area) (s .end - s .start) →
       Put area table i p to r d
-  put-there e f = record { count = omega (arith, left-length area table i p within l); bytes = rw (← l .bytes) f }
+  put-there e f = record { count = omega (arith, left-length area table i p within l); bytes = rw (← l .bytes, e, ← part-slice (s .start) (s .end) area) f }
 
 -- ---- the lines are the same over areas that are the same below `to`
 module _ {class table : List ℕ} {end : ℕ} {p : Prefix} {to : ℕ} (q : Below class table end p to) (d d₀ : List ℕ) (s : take to d ≡ take to d₀) where

@@ -13,6 +13,9 @@ ghost use Rattle.slices.specs.Classes.{classTable};
 ghost use Rattle.preproc_join.specs.Joins.{Past, Left, Puts, Put, Added, Below, Joined, tails, viewLines};
 use preproc_table::line_end;
 use preproc_table::line_start;
+use slices::class::SPACE_HIGH;
+use slices::class::SPACE_LOW;
+use slices::copy::copy_up;
 use slices::ends::Span;
 use slices::ends::bare;
 use slices::two::starts_with;
@@ -22,21 +25,6 @@ pub struct Prefix {
     pub strip: bool,
     pub at: usize,
     pub len: usize,
-}
-
-// The bytes from a up to e, copied to a place at or past e; answers where they end.
-pub fn copy_up(area: &mut [u8], a: usize, e: usize, to: usize) -> usize
-    requires { ⌜ (a ≤ e) × (e ≤ to) × (to + (e - a) ≤ length (now area)) ⌝ }
-    ensures { λ r. ⌜ (r ≡ to + (e - a)) × (now (area .exit) ≡ take to (now (area .entry)) ++ slice a e (now (area .entry)) ++ drop r (now (area .entry))) ⌝ }
-{
-    let mut i = a;
-    let mut w = to;
-    while i < e {
-        area[w] = area[i];
-        i += 1;
-        w += 1;
-    }
-    w
 }
 
 // Where the line from a up to e goes on behind the len bytes that stand at `at`, if it starts with them.
@@ -60,7 +48,7 @@ fn line_part(class: &[u8; 256], area: &[u8], table: &[u32], i: usize, p: Prefix)
     let e = line_end(table, i);
     if p.strip {
         let k = past_prefix(area, a, e, p.at, p.len);
-        let s = bare(class, 5, 7, &area[k..e]);
+        let s = bare(class, SPACE_LOW, SPACE_HIGH, &area[k..e]);
         return Span {
             start: k + s.start,
             end: k + s.end,
@@ -82,9 +70,9 @@ fn put_part(
     ensures { λ r. ⌜ Put (now (area .entry)) (now (table .entry)) i p to r (now (area .exit)) ⌝ }
 {
     let s = line_part(class, area, table, i, p);
-    let a = s.start;
-    let e = s.end;
-    copy_up(area, a, e, to)
+    let from = s.start;
+    let len = s.end - s.start;
+    copy_up(area, from, len, to)
 }
 
 // The lines from `first` up to `end`, with what is left of each behind a newline, from `to` on; answers where they end. One walk over

@@ -9,6 +9,10 @@ ghost use Rattle.preproc_lines.specs.Placed.{Filled, Placed};
 use preproc_runs::drop_into;
 use preproc_signs::join_signs;
 use preproc_urls::blackbox_urls;
+use slices::class::DROPPED_HIGH;
+use slices::class::DROPPED_LOW;
+use slices::class::SPACE_HIGH;
+use slices::class::SPACE_LOW;
 use slices::ends::Span;
 use slices::ends::bare;
 
@@ -17,7 +21,7 @@ pub fn fill_line(class: &[u8; 256], src: &[u8], area: &mut [u8], to: usize) -> u
     requires { ⌜ (now class ≡ classTable) × (length (now src) ≤ to) × (to + 3 * length (now src) ≤ length (now area)) ⌝ }
     ensures { λ r. ⌜ Filled (now (src .entry)) (now (area .entry)) to r (now (area .exit)) ⌝ }
 {
-    let n2 = drop_into(class, 1, 2, src, area);
+    let n2 = drop_into(class, DROPPED_LOW, DROPPED_HIGH, src, area);
     let end = blackbox_urls(class, area, n2, to);
     let n3 = end - to;
     let n5 = join_signs(class, &mut area[to..], n3);
@@ -30,7 +34,7 @@ pub fn put_line(class: &[u8; 256], src: &[u8], area: &mut [u8], to: usize) -> Sp
     ensures { λ r. ⌜ Placed (now (src .entry)) (now (area .entry)) to r (now (area .exit)) ⌝ }
 {
     let end = fill_line(class, src, area, to);
-    let s = bare(class, 5, 7, &area[to..end]);
+    let s = bare(class, SPACE_LOW, SPACE_HIGH, &area[to..end]);
     Span {
         start: to + s.start,
         end: to + s.end,

@@ -7,7 +7,7 @@ use Prim.Native.Nat.{ℕ, _+_, _≤_, _<_}
 use native.Mathlib.Omega.{arith}
 use lib.Dec.{ltb}
 use borrow.Author.Tests.{lt-ltb, le-ltb}
-use Rattle.lists.specs.Wrote.{Wrote, Front}
+use Rattle.lists.specs.Wrote.{Wrote}
 use Rattle.rules.specs.Bytes.{within, keep, runs}
 use Rattle.rules.specs.Passes.{vertical}
 use Rattle.preproc_runs.specs.Capped.{capped}
@@ -72,6 +72,3 @@ vertical-capped k (x ∷ l) =
 module _ {p q : ℕ → Bool} (e : p ≡ q) where
   pub drops-as : (s : List ℕ) {d₀ d : List ℕ} {r : ℕ} → Wrote (keep (λ x. not (p x)) s) d₀ r d → Wrote (keep (λ x. not (q x)) s) d₀ r d
   drops-as s {d₀} {d} {r} w = subst (λ (f : ℕ → Bool). Wrote (keep (λ x. not (f x)) s) d₀ r d) e w
-
-  pub runs-as : (c : ℕ) (s : List ℕ) {d : List ℕ} {r : ℕ} → Front (runs p c false s) r d → Front (runs q c false s) r d
-  runs-as c s {d} {r} w = subst (λ (f : ℕ → Bool). Front (runs f c false s) r d) e w

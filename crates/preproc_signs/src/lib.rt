@@ -10,34 +10,41 @@ ghost use Rattle.rules.specs.Bytes.{runs};
 ghost use Rattle.rules.specs.Lines.{gap, signs};
 ghost use Rattle.slices.specs.Classes.{classTable};
 ghost use Rattle.preproc_signs.specs.Signs.{kinds, signIn};
+use slices::class::CLOSING;
+use slices::class::DASH;
+use slices::class::GAP_HIGH;
+use slices::class::GAP_LOW;
+use slices::class::OPENING;
+use slices::class::QUOTE;
+use slices::class::UNDERSCORE;
 
 // What b becomes, by its class, or 0 where it stays. Most bytes are letters, classes 9 and 10: they are told by two tests.
 fn sign_of(class: &[u8; 256], b: u8) -> u8
     ensures { λ r. ⌜ r ≡ signIn kinds (getD (now (class .entry)) b 0) ⌝ }
 {
     let c = class[b as usize];
-    if c < 6 {
-        if c < 2 {
+    if c <= GAP_HIGH {
+        if c < GAP_LOW {
             return 0;
         }
         return 32;
     }
-    if c < 11 {
+    if c < UNDERSCORE {
         return 0;
     }
-    if c == 11 {
+    if c == UNDERSCORE {
         return 95;
     }
-    if c == 12 {
+    if c == QUOTE {
         return 39;
     }
-    if c == 13 {
+    if c == DASH {
         return 45;
     }
-    if c == 14 {
+    if c == OPENING {
         return 40;
     }
-    if c == 15 {
+    if c == CLOSING {
         return 41;
     }
     0

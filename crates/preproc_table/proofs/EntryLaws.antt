@@ -1,4 +1,4 @@
--- The line table: an entry after a write, the lines after one more, and lines made blank.
+-- The line table: an entry after a write, the lines after one more, entries that are as they were, and lines made blank.
 -- Assumes nothing.
 use mathlib.Core.Path.{_≡_, refl, sym, ap, ap₂, _∙_, subst}
 use mathlib.Core.Bool.{Bool, true, false}
@@ -8,10 +8,10 @@ use native.Mathlib.Nat.{add-zero, le-of-suc-le-suc, not-suc-le-zero}
 use native.Mathlib.Numerals.{add-one}
 use native.Mathlib.Omega.{arith}
 use lib.Dec.{eqb}
-use lib.ListN.{length, take, drop, set, length-set}
-use lib.Seq.{slice, slice-empty, getD-set-same, getD-set-other}
+use lib.ListN.{length, take, drop, getD, set, length-set}
+use lib.Seq.{slice, slice-empty, getD-set-same, getD-set-other, getD-take}
 use borrow.Author.Tests.{eqb-true, eqb-false}
-use Rattle.lists.proofs.SliceLaws.{slice-within}
+use Rattle.lists.proofs.SliceLaws.{slice-first, slice-within}
 use Rattle.rules.specs.Search.{blank}
 use Rattle.preproc_table.specs.Entries.{startAt, endAt, lineAt, linesFrom, linesAt, written, blanked, Apart, Blanked}
 
@@ -90,6 +90,40 @@ lines-kept {first} {last} {table} n area area′ a e =
     (λ j u v.
     let l : j < n = omega arith in
     slice-within first last area area′ (a .low j l) (a .order j l) (a .high j l) e)
+
+-- ---- tables whose first k numbers are the same have the same entries there
+module _ (lines k : ℕ) (fits : 2 * lines ≤ k) (t t′ : List ℕ) (e : take k t ≡ take k t′) where
+  entry-same : (j : ℕ) → j < k → getD t j 0 ≡ getD t′ j 0
+  entry-same j h = sym (getD-take k t j 0 h) ∙ ap (λ (l : List ℕ). getD l j 0) e ∙ getD-take k t′ j 0 h
+
+  pub start-same : (i : ℕ) → i < lines → startAt t i ≡ startAt t′ i
+  start-same i h = entry-same (2 * i) (omega arith)
+
+  pub end-same : (i : ℕ) → i < lines → endAt t i ≡ endAt t′ i
+  end-same i h = entry-same (2 * i + 1) (omega arith)
+
+  pub lines-below : (area : List ℕ) → linesAt area t lines ≡ linesAt area t′ lines
+  unfolding linesAt lineAt
+  lines-below area =
+      lines-same area area t t′ 0 lines (λ j h l.
+      let j< : j < lines = omega arith in
+      ap₂ (λ (a b : ℕ). slice a b area) (start-same j j<) (end-same j j<))
+
+  pub apart-below : (first last : ℕ) → Apart first last t lines → Apart first last t′ lines
+  apart-below first last p =
+      record {
+        low = λ i h. omega (arith, p .low i h, start-same i h);
+        order = λ i h. omega (arith, p .order i h, start-same i h, end-same i h);
+        high = λ i h. omega (arith, p .high i h, end-same i h);
+        apart = λ i j h l. omega (arith, p .apart i j h l, end-same i (omega arith), start-same j l);
+      }
+
+  -- and the same lines, over areas that are the same up to m
+  pub line-same : (m : ℕ) (area area′ : List ℕ) → take m area ≡ take m area′ → (i : ℕ) → i < lines → endAt t′ i ≤ m → lineAt area t i ≡ lineAt area′ t′ i
+  unfolding lineAt
+  line-same m area area′ s i h l =
+      rw (start-same i h, end-same i h)
+      (sym (slice-first (startAt t′ i) (endAt t′ i) m area l) ∙ rw s (slice-first (startAt t′ i) (endAt t′ i) m area′ l))
 
 -- what holds of each of the first k, and of k, holds of each of the first k + 1
 pub up-to : (P : ℕ → Type 0) (k : ℕ) → ((i : ℕ) → i < k → P i) → P k → (i : ℕ) → i < k + 1 → P i

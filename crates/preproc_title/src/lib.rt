@@ -7,6 +7,8 @@ ghost use lib.ListN.{length, drop};
 ghost use Rattle.rules.specs.Passes.{titleEnd, titleRest, titleLine, withoutTitle};
 ghost use Rattle.slices.specs.Classes.{classTable};
 ghost use Rattle.preproc_title.specs.Matches.{titleHere};
+use slices::class::SPACE_HIGH;
+use slices::class::SPACE_LOW;
 use slices::lead::line_len;
 use slices::lead::other_len;
 use slices::two::starts_with;
@@ -31,7 +33,7 @@ fn title_rest(class: &[u8; 256], s: &[u8], at: usize) -> bool
     }
     if starts_with(s, at, b" version ") {
         let v = at + 9;
-        let named = other_len(class, 5, 7, s, v);
+        let named = other_len(class, SPACE_LOW, SPACE_HIGH, s, v);
         if named == 0 {
             return false;
         }

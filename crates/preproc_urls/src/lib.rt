@@ -9,24 +9,27 @@ ghost use lib.ListN.{length, take, drop};
 ghost use Rattle.lists.specs.Wrote.{Wrote};
 ghost use Rattle.rules.specs.Bytes.{space, solid, starts};
 ghost use Rattle.rules.specs.Lines.{url, urls};
-ghost use Rattle.slices.specs.Classes.{inClass};
+ghost use Rattle.slices.specs.Classes.{spaceIn};
+use slices::class::SPACE_HIGH;
+use slices::class::SPACE_LOW;
 use slices::class::in_class;
+use slices::copy::put;
 use slices::two::starts_with;
 
 // At the place stands a byte that is no space.
 fn solid_at(class: &[u8; 256], s: &[u8], at: usize) -> bool
-    requires { ⌜ inClass (now class) 5 7 ≡ space ⌝ }
+    requires { ⌜ spaceIn (now class) ≡ space ⌝ }
     ensures { λ r. ⌜ r ≡ solid (drop at (now (s .entry))) ⌝ }
 {
     if at < s.len() {
-        return !in_class(class, 5, 7, s[at]);
+        return !in_class(class, SPACE_LOW, SPACE_HIGH, s[at]);
     }
     false
 }
 
 // s starts with w and a byte that is no space.
 fn opens_with(class: &[u8; 256], s: &[u8], w: &[u8]) -> bool
-    requires { ⌜ inClass (now class) 5 7 ≡ space ⌝ }
+    requires { ⌜ spaceIn (now class) ≡ space ⌝ }
     ensures { λ r. ⌜ r ≡ (starts (now (w .entry)) (now (s .entry)) && solid (drop (length (now (w .entry))) (now (s .entry)))) ⌝ }
 {
     if starts_with(s, 0, w) {
@@ -37,7 +40,7 @@ fn opens_with(class: &[u8; 256], s: &[u8], w: &[u8]) -> bool
 
 // s starts with a URL. Most bytes are told by one test.
 pub fn is_url(class: &[u8; 256], s: &[u8]) -> bool
-    requires { ⌜ inClass (now class) 5 7 ≡ space ⌝ }
+    requires { ⌜ spaceIn (now class) ≡ space ⌝ }
     ensures { λ r. ⌜ r ≡ url (now (s .entry)) ⌝ }
 {
     if s.len() == 0 {
@@ -54,32 +57,19 @@ pub fn is_url(class: &[u8; 256], s: &[u8]) -> bool
 
 // The URL before goes on with b.
 fn goes_on(class: &[u8; 256], inside: bool, b: u8) -> bool
-    requires { ⌜ inClass (now class) 5 7 ≡ space ⌝ }
+    requires { ⌜ spaceIn (now class) ≡ space ⌝ }
     ensures { λ r. ⌜ r ≡ (inside && not (space b)) ⌝ }
 {
     if inside {
-        return !in_class(class, 5, 7, b);
+        return !in_class(class, SPACE_LOW, SPACE_HIGH, b);
     }
     false
-}
-
-// All of p, written to dst from w on.
-pub fn put(p: &[u8], dst: &mut [u8], w: usize) -> usize
-    requires { ⌜ w + length (now p) ≤ length (now dst) ⌝ }
-    ensures { λ r. ⌜ (r ≡ w + length (now (p .entry))) × (now (dst .exit) ≡ take w (now (dst .entry)) ++ now (p .entry) ++ drop r (now (dst .entry))) ⌝ }
-{
-    let mut i = 0;
-    while i < p.len() {
-        dst[w + i] = p[i];
-        i += 1;
-    }
-    w + i
 }
 
 // The first n, with each URL made the fixed one, written from `to` on; answers where that ends. Each byte is read once, and at each up to
 // nine are compared.
 pub fn blackbox_urls(class: &[u8; 256], area: &mut [u8], n: usize, to: usize) -> usize
-    requires { ⌜ (inClass (now class) 5 7 ≡ space) × (n ≤ to) × (to + length (urls false (take n (now area))) ≤ length (now area)) ⌝ }
+    requires { ⌜ (spaceIn (now class) ≡ space) × (n ≤ to) × (to + length (urls false (take n (now area))) ≤ length (now area)) ⌝ }
     ensures { λ r. ⌜ Wrote (take to (now (area .entry)) ++ urls false (take n (now (area .entry)))) (now (area .entry)) r (now (area .exit)) ⌝ }
 {
     let mut i = 0;

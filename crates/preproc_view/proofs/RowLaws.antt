@@ -12,7 +12,7 @@ use Rattle.lists.proofs.SliceLaws.{part-slice, part-rest, slice-shift, slice-fi
 use Rattle.rules.specs.Bytes.{within, space, word, keep, runs, trim}
 use Rattle.rules.specs.Passes.{lowered, withoutTitle, withoutCopyright, passes}
 use Rattle.slices.specs.declared.ends.Span.{Span}
-use Rattle.slices.specs.Classes.{inClass, classTable}
+use Rattle.slices.specs.Classes.{classTable, keptIn, spaceIn, verticalIn}
 use Rattle.slices.specs.Ends.{Bare}
 use Rattle.slices.proofs.EndLaws.{bare-within, bare-trim}
 use Rattle.slices.proofs.KindLaws.{by-table, space-table, vertical-table, kept-table}
@@ -21,19 +21,19 @@ use Rattle.preproc_runs.proofs.PassLaws.{vertical-capped}
 use Rattle.preproc_view.specs.Rows.{Stands, firstPasses, lastPasses}
 
 module _ (t : List ℕ) (e : t ≡ classTable) where
-  pub first-row : (s : List ℕ) → map lowered (keep (inClass t 4 11) (capped (inClass t 6 7) 10 2 0 s)) ≡ firstPasses s
+  pub first-row : (s : List ℕ) → map lowered (keep (keptIn t) (capped (verticalIn t) 10 2 0 s)) ≡ firstPasses s
   unfolding firstPasses
   first-row s =
-      ap (λ (f : ℕ → Bool). map lowered (keep f (capped (inClass t 6 7) 10 2 0 s))) (by-table 4 11 e kept-table) ∙
-      ap (λ (f : ℕ → Bool). map lowered (keep (λ x. word x || space x) (capped f 10 2 0 s))) (by-table 6 7 e vertical-table) ∙
+      ap (λ (f : ℕ → Bool). map lowered (keep f (capped (verticalIn t) 10 2 0 s))) (by-table keptIn e kept-table) ∙
+      ap (λ (f : ℕ → Bool). map lowered (keep (λ x. word x || space x) (capped f 10 2 0 s))) (by-table verticalIn e vertical-table) ∙
       ap (λ (l : List ℕ). map lowered (keep (λ x. word x || space x) l)) (vertical-capped 0 s)
 
   -- what is bare of the spaces around it, of the first n
-  pub last-row : (s : List ℕ) {d : List ℕ} {n : ℕ} {r : Span} → Front (runs (inClass t 5 7) 32 false (withoutCopyright true true 0 s)) n d →
-      Bare (inClass t 5 7) (take n d) r → Stands (lastPasses s) d r
+  pub last-row : (s : List ℕ) {d : List ℕ} {n : ℕ} {r : Span} → Front (runs (spaceIn t) 32 false (withoutCopyright true true 0 s)) n d →
+      Bare (spaceIn t) (take n d) r → Stands (lastPasses s) d r
   unfolding lastPasses
   last-row s {d} {n} {r} f b =
-      let k = by-table 5 7 e space-table in
+      let k = by-table spaceIn e space-table in
       let w = bare-within b in
       let m = length-take-le n d (f .within) in
       let h : r .end ≤ n = omega arith in

@@ -5,9 +5,9 @@ use mathlib.Core.Bool.{true, false, cond}
 use mathlib.Core.List.{List, [], _∷_, _++_, map}
 use Prim.Native.Nat.{ℕ, zero, suc, _+_, _-_, _*_, _≤_, _<_, zero-le}
 use native.Mathlib.Omega.{arith}
-use lib.ListN.{length, take, drop, getD, length-append, length-take, length-drop}
-use lib.Seq.{slice, take-at, length-take-le, getD-take}
-use Rattle.lists.proofs.SliceLaws.{part-rest, slice-first}
+use lib.ListN.{length, take, drop, length-append, length-take, length-drop}
+use lib.Seq.{slice, take-at, length-take-le}
+use Rattle.lists.proofs.SliceLaws.{part-rest}
 use Rattle.rules.specs.declared.View.{View}
 use Rattle.rules.specs.Bytes.{starts, join, trim}
 use Rattle.rules.specs.Prefix.{strip, withoutPrefix}
@@ -16,7 +16,6 @@ use Rattle.rules.proofs.BoolLaws.{cond-of}
 use Rattle.rules.proofs.GrowthLaws.{trim-length}
 use Rattle.slices.specs.declared.ends.Span.{Span}
 use Rattle.preproc_table.specs.Entries.{startAt, endAt, lineAt, linesFrom, Apart}
-use Rattle.preproc_table.proofs.EntryLaws.{lines-same}
 use Rattle.preproc_join.specs.declared.Prefix.{Prefix}
 use Rattle.preproc_join.specs.Joins.{bytesOf, left, viewLines, Below, Joined}
 use Rattle.preproc_view.specs.Rows.{Stands}
@@ -105,45 +104,3 @@ module _ (area : List ℕ) (n : ℕ) (ls : List (List ℕ)) where
   chosen-span s e k h f =
       let q : s + (e - s) ≡ e = omega arith in
       record { below = omega arith; lines = f ∙ ap (λ (j : ℕ). map (λ (l : List ℕ). strip (slice s j area) l) ls) (sym q) }
-
--- ---- areas that keep the lines and their table: what stands below 4n, and the entries of n + 1 lines
-module _ (area area′ table table′ : List ℕ) (n : ℕ) (a : take (4 * n) area′ ≡ take (4 * n) area) (t : take (2 * n + 2) table′ ≡ take (2 * n + 2) table) where
-  entry-same : (k : ℕ) → k < 2 * n + 2 → getD table′ k 0 ≡ getD table k 0
-  entry-same k h =
-      sym (getD-take (2 * n + 2) table′ k 0 h) ∙ ap (λ (l : List ℕ). getD l k 0) t ∙ getD-take (2 * n + 2) table k 0 h
-
-  start-same : (i : ℕ) → i < n + 1 → startAt table′ i ≡ startAt table i
-  start-same i h = entry-same (2 * i) (omega arith)
-
-  end-same : (i : ℕ) → i < n + 1 → endAt table′ i ≡ endAt table i
-  end-same i h = entry-same (2 * i + 1) (omega arith)
-
-  pub apart-same : {k : ℕ} → k ≤ n + 1 → Apart n (4 * n) table k → Apart n (4 * n) table′ k
-  apart-same {k} h p =
-      record {
-        low = λ i l. omega (arith, start-same i (omega arith), p .low i l);
-        order = λ i l. omega (arith, start-same i (omega arith), end-same i (omega arith), p .order i l);
-        high = λ i l. omega (arith, end-same i (omega arith), p .high i l);
-        apart = λ i j l m. omega (arith, end-same i (omega arith), start-same j (omega arith), p .apart i j l m);
-      }
-
-  pub view-kept : {v : View} → v .start ≤ v .end → v .end ≤ n + 1 → Apart n (4 * n) table (v .end) → viewAt area′ table′ v ≡ viewAt area table v
-  unfolding lineAt
-  view-kept {v} o h p =
-      lines-same area′ area table′ table (v .start) (v .end - v .start)
-      (λ j l m.
-      let k : j < v .end = omega arith in
-      rw (start-same j (omega arith), end-same j (omega arith))
-      (sym (slice-first (startAt table j) (endAt table j) (4 * n) area′ (p .high j k)) ∙ ap (slice (startAt table j) (endAt table j)) a ∙
-      slice-first (startAt table j) (endAt table j) (4 * n) area (p .high j k)))
-
-  pub ready-kept : {class : List ℕ} {v : View} → v .end ≤ n + 1 → length area′ ≡ length area → length table′ ≡ length table →
-      Ready class area table n v → Ready class area′ table′ n v
-  ready-kept h k l q =
-      record {
-        classes = q .classes;
-        room = omega (arith, q .room);
-        entries = omega (arith, q .entries);
-        apart = apart-same h (q .apart);
-        order = q .order;
-      }

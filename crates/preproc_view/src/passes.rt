@@ -19,6 +19,13 @@ use preproc_runs::cap_runs;
 use preproc_runs::join_runs;
 use preproc_runs::keep_in;
 use preproc_title::title_len;
+use slices::class::KEPT_HIGH;
+use slices::class::KEPT_LOW;
+use slices::class::SPACE_HIGH;
+use slices::class::SPACE_LOW;
+use slices::class::UPPER;
+use slices::class::VERTICAL_HIGH;
+use slices::class::VERTICAL_LOW;
 use slices::class::in_class;
 use slices::ends::Span;
 use slices::ends::bare;
@@ -74,7 +81,7 @@ fn lower(class: &[u8; 256], b: u8) -> u8
     requires { ⌜ now class ≡ classTable ⌝ }
     ensures { λ r. ⌜ r ≡ lowered b ⌝ }
 {
-    if in_class(class, 10, 10, b) {
+    if in_class(class, UPPER, UPPER, b) {
         return b + 32;
     }
     b
@@ -100,8 +107,8 @@ fn last_passes(class: &[u8; 256], buf: &mut [u8], n: usize) -> Span
     ensures { λ r. ⌜ Stands (lastPasses (take n (now (buf .entry)))) (now (buf .exit)) r ⌝ }
 {
     let n6 = without_copyright(class, buf, n);
-    let n7 = join_runs(class, 5, 7, b' ', buf, n6);
-    bare(class, 5, 7, &buf[..n7])
+    let n7 = join_runs(class, SPACE_LOW, SPACE_HIGH, b' ', buf, n6);
+    bare(class, SPACE_LOW, SPACE_HIGH, &buf[..n7])
 }
 
 // Passes 2 to 4.
@@ -109,8 +116,8 @@ fn first_passes(class: &[u8; 256], buf: &mut [u8], n: usize) -> usize
     requires { ⌜ (now class ≡ classTable) × (n ≤ length (now buf)) ⌝ }
     ensures { λ r. ⌜ Front (firstPasses (take n (now (buf .entry)))) r (now (buf .exit)) ⌝ }
 {
-    let n2 = cap_runs(class, 6, 7, b'\n', 2, buf, n);
-    let n3 = keep_in(class, 4, 11, buf, n2);
+    let n2 = cap_runs(class, VERTICAL_LOW, VERTICAL_HIGH, b'\n', 2, buf, n);
+    let n3 = keep_in(class, KEPT_LOW, KEPT_HIGH, buf, n2);
     lower_in(class, buf, n3)
 }
 

@@ -10,12 +10,12 @@ use lib.ListN.{getD, List·getD-eq-default}
 use borrow.Author.Tests.{ltb-true, ltb-false, le-leb, lt-leb, eqb-true, ne-eqb}
 use Rattle.lists.specs.Tables.{tab}
 use Rattle.lists.proofs.TableLaws.{tab-at, tab-length}
-use Rattle.rules.specs.Bytes.{text, within, among, newline, space, upper, lower, digit, word, dropped, every}
+use Rattle.rules.specs.Bytes.{text, within, among, space, upper, lower, digit, word, dropped, every}
 use Rattle.rules.specs.Lines.{gap}
 use Rattle.rules.specs.Class.{classOf}
 use Rattle.rules.proofs.BoolLaws.{and-left, and-right}
-use Rattle.rules.proofs.ClassLaws.{Ruled, dropped-class, gap-class, quote-class, dash-class, open-class, close-class, under-class, space-class, vertical-class, newline-class, kept-class, upper-class, four-class, digit-class}
-use Rattle.slices.specs.Classes.{inClass, classTable}
+use Rattle.rules.proofs.ClassLaws.{Ruled, dropped-class, gap-class, quote-class, dash-class, open-class, close-class, under-class, space-class, vertical-class, kept-class, upper-class, four-class, digit-class}
+use Rattle.slices.specs.Classes.{inClass, classTable, droppedIn, keptIn, spaceIn, verticalIn, upperIn, fourIn, otherDigitIn}
 
 -- the class of 128 and more is 0, in the table and behind its end
 high-class : (x : ℕ) → 128 ≤ x → getD classTable x 0 ≡ 0
@@ -75,11 +75,11 @@ module _ (x : ℕ) (h : 128 ≤ x) where
   high-kept = rw high-word high-space
 
 -- ---- the kinds
-pub dropped-table : inClass classTable 1 2 ≡ dropped
+pub dropped-table : droppedIn classTable ≡ dropped
 unfolding within
 dropped-table = everywhere dropped 1 2 dropped-class refl high-dropped
 
-pub space-table : inClass classTable 5 7 ≡ space
+pub space-table : spaceIn classTable ≡ space
 unfolding within
 space-table = everywhere space 5 7 space-class refl high-space
 
@@ -107,28 +107,24 @@ pub under-table : inClass classTable 11 11 ≡ among (text "_")
 unfolding within text every
 under-table = everywhere (among (text "_")) 11 11 under-class refl (λ x h. high-among x h (text "_") refl)
 
-pub vertical-table : inClass classTable 6 7 ≡ within 10 13
+pub vertical-table : verticalIn classTable ≡ within 10 13
 unfolding within
 vertical-table = everywhere (within 10 13) 6 7 vertical-class refl (λ x h. high-within x h 10 13 (lit≤ tt) (lit< tt))
 
-pub newline-table : inClass classTable 6 6 ≡ newline
-unfolding within newline
-newline-table = everywhere newline 6 6 newline-class refl (λ x h. high-equal x h 10 (lit< tt))
-
-pub kept-table : inClass classTable 4 11 ≡ (λ x. word x || space x)
+pub kept-table : keptIn classTable ≡ (λ x. word x || space x)
 unfolding within
 kept-table = everywhere (λ x. word x || space x) 4 11 kept-class refl high-kept
 
-pub upper-table : inClass classTable 10 10 ≡ upper
+pub upper-table : upperIn classTable ≡ upper
 unfolding within upper
 upper-table = everywhere upper 10 10 upper-class refl (λ x h. high-within x h 65 90 (lit≤ tt) (lit< tt))
 
 -- ---- a digit is the 4, or one of the others
-four-table : inClass classTable 4 4 ≡ eqb 52
+four-table : fourIn classTable ≡ eqb 52
 unfolding within
 four-table = everywhere (eqb 52) 4 4 four-class refl (λ x h. ne-eqb 52 x (λ e. omega arith))
 
-others-table : inClass classTable 8 8 ≡ (λ x. digit x && not (eqb 52 x))
+others-table : otherDigitIn classTable ≡ (λ x. digit x && not (eqb 52 x))
 unfolding within digit
 others-table = everywhere (λ x. digit x && not (eqb 52 x)) 8 8 digit-class refl (λ x h. rw (high-within x h 48 57 (lit≤ tt) (lit< tt)))
 
@@ -137,21 +133,21 @@ at-byte : (f g : ℕ → Bool) (x : ℕ) → f ≡ g → f x ≡ g x
 at-byte f g x e = ap (λ (h : ℕ → Bool). h x) e
 
 module _ (x : ℕ) where
-  pub digit-four : inClass classTable 4 4 x ≡ true → digit x ≡ true
+  pub digit-four : fourIn classTable x ≡ true → digit x ≡ true
   unfolding digit within
   digit-four h =
-      let e : 52 ≡ x = eqb-true 52 x (sym (at-byte (inClass classTable 4 4) (eqb 52) x four-table) ∙ h) in
+      let e : 52 ≡ x = eqb-true 52 x (sym (at-byte (fourIn classTable) (eqb 52) x four-table) ∙ h) in
       rw (← e)
 
-  pub digit-other : inClass classTable 4 4 x ≡ false → inClass classTable 8 8 x ≡ digit x
+  pub digit-other : fourIn classTable x ≡ false → otherDigitIn classTable x ≡ digit x
   digit-other h =
-      let e : eqb 52 x ≡ false = sym (at-byte (inClass classTable 4 4) (eqb 52) x four-table) ∙ h in
-      at-byte (inClass classTable 8 8) (λ y. digit y && not (eqb 52 y)) x others-table ∙ rw e (and-true (digit x))
+      let e : eqb 52 x ≡ false = sym (at-byte (fourIn classTable) (eqb 52) x four-table) ∙ h in
+      at-byte (otherDigitIn classTable) (λ y. digit y && not (eqb 52 y)) x others-table ∙ rw e (and-true (digit x))
     where
       and-true : (b : Bool) → b && true ≡ b
       and-true true = refl
       and-true false = refl
 
 -- a table that is lent as document 01's says the same
-pub by-table : {t : List ℕ} {test : ℕ → Bool} (lo hi : ℕ) → t ≡ classTable → inClass classTable lo hi ≡ test → inClass t lo hi ≡ test
-by-table lo hi e k = ap (λ (u : List ℕ). inClass u lo hi) e ∙ k
+pub by-table : {t : List ℕ} {test : ℕ → Bool} (kind : List ℕ → ℕ → Bool) → t ≡ classTable → kind classTable ≡ test → kind t ≡ test
+by-table kind e k = ap (λ (u : List ℕ). kind u) e ∙ k

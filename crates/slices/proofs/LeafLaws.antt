@@ -11,7 +11,7 @@ use lib.ListN.{length, drop, length-drop}
 use borrow.Author.Tests.{leb-true}
 use Rattle.rules.specs.Bytes.{within, space, upper, lead, starts}
 use Rattle.rules.proofs.HitLaws.{lead-length, starts-length}
-use Rattle.slices.specs.Classes.{inClass, classTable}
+use Rattle.slices.specs.Classes.{classTable, spaceIn, upperIn}
 use Rattle.rules.specs.Passes.{lowered}
 use Rattle.rules.proofs.BoolLaws.{and-right}
 use Rattle.slices.proofs.KindLaws.{by-table, space-table, upper-table}
@@ -21,29 +21,29 @@ abbrev pub dark : ℕ → Bool
 dark x = not (space x)
 
 module _ (t l : List ℕ) (e : t ≡ classTable) where
-  space-of : inClass t 5 7 ≡ space
-  space-of = by-table 5 7 e space-table
+  space-of : spaceIn t ≡ space
+  space-of = by-table spaceIn e space-table
 
-  pub spaces-of : lead (inClass t 5 7) l ≡ lead space l
+  pub spaces-of : lead (spaceIn t) l ≡ lead space l
   spaces-of = ap (λ (f : ℕ → Bool). lead f l) space-of
 
-  pub others-of : lead (λ x. not (inClass t 5 7 x)) l ≡ lead dark l
+  pub others-of : lead (λ x. not (spaceIn t x)) l ≡ lead dark l
   others-of = ap (λ (f : ℕ → Bool). lead (λ x. not (f x)) l) space-of
 
 -- ---- a byte in lower case
 module _ (t : List ℕ) (b : ℕ) (e : t ≡ classTable) where
-  upper-of : inClass t 10 10 b ≡ upper b
-  upper-of = ap (λ (f : ℕ → Bool). f b) (by-table 10 10 e upper-table)
+  upper-of : upperIn t b ≡ upper b
+  upper-of = ap (λ (f : ℕ → Bool). f b) (by-table upperIn e upper-table)
 
-  pub lower-yes : inClass t 10 10 b ≡ true → b + 32 ≡ lowered b
+  pub lower-yes : upperIn t b ≡ true → b + 32 ≡ lowered b
   unfolding lowered
   lower-yes h = rw (sym upper-of ∙ h)
 
-  pub lower-no : inClass t 10 10 b ≡ false → b ≡ lowered b
+  pub lower-no : upperIn t b ≡ false → b ≡ lowered b
   unfolding lowered
   lower-no h = rw (sym upper-of ∙ h)
 
-  pub upper-most : inClass t 10 10 b ≡ true → b ≤ 90
+  pub upper-most : upperIn t b ≡ true → b ≤ 90
   unfolding upper within
   upper-most h = leb-true b 90 (and-right (leb 65 b) (leb b 90) (sym upper-of ∙ h))
 

@@ -12,6 +12,29 @@ use Rattle.rules.specs.Class.{classOf}
 unfoldable pub inClass : List ℕ → ℕ → ℕ → ℕ → Bool
 inClass t lo hi x = within lo hi (getD t x 0)
 
+-- the ranges that the passes ask for, by a table that is lent
+abbrev pub droppedIn : List ℕ → ℕ → Bool
+droppedIn t = inClass t 1 2
+
+abbrev pub keptIn : List ℕ → ℕ → Bool
+keptIn t = inClass t 4 11
+
+abbrev pub spaceIn : List ℕ → ℕ → Bool
+spaceIn t = inClass t 5 7
+
+abbrev pub verticalIn : List ℕ → ℕ → Bool
+verticalIn t = inClass t 6 7
+
+abbrev pub upperIn : List ℕ → ℕ → Bool
+upperIn t = inClass t 10 10
+
+-- the digit 4, and the others
+abbrev pub fourIn : List ℕ → ℕ → Bool
+fourIn t = inClass t 4 4
+
+abbrev pub otherDigitIn : List ℕ → ℕ → Bool
+otherDigitIn t = inClass t 8 8
+
 -- the 256 classes
 unfoldable pub classTable : List ℕ
 classTable = tab 256 classOf

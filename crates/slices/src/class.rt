@@ -6,6 +6,43 @@ ghost use Rattle.slices.specs.Classes.{inClass, classTable};
 
 // 0 refused, 1 dropped, 2 the bar, 3 slashes, 4 the digit 4, 5 space and tab, 6 newline, 7 the other spaces, 8 the other digits,
 // 9 lower case, 10 upper case, 11 underscore, 12 quotes, 13 dash, 14 opening, 15 closing, 16 other punctuation.
+// What the passes ask for is a range of these, or one alone; specs/Classes.antt has the same by name.
+pub const DROPPED_LOW: u8 = 1;
+
+pub const DROPPED_HIGH: u8 = 2;
+
+pub const GAP_LOW: u8 = 2;
+
+pub const GAP_HIGH: u8 = 5;
+
+pub const KEPT_LOW: u8 = 4;
+
+pub const KEPT_HIGH: u8 = 11;
+
+pub const FOUR: u8 = 4;
+
+pub const SPACE_LOW: u8 = 5;
+
+pub const SPACE_HIGH: u8 = 7;
+
+pub const VERTICAL_LOW: u8 = 6;
+
+pub const VERTICAL_HIGH: u8 = 7;
+
+pub const OTHER_DIGIT: u8 = 8;
+
+pub const UPPER: u8 = 10;
+
+pub const UNDERSCORE: u8 = 11;
+
+pub const QUOTE: u8 = 12;
+
+pub const DASH: u8 = 13;
+
+pub const OPENING: u8 = 14;
+
+pub const CLOSING: u8 = 15;
+
 const CLASS: [u8; 256] = [
     1, // 0: controls
     1,
@@ -67,7 +104,6 @@ const CLASS: [u8; 256] = [
     8, // 9
     16, // :
     16, // ;
-
     1, // <
     1, // =
     1, // >

@@ -1,7 +1,8 @@
-// Reading leaves on lent slices, shared by everything above. No leaf asks anything of its caller.
+// Leaves on lent slices, shared by everything above: they read, copy and zero. A leaf that reads asks nothing of its caller.
 // From detection/preproc.rs of spdx 0.13.6 (Copyright 2018-2019 Amazon.com, Inc. or its affiliates. All Rights Reserved.
 // SPDX-License-Identifier: Apache-2.0), changed. Assumes nothing.
 pub mod class;
+pub mod copy;
 pub mod ends;
 pub mod lead;
 pub mod two;

@@ -1,64 +1,17 @@
--- The loop that copies, and the shape of the sorted list.
+-- The shape of the sorted list.
 -- Assumes nothing.
 use mathlib.Core.Path.{_≡_, refl, sym, ap, _∙_}
-use mathlib.Core.Logic.{_⊎_, inl, inr}
 use mathlib.Core.Bool.{Bool, true, false}
 use mathlib.Core.List.{List, _++_}
 use Prim.Native.Nat.{ℕ, zero, suc, _+_, _-_, _/_, _≤_, _<_}
-use native.Mathlib.Numerals.{add-one}
 use native.Mathlib.Omega.{arith}
 use lib.Dec.{ltb}
-use lib.ListN.{length, take, drop, set, getD, length-take, length-drop, take-append-drop}
-use lib.Seq.{slice, paste, paste-zero, paste-suc, length-paste, take-paste, drop-paste, getD-take, getD-drop, length-take-le, take-take}
+use lib.ListN.{length, take, drop, length-take, length-drop, take-append-drop}
+use lib.Seq.{slice, paste, length-paste, take-paste, drop-paste, length-take-le, take-take}
 use borrow.Author.Tests.{lt-ltb, le-ltb, ltb-true, ltb-false}
 use Rattle.sort_spread.specs.Sort.{merged, msorted}
-use Rattle.lists.proofs.SliceLaws.{part-slice, part-at, slice-back, drop-back, getD-back}
+use Rattle.lists.proofs.SliceLaws.{part-slice, part-at, slice-back, drop-back}
 use Rattle.lists.proofs.LentLaws.{paste-mid, paste-low, lent-low, lent-in, lent-high, lent-long}
-
--- ---- a copy to a place past its source
-
-pub record Copying (p₀ p : List ℕ) (from k to i : ℕ) : Type 0 where
-  pub apart : (from + k ≤ to) ⊎ (to + k ≤ from)
-  pub source : from + k ≤ length p₀
-  pub room : to + k ≤ length p₀
-  pub within : i ≤ k
-  pub now : p ≡ paste p₀ to (drop from p₀) i
-
-module _ {p₀ p : List ℕ} {from k to i : ℕ} (c : Copying p₀ p from k to i) where
-  copying-many : i ≤ length (drop from p₀)
-  copying-many = simp length-drop (omega (arith, c .source, c .within))
-
-  pub copying-long : length p ≡ length p₀
-  copying-long = ap length (c .now) ∙ length-paste p₀ to (drop from p₀) i (omega (arith, c .room, c .within)) copying-many
-
-  -- what is to be read is as it was: the copy lies past it, or below it
-  pub copying-read : i < k → getD p (from + i) 0 ≡ getD (drop from p₀) i 0
-  copying-read h = go (c .apart) ∙ sym (getD-drop from p₀ i 0)
-    where
-      go : (from + k ≤ to) ⊎ (to + k ≤ from) → getD p (from + i) 0 ≡ getD p₀ (from + i) 0
-      go (inl a) =
-          let l : from + i < to = omega arith in
-          let e : take to p ≡ take to p₀ = ap (take to) (c .now) ∙ paste-low p₀ to (drop from p₀) i (omega (arith, c .room)) copying-many to (omega arith) in
-          sym (getD-take to p (from + i) 0 l) ∙ rw e (getD-take to p₀ (from + i) 0 l)
-      go (inr a) =
-          let e : drop (to + i) p ≡ drop (to + i) p₀ = ap (drop (to + i)) (c .now) ∙ drop-paste p₀ to (drop from p₀) i (omega (arith, c .room)) copying-many in
-          getD-back (to + i) p p₀ e (from + i) (omega arith)
-
-  pub copying-next : i < k → Copying p₀ (set p (to + i) (getD p (from + i) 0)) from k to (i + 1)
-  copying-next h =
-      let l : i < length (drop from p₀) = simp length-drop (omega (arith, c .source)) in
-      let g : set p (to + i) (getD (drop from p₀) i 0) ≡ paste p₀ to (drop from p₀) (suc i) = ap (λ (x : List ℕ). set x (to + i) (getD (drop from p₀) i 0)) (c .now) ∙ paste-suc p₀ to (drop from p₀) i 0 (omega (arith, c .room)) l in
-      record { apart = c .apart; source = c .source; room = c .room; within = omega arith; now = rw (copying-read h, add-one) g }
-
-  pub copying-end : k ≤ i → p ≡ paste p₀ to (drop from p₀) k
-  copying-end h =
-      let e : i ≡ k = omega (arith, c .within) in
-      rw (← e) (c .now)
-
-pub copying-start : (p₀ : List ℕ) (from k to : ℕ) → (from + k ≤ to) ⊎ (to + k ≤ from) → from + k ≤ length p₀ → to + k ≤ length p₀ → Copying p₀ p₀ from k to 0
-copying-start p₀ from k to a s b = record { apart = a; source = s; room = b; within = omega arith; now = paste-zero p₀ to (drop from p₀) }
-
--- ---- the sorted list
 
 pick : {B : Type 0} (m n : ℕ) → (m < n → B) → (n ≤ m → B) → (b : Bool) → ltb m n ≡ b → B
 pick m n f g true e = f (ltb-true m n e)

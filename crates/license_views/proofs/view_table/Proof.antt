@@ -1,4 +1,3 @@
-
 use borrow.Author.Needs.{needs}
 use Rattle.license_views.proofs.ViewLaws.{table-fits, tabled, table-is, table-held}
 use Rattle.license_views.proofs.view_table.Statement.{statement}

@@ -1,6 +1,6 @@
 -- `ngram_body::put_entry` meets its contract: three runs of bytes, each behind the one before.
 -- Assumes nothing.
-use mathlib.Core.Path.{refl, _∙_}
+use mathlib.Core.Path.{_∙_}
 use native.Mathlib.Omega.{arith}
 use Rattle.ngram_body.proofs.BodyLaws.{part-most, part-inside, entry-put}
 use borrow.Author.Needs.{needs}
@@ -30,11 +30,11 @@ cast-write-u32 c =
 write-u32-requires-2 : tie.Need-write-u32-requires-2
 write-u32-requires-2 c κs = search needs
 
-add-put-bytes : tie.Need-add-put-bytes
-add-put-bytes c = search needs
+add-copy-to : tie.Need-add-copy-to
+add-copy-to c = search needs
 
-put-bytes-requires : tie.Need-put-bytes-requires
-put-bytes-requires c κs =
+copy-to-requires : tie.Need-copy-to-requires
+copy-to-requires c κs =
     let y = c .before .before .before in
     let x = y .before .before .before .before in
     let e = x .before .before in
@@ -44,15 +44,9 @@ put-bytes-requires c κs =
     let k = y .write-u322 .kept .0 in
     let l = x .write-u32 .kept .0 in
     let h = s .pre .1 in (
-      (λ t. rw q (part-inside (a .text .now) (a .a) (rw q at t))),
+      (λ t. omega (arith, part-inside (a .text .now) (a .a) (omega arith))),
       omega arith,
     )
-
-add-result : tie.Need-add-result
-add-result c = search needs
-
-add-result-2 : tie.Need-add-result-2
-add-result-2 c = search needs
 
 same-length : tie.Need-same-length
 same-length c = search needs
@@ -67,9 +61,9 @@ returns c =
     let a = s .args in
     let q = e .part-end .ensures in (
       omega arith,
-      z .put-bytes .ensures
+      z .copy-to .ensures .1
           ∙ rw (y .write-u322 .ensures, x .write-u32 .ensures)
-          (entry-put (a .text .now) (a .a) (a .count) (a .at) (e .part-end .result) _ (a .out .now) q refl (s .pre .1)),
+          (entry-put (a .text .now) (a .a) (a .count) (a .at) _ (a .out .now) (omega arith) (s .pre .1)),
     )
 
 pub put-entry-spec : {M : Type 1} → statement M
@@ -82,9 +76,7 @@ put-entry-spec =
     add-write-u32
     cast-write-u32
     write-u32-requires-2
-    add-put-bytes
-    put-bytes-requires
-    add-result
-    add-result-2
+    add-copy-to
+    copy-to-requires
     same-length
     returns)

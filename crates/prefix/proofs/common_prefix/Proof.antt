@@ -15,13 +15,13 @@ use Rattle.rules.specs.Table.{occurs}
 use Rattle.rules.specs.Search.{viewed}
 use Rattle.rules.proofs.PrefixLaws.{without-none}
 use Rattle.preproc_table.specs.Entries.{linesFrom, linesAt}
-use Rattle.preproc_table.proofs.EntryLaws.{lines-viewed, lines-length}
+use Rattle.preproc_table.proofs.EntryLaws.{lines-viewed, lines-length, apart-below}
 use Rattle.prefix_list.specs.declared.Listed.{Listed}
 use Rattle.prefix_list.specs.Listing.{plainLines, Stands}
 use Rattle.prefix_choice.specs.declared.Common.the-variants.{Prefix}
 use Rattle.prefix_choice.specs.Choice.{Decided}
 use Rattle.prefix.proofs.PlainLaws.{plain-prefixes, plain-viewed}
-use Rattle.prefix_choice.proofs.StandLaws.{stands-listed, stands-fits, stands-none, apart-same, view-same}
+use Rattle.prefix_choice.proofs.StandLaws.{stands-listed, stands-fits, stands-none, view-same}
 use borrow.Author.Needs.{needs}
 use Rattle.prefix.proofs.common_prefix.Statement.{statement}
 use Rattle.prefix.proofs.common_prefix.Tie as tie
@@ -188,7 +188,7 @@ home-requires c κs =
     let d = taken f in (
       (
         s .pre .0 .0,
-        apart-same (n x) (s .args .count) (area₀ x) (table₀ x) (area x) (last q) (s .pre .0 .1) (s .pre .0 .4) (stands x .area-low) (last-low q),
+        apart-below (s .args .count) (2 * n x + 2) (omega (arith, s .pre .0 .4)) (table₀ x) (last q) (sym (last-low q)) (n x) (4 * n x) (s .pre .0 .1),
         s .pre .0 .2,
         s .pre .0 .3,
         omega (arith, q .choose .kept .1 .0, table-room x, s .pre .0 .4),

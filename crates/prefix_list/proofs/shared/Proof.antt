@@ -8,7 +8,7 @@ use native.Mathlib.Omega.{arith}
 use denote.Ref.{now}
 use lib.ListN.{length, take, drop}
 use lib.Seq.{length-take-le}
-use Rattle.slices.specs.Classes.{inClass}
+use Rattle.slices.specs.Classes.{spaceIn}
 use Rattle.slices.proofs.KindLaws.{by-table, space-table}
 use Rattle.prefix_list.specs.Listing.{Shared}
 use Rattle.prefix_list.proofs.ShareLaws.{shared-short, shared-end, shared-there}
@@ -51,7 +51,7 @@ module _ (b : tie.After-bare) where
   known = b .before .before
 
   abbrev kind : ℕ → Bool
-  kind = inClass (now (start known .args .class)) 5 7
+  kind = spaceIn (now (start known .args .class))
 
   ends : (b .bare .result .start ≤ b .bare .result .end) × (from known .line-start .result + b .bare .result .end ≤ to known .line-end .result)
   ends =
@@ -67,7 +67,7 @@ module _ (b : tie.After-bare) where
       shared-there (area known) (table known) (start known .args .i) (from known .line-start .result) (to known .line-end .result) (next known .line-start2 .result)
       (stop known .line-end2 .result) (known .common-len .result) (from known .line-start .ensures) (to known .line-end .ensures) (next known .line-start2 .ensures)
       (stop known .line-end2 .ensures) (start known .pre .2) (known .common-len .ensures) (b .bare .result) kind (b .bare .ensures)
-      (by-table 5 7 (start known .pre .0) space-table)
+      (by-table spaceIn (start known .pre .0) space-table)
 
 line-start-requires : tie.Need-line-start-requires
 line-start-requires c κs = search needs

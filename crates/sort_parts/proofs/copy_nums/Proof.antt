@@ -3,18 +3,18 @@
 use Prim.Native.Nat.{_-_}
 use native.Mathlib.Omega.{arith}
 use borrow.Author.Needs.{needs}
-use Rattle.sort_spread.proofs.SortLaws.{Copying, copying-start, copying-next, copying-end, copying-long}
+use Rattle.lists.proofs.CopyLaws.{Copying, copying-start, copying-from, copying-room, copying-on, copying-end, copying-long}
 use Rattle.sort_parts.proofs.copy_nums.Statement.{statement}
 use Rattle.sort_parts.proofs.copy_nums.Tie as tie
 
 abbrev Inv-loop : tie.InvT-loop
-Inv-loop p₀ from k to i₀ p i = Copying p₀ p from k to i
+Inv-loop p₀ from k to i₀ p i = Copying p₀ p₀ p from k to i
 
 abbrev μ-loop : tie.MeasureT-loop
 μ-loop p₀ from k to i₀ p i = k - i
 
 loop-holds : tie.Need-loop-holds Inv-loop μ-loop
-loop-holds c = copying-start _ _ _ _ (c .pre .0) (omega arith) (omega arith)
+loop-holds c = copying-start _ _ _ _ _ (λ _. c .pre .1 .0) (c .pre .1 .1)
 
 add-p : tie.Need-add-p Inv-loop μ-loop
 add-p c = search needs
@@ -25,7 +25,7 @@ mul-p c = search needs
 slice-read-p : tie.Need-slice-read-p Inv-loop μ-loop
 slice-read-p c =
     let h = c .before .before .loop .inv in
-    omega (arith, copying-long h, h .source, h .room)
+    omega (arith, copying-long h, copying-from h (c .before .loop-test .taken))
 
 add-p-2 : tie.Need-add-p-2 Inv-loop μ-loop
 add-p-2 c = search needs
@@ -34,9 +34,7 @@ mul-p-2 : tie.Need-mul-p-2 Inv-loop μ-loop
 mul-p-2 c = search needs
 
 slice-write-p : tie.Need-slice-write-p Inv-loop μ-loop
-slice-write-p c =
-    let h = c .before .before .loop .inv in
-    omega (arith, copying-long h, h .source, h .room)
+slice-write-p c = copying-room (c .before .before .loop .inv) (c .before .loop-test .taken)
 
 add-i : tie.Need-add-i Inv-loop μ-loop
 add-i c = search needs
@@ -45,7 +43,7 @@ loop-less : tie.Need-loop-less Inv-loop μ-loop
 loop-less c = search needs
 
 loop-again : tie.Need-loop-again Inv-loop μ-loop
-loop-again c = copying-next (c .before .before .loop .inv) (c .before .loop-test .taken)
+loop-again c = copying-on (c .before .before .before .pre .0) (c .before .before .loop .inv) (c .before .loop-test .taken)
 
 same-length : tie.Need-same-length Inv-loop μ-loop
 same-length c = copying-long (c .before .loop .inv)

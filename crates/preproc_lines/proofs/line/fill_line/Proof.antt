@@ -4,6 +4,7 @@ use Prim.Native.Nat.{_-_}
 use native.Mathlib.Omega.{arith}
 use denote.Ref.{now}
 use lib.ListN.{length, drop, length-take, length-drop}
+use Rattle.slices.specs.Classes.{droppedIn, spaceIn}
 use Rattle.slices.proofs.KindLaws.{by-table, dropped-table, space-table}
 use Rattle.preproc_runs.proofs.PassLaws.{drops-as}
 use Rattle.preproc_lines.proofs.LineLaws.{kept-short, urls-room, urls-end-low, urls-end-high, filled}
@@ -17,8 +18,8 @@ blackbox-urls-requires c κs =
     let o = k .before .before .before .before in
     let s = now (o .args .src) in
     let to = o .args .to in
-    let two = drops-as (by-table 1 2 (o .pre .0) dropped-table) s (k .drop-into .ensures) in
-    (by-table 5 7 (o .pre .0) space-table, omega (arith, kept-short s to (o .pre .1) (omega arith) two), urls-room s to (o .pre .1) (omega arith) two)
+    let two = drops-as (by-table droppedIn (o .pre .0) dropped-table) s (k .drop-into .ensures) in
+    (by-table spaceIn (o .pre .0) space-table, omega (arith, kept-short s to (o .pre .1) (omega arith) two), urls-room s to (o .pre .1) (omega arith) two)
 
 sub-n3 : tie.Need-sub-n3
 sub-n3 c =
@@ -26,7 +27,7 @@ sub-n3 c =
     let o = k .before .before .before .before in
     let s = now (o .args .src) in
     let to = o .args .to in
-    let two = drops-as (by-table 1 2 (o .pre .0) dropped-table) s (k .drop-into .ensures) in
+    let two = drops-as (by-table droppedIn (o .pre .0) dropped-table) s (k .drop-into .ensures) in
     urls-end-low s to (o .pre .1) (omega arith) two (c .before .before .blackbox-urls .ensures)
 
 join-signs-requires : tie.Need-join-signs-requires
@@ -35,7 +36,7 @@ join-signs-requires c κs =
     let o = k .before .before .before .before in
     let s = now (o .args .src) in
     let to = o .args .to in
-    let two = drops-as (by-table 1 2 (o .pre .0) dropped-table) s (k .drop-into .ensures) in
+    let two = drops-as (by-table droppedIn (o .pre .0) dropped-table) s (k .drop-into .ensures) in
     let b = c .before .before .before .blackbox-urls in
     (o .pre .0, omega (arith, urls-end-high s to (o .pre .1) (omega arith) two (b .ensures), length-take (length (b .last .1 .0) - to) (drop to (b .last .1 .0)), length-drop to (b .last .1 .0)))
 
@@ -45,7 +46,7 @@ returns c =
     let o = k .before .before .before .before in
     let s = now (o .args .src) in
     let to = o .args .to in
-    let two = drops-as (by-table 1 2 (o .pre .0) dropped-table) s (k .drop-into .ensures) in
+    let two = drops-as (by-table droppedIn (o .pre .0) dropped-table) s (k .drop-into .ensures) in
     let b = c .before .before .before .before .before .before .blackbox-urls in
     filled s to (o .pre .1) (omega arith) two (b .ensures) _ _ (omega arith) (c .before .before .join-signs .ensures)
 

@@ -1,6 +1,7 @@
 -- `put_line`: passes 2 to 5, and the ends.
 -- Assumes nothing.
 use native.Mathlib.Omega.{arith}
+use Rattle.slices.specs.Classes.{spaceIn}
 use Rattle.slices.proofs.KindLaws.{by-table, space-table}
 use Rattle.preproc_lines.proofs.LineLaws.{bare-most, placed}
 use borrow.Author.Needs.{needs}
@@ -24,7 +25,7 @@ returns c =
     let b = c .before .before in
     let f = b .before .before .before .before .before in
     let o = f .before .before .before .before in
-    placed (f .fill-line .ensures) (b .bare .ensures) (by-table 5 7 (o .pre .0) space-table)
+    placed (f .fill-line .ensures) (b .bare .ensures) (by-table spaceIn (o .pre .0) space-table)
 
 pub put-line-spec : {M : Type 1} → statement M
 put-line-spec =

@@ -6,7 +6,7 @@ use lib.ListN.{take}
 use Rattle.lists.proofs.ChainLaws.{front-next}
 use Rattle.rules.specs.Bytes.{keep}
 use Rattle.rules.specs.Passes.{lowered}
-use Rattle.slices.specs.Classes.{inClass}
+use Rattle.slices.specs.Classes.{keptIn}
 use Rattle.preproc_view.proofs.RowLaws.{first-row}
 use borrow.Author.Needs.{needs}
 use Rattle.preproc_view.proofs.passes.first_passes.Statement.{statement}
@@ -19,7 +19,7 @@ returns c =
     let c1 = c2 .before .before .before .before in
     let o = c1 .before .before .before in
     let t = now (o .args .class) in
-    let f2 = front-next (keep (inClass t 4 11)) (c1 .cap-runs .ensures) (c2 .keep-in .ensures) in
+    let f2 = front-next (keep (keptIn t)) (c1 .cap-runs .ensures) (c2 .keep-in .ensures) in
     let f3 = front-next (map lowered) f2 (c3 .lower-in .ensures) in
     rw (first-row t (o .pre .0) (take (o .args .n) (now (o .args .buf)))) at f3
 

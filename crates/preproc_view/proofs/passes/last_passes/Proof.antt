@@ -7,7 +7,7 @@ use lib.ListN.{take}
 use lib.Seq.{length-take-le}
 use Rattle.lists.proofs.ChainLaws.{front-next}
 use Rattle.rules.specs.Bytes.{runs}
-use Rattle.slices.specs.Classes.{inClass}
+use Rattle.slices.specs.Classes.{spaceIn}
 use Rattle.preproc_view.proofs.RowLaws.{last-row}
 use borrow.Author.Needs.{needs}
 use Rattle.preproc_view.proofs.passes.last_passes.Statement.{statement}
@@ -22,7 +22,7 @@ returns c =
     let c6 = c7 .before .before .before .before in
     let o = c6 .before .before .before in
     let t = now (o .args .class) in
-    let f = front-next (runs (inClass t 5 7) 32 false) (c6 .without-copyright .ensures) (c7 .join-runs .ensures) in
+    let f = front-next (runs (spaceIn t) 32 false) (c6 .without-copyright .ensures) (c7 .join-runs .ensures) in
     last-row t (o .pre .0) (take (o .args .n) (now (o .args .buf))) f (c .bare .ensures)
 
 pub last-passes-spec : {M : Type 1} → statement M
