@@ -185,7 +185,7 @@ module _ {books : Shelf} {table : Table} {floor : Float} {budget : ℕ} {best : 
       }
 
   -- all are scored
-  pub walk-end : all ≤ spot .number → BestOf books table floor budget (chosen.Found best left)
+  pub walk-end : all ≤ spot .number → BestOf books table floor budget (chosen.Found best (record { count = left }))
   unfolding ChosenFor ChosenStands bestFrom
   walk-end l =
       record {
@@ -217,7 +217,7 @@ chosen-exact : (books : Shelf) (floor : Float) (r : Chosen) (o : Option (Paid ru
 unfolding ChosenFor chosenIn
 chosen-exact books floor chosen.Out o e p = sym p
 chosen-exact books floor (chosen.Found b left) o e p =
-    ap (λ (x : rules.Best). some (record { value = x; left = left })) (alike-lowest floor (bestIn books b) (p .0) e (p .1 .1)) ∙ sym (p .1 .0)
+    ap (λ (x : rules.Best). some (record { value = x; left = left .count })) (alike-lowest floor (bestIn books b) (p .0) e (p .1 .1)) ∙ sym (p .1 .0)
 
 pub best-exact : (n lines : ℕ) (area₀ words₀ area words : List ℕ) (v : View) (books : Shelf) (floor : Float) (budget : ℕ) (r : Chosen) → floor ≡ nought →
     BestAbove n lines area₀ words₀ area words v books floor budget r → BestDone n lines area₀ words₀ area words v books budget r

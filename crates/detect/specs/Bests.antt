@@ -28,7 +28,7 @@ bestIn books b = record { text = textIn books (b .text); value = b .value }
 -- out, or the best and what is left
 unfoldable pub chosenIn : Shelf → Chosen → Option (Paid rules.Best)
 chosenIn books Out = none
-chosenIn books (Found b left) = some (record { value = bestIn books b; left = left })
+chosenIn books (Found b left) = some (record { value = bestIn books b; left = left .count })
 
 -- it is one of the books' stored texts
 unfoldable pub ChosenStands : Shelf → Chosen → Type 0
@@ -57,7 +57,7 @@ pub data Alike (floor : Float) (b x : rules.Best) : Type 0 where
 -- out where it is not paid; otherwise the best, if it is not below the floor, and what is left
 unfoldable pub ChosenFor : Shelf → Float → Chosen → Option (Paid rules.Best) → Type 0
 ChosenFor books floor Out o = o ≡ none
-ChosenFor books floor (Found b left) o = (x : rules.Best) × ((o ≡ some (record { value = x; left = left })) × Alike floor (bestIn books b) x)
+ChosenFor books floor (Found b left) o = (x : rules.Best) × ((o ≡ some (record { value = x; left = left .count })) × Alike floor (bestIn books b) x)
 
 -- of a view with this table, as far as it is not below the floor
 pub record BestOf (books : Shelf) (table : Table) (floor : Float) (budget : ℕ) (r : Chosen) : Type 0 where

@@ -18,7 +18,9 @@ use detection_shelf::first_spot;
 use detection_shelf::next_on;
 use detection_texts::texts::Text;
 use floors::Floor;
+use license_charge::Scorings;
 use license_charge::charge;
+use license_charge::spent;
 use license_views::Viewed;
 use license_views::view_table;
 use rules::Value;
@@ -33,7 +35,7 @@ pub struct Best {
 // The budget is out, or the best and the scorings left.
 pub enum Chosen {
     Out,
-    Found(Best, u64),
+    Found(Best, Scorings),
 }
 
 pub fn no_best() -> Best
@@ -101,17 +103,17 @@ pub fn best_of<'a>(
     second: &'a [u8],
     texts: Counts,
     floor: f32,
-    budget: u64,
+    budget: Scorings,
 ) -> Chosen
     requires { ⌜ Tabled n (now area) (now words) t ⌝ }
     requires { ⌜ Counted (shelf (now book) (now second)) texts ⌝ }
-    ensures { λ r. ⌜ BestOf (shelf (now (book .entry)) (now (second .entry))) (tableOver (now (area .entry)) t) floor budget r ⌝ }
+    ensures { λ r. ⌜ BestOf (shelf (now (book .entry)) (now (second .entry))) (tableOver (now (area .entry)) t) floor (budget .count) r ⌝ }
 {
     let mut best = no_best();
     let mut left = budget;
     let mut spot = first_spot();
     while spot.number < texts.all {
-        if left == 0 {
+        if spent(left) {
             return Chosen::Out;
         }
         let text = next_on(book, second, texts, spot);
@@ -141,12 +143,12 @@ pub fn best_above<'a>(
     second: &'a [u8],
     texts: Counts,
     floor: f32,
-    budget: u64,
+    budget: Scorings,
 ) -> Chosen
     requires { ⌜ (now class ≡ classTable) × Laid n lines (now area) (now words) ⌝ }
     requires { ⌜ (v .start ≤ v .end) × (v .end ≤ lines) ⌝ }
     requires { ⌜ Counted (shelf (now book) (now second)) texts ⌝ }
-    ensures { λ r. ⌜ BestAbove n lines (now (area .entry)) (now (words .entry)) (now (area .exit)) (now (words .exit)) v (shelf (now (book .entry)) (now (second .entry))) floor budget r ⌝ }
+    ensures { λ r. ⌜ BestAbove n lines (now (area .entry)) (now (words .entry)) (now (area .exit)) (now (words .exit)) v (shelf (now (book .entry)) (now (second .entry))) floor (budget .count) r ⌝ }
 {
     let t = view_table(class, area, words, n, lines, v);
     best_of(area, words, n, t, book, second, texts, floor, budget)
@@ -163,12 +165,12 @@ pub fn best_text<'a>(
     book: &'a [u8],
     second: &'a [u8],
     texts: Counts,
-    budget: u64,
+    budget: Scorings,
 ) -> Chosen
     requires { ⌜ (now class ≡ classTable) × Laid n lines (now area) (now words) ⌝ }
     requires { ⌜ (v .start ≤ v .end) × (v .end ≤ lines) ⌝ }
     requires { ⌜ Counted (shelf (now book) (now second)) texts ⌝ }
-    ensures { λ r. ⌜ BestDone n lines (now (area .entry)) (now (words .entry)) (now (area .exit)) (now (words .exit)) v (shelf (now (book .entry)) (now (second .entry))) budget r ⌝ }
+    ensures { λ r. ⌜ BestDone n lines (now (area .entry)) (now (words .entry)) (now (area .exit)) (now (words .exit)) v (shelf (now (book .entry)) (now (second .entry))) (budget .count) r ⌝ }
 {
     best_above(
         class,

@@ -16,6 +16,7 @@ use Rattle.rules.specs.Search.{Made, Stored, _>>=_, done, search, bounds}
 use Rattle.rules.proofs.Steps.{search-in}
 use Rattle.license_bounds.specs.declared.Searched.the-variants as searched
 use Rattle.license_bounds.specs.declared.Ranged.the-variants as ranged
+use Rattle.license_charge.specs.declared.Scorings.{Scorings}
 use Rattle.license_charge.specs.Pay.{Paid, pay}
 use Rattle.license_bounds.specs.Found.{searchedOf, rangedOf}
 use Rattle.license_bounds.specs.Ready.{scoreAt, viewAt}
@@ -27,12 +28,12 @@ unfolding searchedOf
 out-of none e = refl
 out-of (some p) e = absurd (let z : _≡_ {A = ℕ} 0 1 = cc in omega arith)
 
-found-of : (o : Option (Paid Index)) (x : Index) (left : ℕ) → searched.Found x left ≡ searchedOf o → o ≡ some (record { value = x; left = left })
+found-of : (o : Option (Paid Index)) (x : Index) (left : Scorings) → searched.Found x left ≡ searchedOf o → o ≡ some (record { value = x; left = left .count })
 unfolding searchedOf
 found-of none x left e = absurd (let z : _≡_ {A = ℕ} 0 1 = cc in omega arith)
 found-of (some p) x left e =
     let v : p .value ≡ x = cc in
-    let l : p .left ≡ left = cc in
+    let l : p .left ≡ left .count = cc in
     simp (sym v, sym l)
 
 -- ---- the index found
@@ -50,7 +51,7 @@ paid-value m b p e = at (leb (length (m .list)) b) refl
         let e′ = rw q at e in
         absurd (let z : _≡_ {A = ℕ} 0 1 = cc in omega arith)
 
-pub found-in : (F : ℕ → Made Value) (l r b : ℕ) (x : Index) (left : ℕ) → l ≤ r → searched.Found x left ≡ searchedOf (pay (search F l r) b) →
+pub found-in : (F : ℕ → Made Value) (l r b : ℕ) (x : Index) (left : Scorings) → l ≤ r → searched.Found x left ≡ searchedOf (pay (search F l r) b) →
     (l ≤ x .at) × (x .at ≤ r)
 found-in F l r b x left h e =
     let v = paid-value (search F l r) b _ (found-of (pay (search F l r) b) x left e) in
@@ -82,24 +83,24 @@ module _ (ls : List (List ℕ)) (v : View) (s : Stored) (b : ℕ) where
   unfolding andThen rangedOf
   no-end o = sym (ap rangedOf (paid-bounds ∙ ap (λ (p : Option (Paid Index)). andThen p (λ e l. pay (second e) l)) (out-of (pay ends b) o)))
 
-  module _ (e : Index) (left : ℕ) (found : searched.Found e left ≡ searchedOf (pay ends b)) where
-    on : pay (bounds ls v s) b ≡ andThen (pay (starts (e .at)) left) (λ a k. pay (done (both (e .at) a)) k)
+  module _ (e : Index) (left : Scorings) (found : searched.Found e left ≡ searchedOf (pay ends b)) where
+    on : pay (bounds ls v s) b ≡ andThen (pay (starts (e .at)) (left .count)) (λ a k. pay (done (both (e .at) a)) k)
     unfolding andThen
-    on = paid-bounds ∙ ap (λ (p : Option (Paid Index)). andThen p (λ e l. pay (second e) l)) (found-of (pay ends b) e left found) ∙ paid-second e left
+    on = paid-bounds ∙ ap (λ (p : Option (Paid Index)). andThen p (λ e l. pay (second e) l)) (found-of (pay ends b) e left found) ∙ paid-second e (left .count)
 
-    pub no-start : searched.Out ≡ searchedOf (pay (starts (e .at)) left) → ranged.Out ≡ rangedOf (pay (bounds ls v s) b)
+    pub no-start : searched.Out ≡ searchedOf (pay (starts (e .at)) (left .count)) → ranged.Out ≡ rangedOf (pay (bounds ls v s) b)
     unfolding andThen rangedOf
     no-start o =
         sym
         (ap rangedOf
-        (on ∙ ap (λ (p : Option (Paid Index)). andThen p (λ a k. pay (done (both (e .at) a)) k)) (out-of (pay (starts (e .at)) left) o)))
+        (on ∙ ap (λ (p : Option (Paid Index)). andThen p (λ a k. pay (done (both (e .at) a)) k)) (out-of (pay (starts (e .at)) (left .count)) o)))
 
-    pub both-found : (a : Index) (rest : ℕ) → searched.Found a rest ≡ searchedOf (pay (starts (e .at)) left) →
+    pub both-found : (a : Index) (rest : Scorings) → searched.Found a rest ≡ searchedOf (pay (starts (e .at)) (left .count)) →
         ranged.Found (both (e .at) a) rest ≡ rangedOf (pay (bounds ls v s) b)
     unfolding andThen rangedOf
     both-found a rest o =
         sym
         (ap rangedOf
         (on ∙
-        ap (λ (p : Option (Paid Index)). andThen p (λ a k. pay (done (both (e .at) a)) k)) (found-of (pay (starts (e .at)) left) a rest o) ∙
-        pay-done (both (e .at) a) rest))
+        ap (λ (p : Option (Paid Index)). andThen p (λ a k. pay (done (both (e .at) a)) k)) (found-of (pay (starts (e .at)) (left .count)) a rest o) ∙
+        pay-done (both (e .at) a) (rest .count)))

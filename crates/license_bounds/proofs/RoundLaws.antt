@@ -13,6 +13,7 @@ use Rattle.rules.specs.declared.Value.{Value}
 use Rattle.rules.specs.Search.{Made, Span, Stored, higher, sweepFrom, sweep, search}
 use Rattle.license_bounds.specs.declared.Searched.{Searched}
 use Rattle.license_bounds.specs.declared.Searched.the-variants as searched
+use Rattle.license_charge.specs.declared.Scorings.{Scorings}
 use Rattle.license_charge.specs.Pay.{Paid, pay}
 use Rattle.license_bounds.specs.Found.{searchedOf}
 use Rattle.license_bounds.specs.Ready.{scoreAt}
@@ -46,6 +47,16 @@ pub found-same : {ls ls₀ : List (List ℕ)} → ls ≡ ls₀ → (s : Stored) 
     x ≡ searchedOf (pay (run (scoreAt ls s ends fixed)) left) → x ≡ searchedOf (pay (run (scoreAt ls₀ s ends fixed)) left)
 found-same same s ends fixed run left e = e ∙ ap (λ (l : List (List ℕ)). searchedOf (pay (run (scoreAt l s ends fixed)) left)) same
 
+-- a round of the search in [l, r] that pays its two scorings, x and y
+pub record Paired (F : ℕ → Made Value) (l r left one two : ℕ) (x y : Value) : Type 0 where
+  pub far : 3 < r - l
+  pub paid : 0 < left
+  pub one-less : one ≡ left - 1
+  pub paid-again : 0 < one
+  pub two-less : two ≡ one - 1
+  pub at-low : x ≡ F ((2 * l + r) / 3) .value
+  pub at-high : y ≡ F ((l + 2 * r) / 3) .value
+
 -- F scores an index; `all` stands for the whole run, paid from the whole budget
 module _ (F : ℕ → Made Value) (once : (i : ℕ) → length (F i .list) ≡ 1) where
   -- ---- the sweep
@@ -56,10 +67,10 @@ module _ (F : ℕ → Made Value) (once : (i : ℕ) → length (F i .list) ≡ 1
       let nought = ap (λ (n : ℕ). pay (sweepFrom F (to + 1 - i) i b) n) z in
       sym (ap searchedOf (sym e ∙ nought ∙ sweep-none F once to i b h))
 
-  pub sweep-ends : {all : Option (Paid Index)} (to i left : ℕ) (b : Index) → to < i →
-      pay (sweepFrom F (to + 1 - i) i b) left ≡ all → searched.Found b left ≡ searchedOf all
+  pub sweep-ends : {all : Option (Paid Index)} (to i : ℕ) (left : Scorings) (b : Index) → to < i →
+      pay (sweepFrom F (to + 1 - i) i b) (left .count) ≡ all → searched.Found b left ≡ searchedOf all
   unfolding searchedOf
-  sweep-ends to i left b h e = sym (ap searchedOf (sym e ∙ sweep-end F once to i left b h))
+  sweep-ends to i left b h e = sym (ap searchedOf (sym e ∙ sweep-end F once to i (left .count) b h))
 
   pub sweep-round : (to i left left′ : ℕ) (b b′ : Index) (v : Value) → i ≤ to → 0 < left →
       v ≡ F i .value → left′ ≡ left - 1 → b′ ≡ higher b (record { at = i; value = v }) →
@@ -93,18 +104,17 @@ module _ (F : ℕ → Made Value) (once : (i : ℕ) → length (F i .list) ≡ 1
     unfolding searchedOf
     search-stops-one left′ h k e z a = sym (ap searchedOf (sym a ∙ search-one F once l r left h k (sym e ∙ z)))
 
-    -- one round: the two scorings x and y, paid
-    module _ (one two : ℕ) (x y : Value) (far : 3 < r - l) (paid : 0 < left) (e₁ : one ≡ left - 1) (again : 0 < one) (e₂ : two ≡ one - 1)
-        (ex : x ≡ F ((2 * l + r) / 3) .value) (ey : y ≡ F ((l + 2 * r) / 3) .value) where
+    -- one round
+    module _ {one two : ℕ} {x y : Value} (p : Paired F l r left one two x y) where
       rest : two ≡ left - 1 - 1
-      rest = e₂ ∙ ap (λ (n : ℕ). n - 1) e₁
+      rest = p .two-less ∙ ap (λ (n : ℕ). n - 1) (p .one-less)
 
       pub search-left : lt (y .score) (x .score) ≡ true → pay (search F l ((l + 2 * r) / 3 - 1)) two ≡ pay (search F l r) left
       search-left t =
-          let q = rw (ex, ey) at t in
-          simp rest (sym (rw q at (search-two F once l r left far paid (omega arith))))
+          let q = rw (p .at-low, p .at-high) at t in
+          simp rest (sym (rw q at (search-two F once l r left (p .far) (p .paid) (omega arith))))
 
       pub search-right : lt (y .score) (x .score) ≡ false → pay (search F ((2 * l + r) / 3 + 1) r) two ≡ pay (search F l r) left
       search-right t =
-          let q = rw (ex, ey) at t in
-          simp rest (sym (rw q at (search-two F once l r left far paid (omega arith))))
+          let q = rw (p .at-low, p .at-high) at t in
+          simp rest (sym (rw q at (search-two F once l r left (p .far) (p .paid) (omega arith))))

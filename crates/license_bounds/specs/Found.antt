@@ -21,11 +21,11 @@ use Rattle.license_bounds.specs.declared.Ranged.the-variants as ranged
 -- what the code's answers say, case by case
 unfoldable pub searchedOf : Option (Paid Index) → Searched
 searchedOf none = searched.Out
-searchedOf (some p) = searched.Found (p .value) (p .left)
+searchedOf (some p) = searched.Found (p .value) (record { count = p .left })
 
 unfoldable pub rangedOf : Option (Paid Bounds) → Ranged
 rangedOf none = ranged.Out
-rangedOf (some p) = ranged.Found (p .value) (p .left)
+rangedOf (some p) = ranged.Found (p .value) (record { count = p .left })
 
 -- the indexes from l to r can be scored
 pub record Sought (task : Task) (class area words body : List ℕ) (l r : ℕ) : Type 0 where

@@ -8,7 +8,9 @@ ghost use Rattle.preproc_table.specs.Entries.{linesAt};
 ghost use Rattle.license_bounds.specs.Ready.{Working, Spans, Kept, OfBody, scoreAt, viewAt};
 ghost use Rattle.license_bounds.specs.Found.{Sought, Yields, Bounded};
 use license_charge::Charged;
+use license_charge::Scorings;
 use license_charge::charge_exact;
+use license_charge::spent;
 use license_views::view_table;
 use rules::Bounds;
 use rules::Index;
@@ -17,13 +19,13 @@ use rules::View;
 // What a search that charges each scoring yields: the budget is out, or the index found and the scorings left.
 pub enum Searched {
     Out,
-    Found(Index, u64),
+    Found(Index, Scorings),
 }
 
 // The same of bounds.
 pub enum Ranged {
     Out,
-    Found(Bounds, u64),
+    Found(Bounds, Scorings),
 }
 
 // A search over one bound of a view: the note's bytes and lines, which bound moves, and where the other stands.
@@ -42,13 +44,13 @@ fn score_index(
     task: Task,
     body: &[u8],
     i: usize,
-    left: u64,
+    left: Scorings,
 ) -> Charged
     requires { ⌜ Working (task .n) (task .lines) (now class) (now area) (now words) (now body) ⌝ }
     requires { ⌜ Spans (task .lines) (task .ends) (task .fixed) i i ⌝ }
-    requires { ⌜ 0 < left ⌝ }
+    requires { ⌜ 0 < left .count ⌝ }
     ensures value { λ r. ⌜ OfBody (now (body .entry)) (λ s. r .value ≡ scoreAt (linesAt (now (area .entry)) (now (words .entry)) (task .lines)) s (task .ends) (task .fixed) i .value) ⌝ }
-    ensures left { λ r. ⌜ r .left ≡ left - 1 ⌝ }
+    ensures left { λ r. ⌜ r .left .count ≡ left .count - 1 ⌝ }
     ensures kept { λ r. ⌜ Kept (task .n) (task .lines) (now (class .entry)) (now (area .entry)) (now (words .entry)) (now (area .exit)) (now (words .exit)) (now (body .entry)) ⌝ }
 {
     let v = view_of(task.ends, task.fixed, i);
@@ -78,17 +80,17 @@ fn sweep_from(
     from: usize,
     to: usize,
     highest: Index,
-    budget: u64,
+    budget: Scorings,
 ) -> Searched
     requires { ⌜ Sought task (now class) (now area) (now words) (now body) from to ⌝ }
     requires { ⌜ from ≤ to + 1 ⌝ }
-    ensures { λ r. ⌜ Yields task (now (class .entry)) (now (area .entry)) (now (words .entry)) (now (area .exit)) (now (words .exit)) (now (body .entry)) (λ f. sweepFrom f (to + 1 - from) from highest) budget r ⌝ }
+    ensures { λ r. ⌜ Yields task (now (class .entry)) (now (area .entry)) (now (words .entry)) (now (area .exit)) (now (words .exit)) (now (body .entry)) (λ f. sweepFrom f (to + 1 - from) from highest) (budget .count) r ⌝ }
 {
     let mut best = highest;
     let mut left = budget;
     let mut i = from;
     while i <= to {
-        if left == 0 {
+        if spent(left) {
             return Searched::Out;
         }
         let next = score_index(class, area, words, task, body, i, left);
@@ -109,13 +111,13 @@ fn sweep_all(
     body: &[u8],
     from: usize,
     to: usize,
-    budget: u64,
+    budget: Scorings,
 ) -> Searched
     requires { ⌜ Sought task (now class) (now area) (now words) (now body) from to ⌝ }
     requires { ⌜ from ≤ to ⌝ }
-    ensures { λ r. ⌜ Yields task (now (class .entry)) (now (area .entry)) (now (words .entry)) (now (area .exit)) (now (words .exit)) (now (body .entry)) (λ f. sweep f (record { left = from; right = to })) budget r ⌝ }
+    ensures { λ r. ⌜ Yields task (now (class .entry)) (now (area .entry)) (now (words .entry)) (now (area .exit)) (now (words .exit)) (now (body .entry)) (λ f. sweep f (record { left = from; right = to })) (budget .count) r ⌝ }
 {
-    if budget == 0 {
+    if spent(budget) {
         return Searched::Out;
     }
     let first = score_index(class, area, words, task, body, from, budget);
@@ -142,11 +144,11 @@ pub fn search_bound(
     body: &[u8],
     from: usize,
     to: usize,
-    budget: u64,
+    budget: Scorings,
 ) -> Searched
     requires { ⌜ Sought task (now class) (now area) (now words) (now body) from to ⌝ }
     requires { ⌜ from ≤ to ⌝ }
-    ensures { λ r. ⌜ Yields task (now (class .entry)) (now (area .entry)) (now (words .entry)) (now (area .exit)) (now (words .exit)) (now (body .entry)) (λ f. search f from to) budget r ⌝ }
+    ensures { λ r. ⌜ Yields task (now (class .entry)) (now (area .entry)) (now (words .entry)) (now (area .exit)) (now (words .exit)) (now (body .entry)) (λ f. search f from to) (budget .count) r ⌝ }
 {
     let mut l = from;
     let mut r = to;
@@ -154,12 +156,12 @@ pub fn search_bound(
     while 3 < r - l {
         let low = (2 * l + r) / 3;
         let high = (l + 2 * r) / 3;
-        if left == 0 {
+        if spent(left) {
             return Searched::Out;
         }
         let a = score_index(class, area, words, task, body, low, left);
         left = a.left;
-        if left == 0 {
+        if spent(left) {
             return Searched::Out;
         }
         let b = score_index(class, area, words, task, body, high, left);
@@ -194,11 +196,11 @@ pub fn find_bounds(
     lines: usize,
     v: View,
     body: &[u8],
-    budget: u64,
+    budget: Scorings,
 ) -> Ranged
     requires { ⌜ Working n lines (now class) (now area) (now words) (now body) ⌝ }
     requires { ⌜ (v .start ≤ v .end) × (v .end ≤ lines) × (lines < 65538) ⌝ }
-    ensures { λ r. ⌜ Bounded n lines (now (class .entry)) (now (area .entry)) (now (words .entry)) (now (area .exit)) (now (words .exit)) (now (body .entry)) v budget r ⌝ }
+    ensures { λ r. ⌜ Bounded n lines (now (class .entry)) (now (area .entry)) (now (words .entry)) (now (area .exit)) (now (words .exit)) (now (body .entry)) v (budget .count) r ⌝ }
 {
     let start = v.start;
     let end = v.end;

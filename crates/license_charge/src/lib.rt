@@ -7,6 +7,7 @@ ghost use Prim.Native.Nat.{_-_, _<_};
 ghost use Rattle.rules.specs.Table.{valueOf};
 ghost use Rattle.rules.specs.Book.{soundTable, entriesOf};
 ghost use Rattle.floors.specs.Floors.{Judged};
+ghost use Rattle.license_charge.specs.Pay.{Spent};
 ghost use Rattle.license_views.specs.Tabled.{Tabled, tableOver};
 ghost use Rattle.detection_shelf.specs.Bodies.{tableOfBody};
 use floors::Floor;
@@ -16,10 +17,37 @@ use ngram_meet::scoring;
 use ngram_table::TableSize;
 use rules::Value;
 
+// The scorings that a budget still pays. Its number is private: only this crate makes one, of a whole budget where a job begins, and one less at
+// each scoring. So code elsewhere cannot add to what is left; that it hands on no older one, which it could still hold, is in its contract.
+pub struct Scorings {
+    count: u64,
+}
+
+// All that a budget pays: made once, by the job.
+pub fn scorings_of(budget: u64) -> Scorings
+    ensures { λ r. ⌜ r ≡ record { count = budget } ⌝ }
+{
+    Scorings { count: budget }
+}
+
+// Whether none is left.
+pub fn spent(left: Scorings) -> bool
+    ensures { λ r. ⌜ Spent left r ⌝ }
+{
+    left.count == 0
+}
+
+// How many are left, for an answer: nothing is charged to a number.
+pub fn count_of(left: Scorings) -> u64
+    ensures { λ r. ⌜ r ≡ left .count ⌝ }
+{
+    left.count
+}
+
 // One scoring: what it yields, and the scorings left.
 pub struct Charged {
     pub value: Value,
-    pub left: u64,
+    pub left: Scorings,
 }
 
 // The one place where a scoring is made: it takes one of the scorings left, also where it ends early since the floor cannot be beaten.
@@ -30,13 +58,13 @@ pub fn charge(
     t: Viewed,
     body: &[u8],
     floor: Floor,
-    left: u64,
+    left: Scorings,
 ) -> Charged
     requires { ⌜ Tabled n (now area) (now words) t ⌝ }
     requires { ⌜ soundTable (now body) (entriesOf (now body)) ≡ true ⌝ }
-    requires { ⌜ 0 < left ⌝ }
+    requires { ⌜ 0 < left .count ⌝ }
     ensures value { λ r. ⌜ Judged floor (valueOf (tableOver (now (area .entry)) t) (tableOfBody (now (body .entry)))) (r .value) ⌝ }
-    ensures left { λ r. ⌜ r .left ≡ left - 1 ⌝ }
+    ensures left { λ r. ⌜ r .left .count ≡ left .count - 1 ⌝ }
 {
     let start = t.start;
     let end = t.end;
@@ -46,9 +74,10 @@ pub fn charge(
         distinct: t.distinct,
     };
     let value = scoring(&area[start..end], &words[from..], size, body, floor);
+    let count = left.count - 1;
     Charged {
         value,
-        left: left - 1,
+        left: Scorings { count },
     }
 }
 
@@ -59,13 +88,13 @@ pub fn charge_exact(
     n: usize,
     t: Viewed,
     body: &[u8],
-    left: u64,
+    left: Scorings,
 ) -> Charged
     requires { ⌜ Tabled n (now area) (now words) t ⌝ }
     requires { ⌜ soundTable (now body) (entriesOf (now body)) ≡ true ⌝ }
-    requires { ⌜ 0 < left ⌝ }
+    requires { ⌜ 0 < left .count ⌝ }
     ensures value { λ r. ⌜ r .value ≡ valueOf (tableOver (now (area .entry)) t) (tableOfBody (now (body .entry))) ⌝ }
-    ensures left { λ r. ⌜ r .left ≡ left - 1 ⌝ }
+    ensures left { λ r. ⌜ r .left .count ≡ left .count - 1 ⌝ }
 {
     charge(area, words, n, t, body, lowest(), left)
 }

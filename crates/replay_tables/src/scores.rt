@@ -11,6 +11,7 @@ ghost use Rattle.slices.specs.Classes.{classTable};
 ghost use Rattle.detection_shelf.specs.Bodies.{tableOfBody};
 ghost use Rattle.replay_tables.specs.Told.{bitsTold, scoreOver};
 use license_charge::charge_exact;
+use license_charge::scorings_of;
 use license_notes::lay;
 use license_views::view_table;
 use questions::hex::put_byte;
@@ -48,6 +49,6 @@ pub fn answer_view(
     let n = text.len();
     let lines = lay(class, text, area, words);
     let t = view_table(class, area, words, n, lines, View { start, end });
-    let charged = charge_exact(area, words, n, t, body, 1);
+    let charged = charge_exact(area, words, n, t, body, scorings_of(1));
     put_score(charged.value.score, out)
 }

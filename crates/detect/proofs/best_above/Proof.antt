@@ -5,6 +5,11 @@ use Rattle.detect.proofs.BestLaws.{best-above}
 use Rattle.detect.proofs.best_above.Statement.{statement}
 use Rattle.detect.proofs.best_above.Tie as tie
 
+-- the table, behind the areas that come back
+module _ (w : tie.After-words) where
+  abbrev tabled : tie.After-view-table
+  tabled = w .before .before .before
+
 view-table-requires : tie.Need-view-table-requires
 view-table-requires c κs = search needs
 
@@ -19,7 +24,7 @@ same-length-2 c = search needs
 
 returns : tie.Need-returns
 returns c =
-    let t = c .before .before .before .before .before .before .before .view-table .ensures in
+    let t = tabled (c .before .before .before .before) .view-table .ensures in
     best-above _ _ _ _ _ _ _ _ _ _ _ _ (c .best-of .ensures) (t .1 .0) (t .1 .1)
 
 pub best-above-spec : {M : Type 1} → statement M

@@ -1,4 +1,5 @@
-
+-- `license_bounds::higher_of` meets its contract, arm by arm.
+-- Assumes nothing.
 use Rattle.rules.specs.Search.{higher}
 use Rattle.license_bounds.proofs.higher_of.Statement.{statement}
 use Rattle.license_bounds.proofs.higher_of.Tie as tie

@@ -1,4 +1,5 @@
-
+-- `license_bounds::view_of` meets its contract, arm by arm.
+-- Assumes nothing.
 use Rattle.license_bounds.specs.Ready.{viewAt}
 use Rattle.license_bounds.proofs.view_of.Statement.{statement}
 use Rattle.license_bounds.proofs.view_of.Tie as tie

@@ -6,6 +6,11 @@ use Rattle.license_charge.proofs.ChargeLaws.{chargeable, charged}
 use Rattle.license_charge.proofs.charge.Statement.{statement}
 use Rattle.license_charge.proofs.charge.Tie as tie
 
+-- the start, behind the part of the bytes that is lent
+module _ (lent : tie.After-scoring-arg) where
+  abbrev start : tie.Start
+  start = lent .before .before .before .before
+
 mul-from : tie.Need-mul-from
 mul-from c = search needs
 
@@ -35,17 +40,17 @@ part-scoring-end-2 c = search needs
 
 scoring-requires : tie.Need-scoring-requires
 scoring-requires c κs =
-    let s = c .before .before .before .before .before in
+    let s = start (c .before) in
     let r = chargeable _ _ _ _ (s .pre .0) in
     (r .sizes, (r .stands, s .pre .1 .0))
 
-sub-t22 : tie.Need-sub-t22
-sub-t22 c = search needs
+sub-count : tie.Need-sub-count
+sub-count c = search needs
 
 returns : tie.Need-returns
 returns c =
-    let s = c .before .before .before .before .before .before in
-    (charged _ _ (s .args .t) _ _ (c .scoring .ensures), refl)
+    let scored = c .before in
+    (charged _ _ (start (scored .before .before) .args .t) _ _ (scored .scoring .ensures), refl)
 
 pub charge-spec : {M : Type 1} → statement M
 charge-spec =
@@ -61,5 +66,5 @@ charge-spec =
     part-scoring-start-2
     part-scoring-end-2
     scoring-requires
-    sub-t22
+    sub-count
     returns)
