@@ -4,6 +4,7 @@
 --     count-exact                       the count is the number of scorings that the budget pays of the definition's list
 --     elimination-most, topDown-most    the two limits on the count, whatever is refused
 --     count-fits                        the count is below 2^64, of one or two books and passes of 16 bits, whatever the budget
+--     all-paid, only-paid               0 comes exactly where nothing is refused before any work and the budget pays the list
 --     over-budget, only-over            12 comes exactly where nothing is refused before any work and the list is longer than the budget
 --     over-counts                       the count is then the budget
 --     recorded-stays, recorded-first    the records that it has written are the first of the full scan's
@@ -39,7 +40,7 @@ use Rattle.rules.proofs.ShelfLaws.{shelved-sound, shelved-most}
 use Rattle.rules.proofs.GrowthLaws.{scoring-t}
 use Rattle.rules.proofs.NameLaws.{answer-lies, answer-named, answer-length}
 use Rattle.rules.proofs.BudgetLaws.{afford-all, records-begins}
-use Rattle.rules.proofs.RefusalLaws.{lines-count, scan-over, scan-only, scan-zero, scan-count, scan-within, scan-happened}
+use Rattle.rules.proofs.RefusalLaws.{lines-count, scan-over, scan-paid, scan-only, scan-zero, scan-count, scan-within, scan-happened}
 use Rattle.rules.proofs.ScanCountLaws.{elimination-count, topDown-count, elimination-fits, topDown-fits}
 use Rattle.detection_shelf.specs.Shelves.{fitting}
 use Rattle.detection_shelf.proofs.ShelfLaws.{part-fits}
@@ -82,6 +83,9 @@ module _ {t : List ℕ} {bs : List (List ℕ)} {lim : Limits} {mode : Mode} {bud
   recorded-first = records-begins budget full
 
   -- ---- where 0 is answered
+  pub all-paid : before ≡ 0 → length (scorings full) ≤ budget → a .refusal ≡ 0
+  all-paid z l = number ∙ scan-paid t bs lim mode (lent b₀ w₀) (length r₀) budget z l
+
   pub only-paid : a .refusal ≡ 0 → (before ≡ 0) × (length (scorings full) ≤ budget)
   only-paid e = scan-zero t bs lim mode (lent b₀ w₀) (length r₀) budget (sym number ∙ e)
 
