@@ -7,6 +7,10 @@ use Rattle.rules.specs.Table.{nought}
 use Rattle.license_bounds.specs.declared.Ranged.{Ranged}
 use Rattle.license_bounds.specs.declared.Ranged.the-variants.{Out, Found}
 
+-- the scorings that pay every search: the code's `BOUNDS_MOST`
+abbrev pub boundsMost : ℕ
+boundsMost = 104
+
 abbrev pub refusedBy : ℕ → Bounded
 refusedBy n = record { refusal = n; first = 0; after = 0; score = nought; count = 0 }
 

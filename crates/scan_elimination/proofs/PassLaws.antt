@@ -2,8 +2,8 @@
 --     Passing                           the passes still to come, paid from what is left, are all passes paid from the budget
 --     pass-first                        before the first pass
 --     pass-out, pass-below              bounds that are not paid, or too low
---     pass-found, pass-again            past a record, and past the best of what is left
---     pass-out-again, pass-end          a best that is not paid; no pass left
+--     pass-again, pass-out-again        past a record: the best of what is left, and where it is not paid
+--     pass-end                          no pass left
 -- Assumes nothing.
 use mathlib.Core.Path.{_≡_, refl, sym, ap, _∙_, subst}
 use mathlib.Core.Bool.{true, false, cond}
@@ -184,21 +184,21 @@ module _ {scope : Scope} {class area₀ words₀ : List ℕ} {books : Shelf} {r�
       pub pass-room : recordWidth * k + recordWidth ≤ length r
       pass-room = going-room recorded (more range) (going-as high past)
 
-      pub pass-found : (r′ : List ℕ) → r′ ≡ take (recordWidth * k) r ++ four recorded ++ drop (recordWidth * k + recordWidth) r →
-          Going all budget r₀ r′ (k + 1) rest (more range)
-      pass-found r′ q = going-found recorded (more range) (going-as high past) r′ q
+      -- past the record
+      module _ (r′ : List ℕ) (q : r′ ≡ take (recordWidth * k) r ++ four recorded ++ drop (recordWidth * k + recordWidth) r) where
+        on : Going all budget r₀ r′ (k + 1) rest (more range)
+        on = going-found recorded (more range) (going-as high past) r′ q
 
-      module _ (r′ area′ words′ : List ℕ) (g : Going all budget r₀ r′ (k + 1) rest (more range)) where
-        pub pass-out-again : (x : Run) → BestWithout scope class area words area′ words′ books range rest chosen.Out → x ≡ runOf (k + 1) none →
+        pub pass-out-again : {area′ words′ : List ℕ} (x : Run) → BestWithout scope class area words area′ words′ books range rest chosen.Out → x ≡ runOf (k + 1) none →
             Ran all budget r₀ r′ x
         unfolding chosenIn
-        pass-out-again x w q =
-            going-out (next range) (eachPass lim (texts books) (p - (k + 1)) (without range) (next range .value)) x (sym (w .is)) q g
+        pass-out-again x w e′ =
+            going-out (next range) (eachPass lim (texts books) (p - (k + 1)) (without range) (next range .value)) x (sym (w .is)) e′ on
 
-        pub pass-again : (best′ : Best) (left′ : ℕ) → BestWithout scope class area words area′ words′ books range rest (chosen.Found best′ left′) →
+        pub pass-again : {area′ words′ : List ℕ} (best′ : Best) (left′ : ℕ) → BestWithout scope class area words area′ words′ books range rest (chosen.Found best′ left′) →
             Passing scope class area₀ words₀ books r₀ p budget first area′ words′ r′ best′ left′ (k + 1)
         unfolding chosenIn ChosenStands
-        pass-again best′ left′ w =
+        pass-again {area′} {words′} best′ left′ w =
             let paid-best : Paid rules.Best = record { value = bestIn books best′; left = left′ } in
             let es = eachPass lim (texts books) (p - (k + 1)) (without range) (next range .value) in
             let same : es ≡ eachPass lim (texts books) (p - (k + 1)) (linesAt area′ words′ (scope .lines)) (bestIn books best′) =
@@ -210,7 +210,7 @@ module _ {scope : Scope} {class area₀ words₀ : List ℕ} {books : Shelf} {r�
               words-long = w .words-long ∙ i .words-long;
               stands = w .stands;
               within = omega arith;
-              going = going-as same (going-paid (next range) es paid-best (sym (w .is)) g);
+              going = going-as same (going-paid (next range) es paid-best (sym (w .is)) on);
             }
 
   pub pass-end : (x : Run) → p ≤ k → x ≡ runOf k (some left) → Ran all budget r₀ r x
