@@ -22,6 +22,7 @@ use Rattle.rules.proofs.CountLaws.{rounds-least, bounds-count}
 use Rattle.rules.proofs.DownLaws.{bounds-in}
 use Rattle.license_bounds.specs.declared.Ranged.{Ranged}
 use Rattle.license_bounds.specs.declared.Ranged.the-variants.{Found}
+use Rattle.license_charge.specs.declared.Scorings.{Scorings}
 use Rattle.license_charge.specs.Pay.{pay}
 use Rattle.license_bounds.specs.Found.{rangedOf}
 use Rattle.refusals.proofs.AdmitLaws.{view-kept}
@@ -45,10 +46,10 @@ module _ (ls : List (List ℕ)) (v : View) (s : Stored) (order : v .start ≤ v 
       let b = bounds ls v s .value in
       record { refusal = 0; first = b .first; after = b .after; score = b .value .score; count = count }
 
-  module _ (x : Ranged) (found : x ≡ rangedOf (pay (bounds ls v s) boundsMost)) where
-    is-found : x ≡ Found (bounds ls v s .value) (boundsMost - count)
+  module _ (x : Ranged) (left : Scorings) (made : left ≡ record { count = boundsMost }) (found : x ≡ rangedOf (pay (bounds ls v s) (left .count))) where
+    is-found : x ≡ Found (bounds ls v s .value) (record { count = boundsMost - count })
     unfolding pay rangedOf
-    is-found = found ∙ rw (le-leb count boundsMost bounds-most)
+    is-found = found ∙ ap (λ (n : Scorings). rangedOf (pay (bounds ls v s) (n .count))) made ∙ rw (le-leb count boundsMost bounds-most)
 
     pub answer-fits : FitsAnswer x boundsMost
     unfolding FitsAnswer

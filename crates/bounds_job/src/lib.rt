@@ -12,6 +12,8 @@ use detection_shelf::body_of;
 use detection_shelf::stored_on;
 use license_bounds::Ranged;
 use license_bounds::find_bounds;
+use license_charge::count_of;
+use license_charge::scorings_of;
 use license_notes::clear;
 use license_notes::lay;
 use refusals::admit_view;
@@ -46,7 +48,7 @@ fn answer(ranged: Ranged, budget: u64) -> Bounded
             first: b.first as u32,
             after: b.after as u32,
             score: b.value.score,
-            count: budget - left,
+            count: budget - count_of(left),
         },
         Ranged::Out => refused(0),
     }
@@ -72,7 +74,7 @@ pub fn bounds_laid<'a>(
     let lines = lay(&class, text, area, words);
     let found = stored_on(book, second, counts, k);
     let body = body_of(book, second, found);
-    let ranged = find_bounds(&class, area, words, n, lines, v, body, BOUNDS_MOST);
+    let ranged = find_bounds(&class, area, words, n, lines, v, body, scorings_of(BOUNDS_MOST));
     answer(ranged, BOUNDS_MOST)
 }
 

@@ -35,6 +35,7 @@ use Rattle.rules.proofs.ScanCountLaws.{results-fit, numbers-length}
 use Rattle.detection_texts.specs.Texts.{part}
 use Rattle.detect.specs.declared.Best.{Best}
 use Rattle.detect.specs.Bests.{bestIn}
+use Rattle.license_charge.specs.declared.Scorings.{Scorings}
 use Rattle.refusals.proofs.AreaLaws.{kept}
 use Rattle.refusals.proofs.AdmitLaws.{scan-most}
 use Rattle.refusals.specs.Admits.{ScanThrough}
@@ -96,11 +97,11 @@ module _ (t : List ℕ) (books : Shelf) (lim : Limits) (mode : Mode) (budget : �
   abbrev count : ℕ
   count = length (scorings all)
 
-  pub scan-room : (ls : List (List ℕ)) → ls ≡ lines t → length (written budget (events lim mode (texts books) ls)) ≤ length r₀
+  pub scan-room : (left : Scorings) → left ≡ record { count = budget } → (ls : List (List ℕ)) → ls ≡ lines t →
+      length (written (left .count) (events lim mode (texts books) ls)) ≤ length r₀
   unfolding written
-  scan-room ls e =
-      subst (λ (ms : List (List ℕ)). length (numbers (records (afford budget (events lim mode (texts books) ms)))) ≤ length r₀) (sym e)
-      (omega (arith, results-fit lim mode (texts books) (lines t) budget (passed .step), passed .room, ap (λ (n : ℕ). resultsNeed n mode) (lines-count t)))
+  scan-room left made ls e =
+      rw (made, e) (omega (arith, results-fit lim mode (texts books) (lines t) budget (passed .step), passed .room, ap (λ (n : ℕ). resultsNeed n mode) (lines-count t)))
 
 module _ (t : List ℕ) (books : Shelf) (lim : Limits) (mode : Mode) (budget : ℕ) (r₀ r : List ℕ) (x : Outcome) (h : Eliminated (full t books lim mode) budget books r₀ r x) where
   abbrev es : List Event

@@ -27,6 +27,9 @@ module _ (x : tie.After-stored-on) where
   laid = search
 
 module _ (x : tie.After-find-bounds) where
+  abbrev budget : tie.After-scorings-of
+  budget = search
+
   abbrev lent : tie.After-body-of
   lent = search
 
@@ -68,7 +71,7 @@ answer-requires c κs =
     let books = shelf (now (s .args .book)) (now (s .args .second)) in
     let wanted = getD (texts books) (s .args .k) noText in
     let text = stored-table books _ _ (f .stored-on .ensures .0) (f .stored-on .ensures .1) ∙ ap tableOfBody (sym (lent b .body-of .ensures)) in
-    answer-fits _ _ _ (p .start) (omega (arith, p .end, p .both .few)) _ (b .find-bounds .ensures .found wanted text)
+    answer-fits _ _ _ (p .start) (omega (arith, p .end, p .both .few)) _ _ (budget b .scorings-of .ensures) (b .find-bounds .ensures .found wanted text)
 
 returns : tie.Need-returns
 returns c =
@@ -82,7 +85,7 @@ returns c =
     let text = stored-table books _ _ (f .stored-on .ensures .0) (f .stored-on .ensures .1) ∙ ap tableOfBody (sym (lent b .body-of .ensures)) in
     bounds-found (now (a .text)) (texts books) _ (a .v) (a .k) _ (p .start) (omega (arith, p .end, p .both .few))
     (laid f .lay .ensures .1 .0)
-    (c .answer .ensures ∙ answer-is _ _ _ (p .start) (omega (arith, p .end, p .both .few)) _ (b .find-bounds .ensures .found wanted text))
+    (c .answer .ensures ∙ answer-is _ _ _ (p .start) (omega (arith, p .end, p .both .few)) _ _ (budget b .scorings-of .ensures) (b .find-bounds .ensures .found wanted text))
 
 pub bounds-laid-spec : {M : Type 1} → statement M
 bounds-laid-spec =
@@ -92,6 +95,7 @@ bounds-laid-spec =
     lay-requires
     stored-on-requires
     body-of-requires
+    (λ c κs. search needs)
     find-bounds-requires
     answer-requires
     (λ c. search needs)

@@ -13,11 +13,11 @@ use Rattle.scan_elimination.proofs.each_pass.Statement.{statement}
 use Rattle.scan_elimination.proofs.each_pass.Tie as tie
 
 abbrev Inv-loop : tie.InvT-loop
-Inv-loop class area₀ words₀ scope book second p results₀ budget v best₀ left₀ k₀ area words results best left k =
-    Passing scope class area₀ words₀ (shelf book second) results₀ p budget best₀ area words results best left k
+Inv-loop class area₀ words₀ scope book second p results₀ v best₀ left₀ k₀ area words results best left k =
+    Passing scope class area₀ words₀ (shelf book second) results₀ p (left₀ .count) best₀ area words results best (left .count) k
 
 abbrev μ-loop : tie.MeasureT-loop
-μ-loop class area₀ words₀ scope book second p results₀ budget v best₀ left₀ k₀ area words results best left k = p - k
+μ-loop class area₀ words₀ scope book second p results₀ v best₀ left₀ k₀ area words results best left k = p - k
 
 -- the places that the answers speak of, each found by its type: one statement more in the code moves none
 module _ (x : tie.At-loop Inv-loop μ-loop) where

@@ -8,7 +8,7 @@ use denote.Ref.{now}
 use borrow.Author.Needs.{needs}
 use Rattle.detection_shelf.specs.Shelves.{shelf, texts}
 use Rattle.rules.specs.Scan.{events}
-use Rattle.scan_job.proofs.ModeLaws.{eliminated-as}
+use Rattle.scan_job.proofs.ModeLaws.{eliminated-as, eliminated-of}
 use Rattle.scan_job.proofs.AnswerLaws.{scan-room, answer-fits, answer-is, results-are}
 use Rattle.scan_job.proofs.scan_laid.Statement.{statement}
 use Rattle.scan_job.proofs.scan_laid.Tie as tie
@@ -23,6 +23,9 @@ module _ (x : tie.After-lay) where
   made = search
 
 module _ (x : tie.After-scan-mode) where
+  abbrev paid : tie.After-scorings-of
+  paid = search
+
   abbrev area-laid : tie.After-area
   area-laid = search
 
@@ -40,6 +43,7 @@ lay-requires c κs =
 
 scan-mode-requires : tie.Need-scan-mode-requires
 scan-mode-requires c κs =
+    let all : tie.After-scorings-of = search in
     let area : tie.After-area = search in
     let done : tie.After-lay = search in
     let s = start (made done) in
@@ -53,7 +57,7 @@ scan-mode-requires c κs =
         counted = s .pre .1;
         some-text = p .both .some;
       },
-      (p .step, scan-room (now (a .text)) (shelf (now (a .book)) (now (a .second))) (a .limits) (a .mode) (a .budget) _ (now (a .results)) (s .pre .0) _ (l .1 .0)),
+      (p .step, scan-room (now (a .text)) (shelf (now (a .book)) (now (a .second))) (a .limits) (a .mode) (a .budget) _ (now (a .results)) (s .pre .0) _ (all .scorings-of .ensures) _ (l .1 .0)),
     )
 
 answer-requires : tie.Need-answer-requires
@@ -61,7 +65,7 @@ answer-requires c κs =
     let m : tie.After-scan-mode = search in
     let a = start (made (laid m)) .args in
     let e = ap (λ (ls : List (List ℕ)). events (a .limits) (a .mode) (texts (shelf (now (a .book)) (now (a .second)))) ls) (sym (laid m .lay .ensures .1 .0)) in
-    let h = eliminated-as e (m .scan-mode .ensures) in
+    let h = eliminated-as e (eliminated-of (paid m .scorings-of .ensures) (m .scan-mode .ensures)) in
     (h .name, answer-fits (now (a .text)) (shelf (now (a .book)) (now (a .second))) (a .limits) (a .mode) (a .budget) (now (a .results)) _ _ h)
 
 same-length : tie.Need-same-length
@@ -81,7 +85,7 @@ returns c =
     let m : tie.After-scan-mode = search in
     let a = start (made (laid m)) .args in
     let e = ap (λ (ls : List (List ℕ)). events (a .limits) (a .mode) (texts (shelf (now (a .book)) (now (a .second)))) ls) (sym (laid m .lay .ensures .1 .0)) in
-    let h = eliminated-as e (m .scan-mode .ensures) in
+    let h = eliminated-as e (eliminated-of (paid m .scorings-of .ensures) (m .scan-mode .ensures)) in
     let books = shelf (now (a .book)) (now (a .second)) in
     record {
       answer = c .answer .ensures ∙ answer-is (now (a .text)) books (a .limits) (a .mode) (a .budget) (now (a .results)) _ _ h;
@@ -94,6 +98,7 @@ scan-laid-spec =
     (tie.spec
     class-table-requires
     lay-requires
+    (λ c κs. search needs)
     scan-mode-requires
     answer-requires
     same-length

@@ -11,11 +11,11 @@ use Rattle.scan_top_down.proofs.top_down.Statement.{statement}
 use Rattle.scan_top_down.proofs.top_down.Tie as tie
 
 abbrev Inv-loop : tie.InvT-loop
-Inv-loop class area₀ words₀ scope step book second results₀ budget lines left₀ c₀ k₀ area words results left c k =
-    Downing scope class area₀ words₀ (shelf book second) results₀ step budget area words results left c k
+Inv-loop class area₀ words₀ scope step book second results₀ lines left₀ c₀ k₀ area words results left c k =
+    Downing scope class area₀ words₀ (shelf book second) results₀ step (left₀ .count) area words results (left .count) c k
 
 abbrev μ-loop : tie.MeasureT-loop
-μ-loop class area₀ words₀ scope step book second results₀ budget lines left₀ c₀ k₀ area words results left c k = lines + 1 - c
+μ-loop class area₀ words₀ scope step book second results₀ lines left₀ c₀ k₀ area words results left c k = lines + 1 - c
 
 -- the places that the answers speak of, each found by its type: one statement more in the code moves none
 module _ (x : tie.At-loop Inv-loop μ-loop) where

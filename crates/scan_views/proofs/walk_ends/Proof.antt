@@ -12,11 +12,11 @@ use Rattle.scan_views.proofs.walk_ends.Statement.{statement}
 use Rattle.scan_views.proofs.walk_ends.Tie as tie
 
 abbrev Inv-loop : tie.InvT-loop
-Inv-loop class area₀ words₀ scope start step book second budget past latest₀ left₀ end₀ area words latest left end =
-    Ending scope class area₀ words₀ (shelf book second) start step latest₀ budget area words latest left end
+Inv-loop class area₀ words₀ scope start step book second past latest₀ left₀ end₀ area words latest left end =
+    Ending scope class area₀ words₀ (shelf book second) start step latest₀ (left₀ .count) area words latest left end
 
 abbrev μ-loop : tie.MeasureT-loop
-μ-loop class area₀ words₀ scope start step book second budget past latest₀ left₀ end₀ area words latest left end = past - end
+μ-loop class area₀ words₀ scope start step book second past latest₀ left₀ end₀ area words latest left end = past - end
 
 -- the places that the answers speak of, each found by its type: one statement more in the code moves none
 module _ (x : tie.At-loop Inv-loop μ-loop) where

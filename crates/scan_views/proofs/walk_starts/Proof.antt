@@ -11,11 +11,11 @@ use Rattle.scan_views.proofs.walk_starts.Statement.{statement}
 use Rattle.scan_views.proofs.walk_starts.Tie as tie
 
 abbrev Inv-loop : tie.InvT-loop
-Inv-loop class area₀ words₀ scope c step book second budget lines latest₀ left₀ start₀ area words latest left start =
-    Starting scope class area₀ words₀ (shelf book second) start₀ step budget area words latest left start
+Inv-loop class area₀ words₀ scope c step book second lines latest₀ left₀ start₀ area words latest left start =
+    Starting scope class area₀ words₀ (shelf book second) start₀ step (left₀ .count) area words latest left start
 
 abbrev μ-loop : tie.MeasureT-loop
-μ-loop class area₀ words₀ scope c step book second budget lines latest₀ left₀ start₀ area words latest left start = lines - start
+μ-loop class area₀ words₀ scope c step book second lines latest₀ left₀ start₀ area words latest left start = lines - start
 
 -- the places that the answers speak of, each found by its type: one statement more in the code moves none
 module _ (x : tie.At-loop Inv-loop μ-loop) where

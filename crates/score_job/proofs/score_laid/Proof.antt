@@ -73,9 +73,10 @@ body-of-requires c κs = c .stored-on .ensures .0
 
 charge-exact-requires : tie.Need-charge-exact-requires
 charge-exact-requires c κs =
+    let one : tie.After-scorings-of = search in
     let body : tie.After-body-of = search in
     let f : tie.After-stored-on = search in
-    (tabled f .view-table .ensures .0, (rw (body .body-of .ensures) (f .stored-on .ensures .0 .found .is .sound), omega arith))
+    (tabled f .view-table .ensures .0, (rw (body .body-of .ensures) (f .stored-on .ensures .0 .found .is .sound), rw (one .scorings-of .ensures) (omega arith)))
 
 same-length : tie.Need-same-length
 same-length c = omega (arith, area-back (found c) .area2 .given, area-laid (tabled (found c)) .area .given)
@@ -101,6 +102,7 @@ score-laid-spec =
     view-table-requires
     stored-on-requires
     body-of-requires
+    (λ c κs. search needs)
     charge-exact-requires
     same-length
     same-length-2
