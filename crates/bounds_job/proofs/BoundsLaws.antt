@@ -1,5 +1,5 @@
--- The answer of the job `bounds`: a budget of 104 pays every search of a note that is let through, so that none runs out.
---     bounds-most                     no bounds take more than 104 scorings
+-- The answer of the job `bounds`: a budget of `boundsMost` pays every search of a note that is let through, so that none runs out.
+--     bounds-most                     no bounds take more scorings than that
 --     answer-fits, answer-is          what the search found fits the answer, and says what the definition says
 --     bounds-refused, bounds-done     the two ends of the job
 -- Assumes nothing.
@@ -7,7 +7,7 @@ use mathlib.Core.Path.{_≡_, ap, _∙_}
 use mathlib.Core.List.{List}
 use Prim.Native.Nat.{ℕ, _-_, _≤_}
 use native.Mathlib.Omega.{arith}
-use lib.ListN.{length, getD, replicate}
+use lib.ListN.{length, getD}
 use borrow.Author.Tests.{ne-eqb, le-leb}
 use Rattle.rules.specs.declared.View.{View}
 use Rattle.rules.specs.declared.Bounded.{Bounded}
@@ -22,11 +22,12 @@ use Rattle.rules.proofs.CountLaws.{rounds-least, bounds-count}
 use Rattle.rules.proofs.DownLaws.{bounds-in}
 use Rattle.license_bounds.specs.declared.Ranged.{Ranged}
 use Rattle.license_bounds.specs.declared.Ranged.the-variants.{Found}
+use Rattle.license_charge.specs.declared.Scorings.{Scorings}
 use Rattle.license_charge.specs.Pay.{pay}
 use Rattle.license_bounds.specs.Found.{rangedOf}
-use Rattle.refusals.proofs.AdmitLaws.{view-most}
-use Rattle.refusals.proofs.AreaLaws.{kept, zeroed}
-use Rattle.bounds_job.specs.Answers.{refusedBy, answerFor, FitsAnswer}
+use Rattle.refusals.proofs.AdmitLaws.{view-kept}
+use Rattle.refusals.proofs.AreaLaws.{BothAfter}
+use Rattle.bounds_job.specs.Answers.{boundsMost, refusedBy, answerFor, FitsAnswer}
 
 -- 24 rounds of a search take 65,536 lines down to four
 most-lines : mostFor linesMost ≤ 52
@@ -37,7 +38,7 @@ module _ (ls : List (List ℕ)) (v : View) (s : Stored) (order : v .start ≤ v 
   abbrev count : ℕ
   count = length (bounds ls v s .list)
 
-  pub bounds-most : count ≤ 104
+  pub bounds-most : count ≤ boundsMost
   bounds-most = omega (arith, bounds-count ls v s linesMost order inside, most-lines)
 
   abbrev answer : Bounded
@@ -45,23 +46,23 @@ module _ (ls : List (List ℕ)) (v : View) (s : Stored) (order : v .start ≤ v 
       let b = bounds ls v s .value in
       record { refusal = 0; first = b .first; after = b .after; score = b .value .score; count = count }
 
-  module _ (x : Ranged) (found : x ≡ rangedOf (pay (bounds ls v s) 104)) where
-    is-found : x ≡ Found (bounds ls v s .value) (104 - count)
+  module _ (x : Ranged) (left : Scorings) (made : left ≡ record { count = boundsMost }) (found : x ≡ rangedOf (pay (bounds ls v s) (left .count))) where
+    is-found : x ≡ Found (bounds ls v s .value) (record { count = boundsMost - count })
     unfolding pay rangedOf
-    is-found = found ∙ rw (le-leb count 104 bounds-most)
+    is-found = found ∙ ap (λ (n : Scorings). rangedOf (pay (bounds ls v s) (n .count))) made ∙ rw (le-leb count boundsMost bounds-most)
 
-    pub answer-fits : FitsAnswer x 104
+    pub answer-fits : FitsAnswer x boundsMost
     unfolding FitsAnswer
     answer-fits = let i = bounds-in ls v s order in rw is-found (omega arith, omega arith, omega arith)
 
-    pub answer-is : answerFor x 104 ≡ answer
+    pub answer-is : answerFor x boundsMost ≡ answer
     unfolding answerFor
     answer-is =
         let b = bounds ls v s .value in
-        ap (λ (y : Ranged). answerFor y 104) is-found ∙
+        ap (λ (y : Ranged). answerFor y boundsMost) is-found ∙
         ap (λ (n : ℕ). record { refusal = 0; first = b .first; after = b .after; score = b .value .score; count = n }) (paid bounds-most)
       where
-        paid : count ≤ 104 → 104 - (104 - count) ≡ count
+        paid : count ≤ boundsMost → boundsMost - (boundsMost - count) ≡ count
         paid h = omega arith
 
 pub bounds-found : (t : List ℕ) (ss : List Stored) (ls : List (List ℕ)) (v : View) (k : ℕ) (x : Bounded) (order : v .start ≤ v .end) (inside : v .end ≤ linesMost) → ls ≡ lines t →
@@ -77,13 +78,12 @@ module _ (t : List ℕ) (bs : List (List ℕ)) (v : View) (k : ℕ) (b₀ w₀ :
   pub bounds-refused : (n : ℕ) (x : Bounded) → n ≡ number → (n ≡ 0 → ⊥) → x ≡ refusedBy n → BoundsDone t bs v k b₀ b₀ w₀ w₀ x
   unfolding boundsJob
   bounds-refused n x e q r =
-      let h : n ≤ 10 = omega (arith, view-most t bs v k (lent b₀ w₀)) in
-      rw r (record { answer = rw (← e, ne-eqb n 0 q); bytes = kept n b₀ q h; words = kept n w₀ q h })
+      let areas = view-kept t bs v k b₀ w₀ n e q in
+      rw r (record { answer = rw (← e, ne-eqb n 0 q); bytes = areas .bytes; words = areas .words })
 
-  pub bounds-done : (ss : List Stored) → shelved 0 bs ≡ ss → (b₁ b w₁ w : List ℕ) (x : Bounded) → number ≡ 0 → x ≡ boundsFound t ss v k →
-      length b₁ ≡ length b₀ → b ≡ replicate (length b₁) 0 → length w₁ ≡ length w₀ → w ≡ replicate (length w₁) 0 →
+  pub bounds-done : (ss : List Stored) → shelved 0 bs ≡ ss → (x : Bounded) → number ≡ 0 → x ≡ boundsFound t ss v k → {b w : List ℕ} → BothAfter 0 b₀ b w₀ w →
       BoundsDone t bs v k b₀ b w₀ w x
   unfolding boundsJob boundsFound
-  bounds-done ss s b₁ b w₁ w x z e l p m q =
+  bounds-done ss s x z e areas =
       let n : x .refusal ≡ 0 = ap (λ (y : Bounded). y .refusal) e in
-      record { answer = rw (z, s) e; bytes = rw n (zeroed b₀ b₁ b l p); words = rw n (zeroed w₀ w₁ w m q) }
+      record { answer = rw (z, s) e; bytes = rw n (areas .bytes); words = rw n (areas .words) }

@@ -7,13 +7,17 @@ use Rattle.rules.specs.Table.{nought}
 use Rattle.license_bounds.specs.declared.Ranged.{Ranged}
 use Rattle.license_bounds.specs.declared.Ranged.the-variants.{Out, Found}
 
+-- the scorings that pay every search: the code's `BOUNDS_MOST`
+abbrev pub boundsMost : ℕ
+boundsMost = 104
+
 abbrev pub refusedBy : ℕ → Bounded
 refusedBy n = record { refusal = n; first = 0; after = 0; score = nought; count = 0 }
 
 unfoldable pub answerFor : Ranged → ℕ → Bounded
 answerFor Out budget = refusedBy 0
-answerFor (Found b left) budget = record { refusal = 0; first = b .first; after = b .after; score = b .value .score; count = budget - left }
+answerFor (Found b left) budget = record { refusal = 0; first = b .first; after = b .after; score = b .value .score; count = budget - left .count }
 
 unfoldable pub FitsAnswer : Ranged → ℕ → Type 0
 FitsAnswer Out budget = Unit {0}
-FitsAnswer (Found b left) budget = (b .first ≤ linesMost) × (b .after ≤ linesMost) × (left ≤ budget)
+FitsAnswer (Found b left) budget = (b .first ≤ linesMost) × (b .after ≤ linesMost) × (left .count ≤ budget)

@@ -12,12 +12,18 @@ use detection_shelf::body_of;
 use detection_shelf::stored_on;
 use license_bounds::Ranged;
 use license_bounds::find_bounds;
+use license_charge::count_of;
+use license_charge::scorings_of;
 use license_notes::clear;
 use license_notes::lay;
 use refusals::admit_view;
 use rules::Bounded;
 use rules::View;
 use slices::class::class_table;
+
+// What pays every search of a note that is let through: 24 rounds take 65,536 lines down to four, a round takes two scorings and the end at most four, so
+// one search takes at most 52; bounds take two. `bounds-most` proves it, so that the job never runs out.
+const BOUNDS_MOST: u64 = 104;
 
 fn refused(refusal: u32) -> Bounded
     ensures { λ r. ⌜ r ≡ refusedBy refusal ⌝ }
@@ -42,13 +48,13 @@ fn answer(ranged: Ranged, budget: u64) -> Bounded
             first: b.first as u32,
             after: b.after as u32,
             score: b.value.score,
-            count: budget - left,
+            count: budget - count_of(left),
         },
         Ranged::Out => refused(0),
     }
 }
 
-// The work, of what is let through: the areas hold what it leaves. No note of 65,536 lines takes more than 104 scorings.
+// The work, of what is let through: the areas hold what it leaves.
 pub fn bounds_laid<'a>(
     text: &[u8],
     book: &'a [u8],
@@ -68,9 +74,8 @@ pub fn bounds_laid<'a>(
     let lines = lay(&class, text, area, words);
     let found = stored_on(book, second, counts, k);
     let body = body_of(book, second, found);
-    let budget = 104;
-    let ranged = find_bounds(&class, area, words, n, lines, v, body, budget);
-    answer(ranged, budget)
+    let ranged = find_bounds(&class, area, words, n, lines, v, body, scorings_of(BOUNDS_MOST));
+    answer(ranged, BOUNDS_MOST)
 }
 
 // Over lent books, two or one: refusals 1 to 5 and 8 to 10, or the bounds. The areas are zero after an answer, and as they were after a refusal.

@@ -6,6 +6,7 @@
 --     compile-most, view-most, scan-most         no refusal before any work is above 10
 --     compile-first, compile-then                compile: the text decides, then the areas
 --     through, compile-through, view-through, scan-through   what holds where nothing is refused
+--     view-admitted, view-kept                   the two ways on from `admit_view`, which both jobs of a view take
 -- Assumes nothing.
 use mathlib.Core.Path.{_≡_, refl, sym, ap, _∙_}
 use mathlib.Core.Bool.{Bool, true, false, not, _&&_, _||_, cond}
@@ -26,7 +27,7 @@ use Rattle.rules.specs.Book as Book
 use Rattle.rules.specs.Book.{stored}
 use Rattle.rules.specs.Search.{recurse, turns}
 use Rattle.rules.specs.Refusal.{Row, row, refusal, Areas, small, ofText, ofBooks, ofCheck, beforeCompile, ofView, beforeScan, unit, stepZero, resultsNeed}
-use Rattle.rules.specs.Jobs.{check, CheckDone}
+use Rattle.rules.specs.Jobs.{lent, check, CheckDone}
 use Rattle.rules.proofs.SoundLaws.{sound-most}
 use Rattle.rules.proofs.ShelfLaws.{two-length}
 use Rattle.rules.proofs.BoolLaws.{and-left, and-right}
@@ -38,7 +39,8 @@ use Rattle.detection_shelf.specs.declared.Counts.{Counts}
 use Rattle.detection_shelf.specs.Shelves.{Shelf, booksOf, Lends, texts, Counted}
 use Rattle.detection_shelf.proofs.ShelfLaws.{lent-read}
 use Rattle.refusals.specs.declared.Admitted.{Admitted}
-use Rattle.refusals.specs.Admits.{Admits, AdmitsBooks, Through, ViewThrough, ScanThrough, smallFor, viewRows, scanRows}
+use Rattle.refusals.specs.Admits.{Admits, AdmitsBooks, AdmitsView, Through, ViewThrough, ScanThrough, smallFor, viewRows, scanRows}
+use Rattle.refusals.proofs.AreaLaws.{BothAfter, kept}
 
 -- ---- rows
 -- a row that does not apply
@@ -296,6 +298,17 @@ view-through t books two lends v k a h =
       bytes = ltb-false _ _ (w .0);
       words = ltb-false _ _ (w .1);
     }
+
+-- the work below asks this, and no more
+pub view-admitted : (t : List ℕ) (books : Shelf) (two : Bool) → Lends books two → (v : View) (k : ℕ) (a : Areas) → {r : Admitted} → AdmitsView t books two v k a r →
+    r .refusal ≡ 0 → ViewThrough t books v k a × Counted books (r .texts)
+view-admitted t books two lends v k a h z = (view-through t books two lends v k a (sym (h .number) ∙ z), h .texts z)
+
+-- a refusal leaves both areas as they were
+pub view-kept : (t : List ℕ) (bs : List (List ℕ)) (v : View) (k : ℕ) (b w : List ℕ) (n : ℕ) → n ≡ refusal (ofView t bs v k (lent b w)) → (n ≡ 0 → ⊥) → BothAfter n b b w w
+view-kept t bs v k b w n e q =
+    let h : n ≤ 10 = omega (arith, view-most t bs v k (lent b w)) in
+    record { bytes = kept n b q h; words = kept n w q h }
 
 -- ---- a scan
 module _ (t : List ℕ) (books : Shelf) (two : Bool) (lim : Limits) (mode : Mode) (a : Areas) (results : ℕ) where

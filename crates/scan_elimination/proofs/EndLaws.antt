@@ -23,6 +23,7 @@ use Rattle.rules.proofs.BudgetLaws.{afford-whole, afford-part}
 use Rattle.rules.proofs.VerdictLaws.{verdict-after}
 use Rattle.preproc_table.specs.Entries.{linesAt}
 use Rattle.preproc_table.proofs.EntryLaws.{lines-length}
+use Rattle.license_charge.specs.declared.Scorings.{Scorings}
 use Rattle.license_charge.specs.Pay.{Paid, pay}
 use Rattle.detection_shelf.specs.declared.Shelved.{Shelved}
 use Rattle.rules.specs.Book.{sound}
@@ -114,13 +115,13 @@ module _ {scope : Scope} {class area₀ words₀ : List ℕ} {books : Shelf} (s 
           ran = going-out made (overall (made .value) ∷ more (made .value)) (x .run) out q (going-as split (going-first all budget r₀ room));
         }
 
-    module _ (best : Best) (left : ℕ) (d : BestDone (scope .n) (scope .lines) area₀ words₀ area words v books budget (chosen.Found best left)) where
-      paid : pay made budget ≡ some (record { value = bestIn books best; left = left })
+    module _ (best : Best) (left : Scorings) (d : BestDone (scope .n) (scope .lines) area₀ words₀ area words v books budget (chosen.Found best left)) where
+      paid : pay made budget ≡ some (record { value = bestIn books best; left = left .count })
       unfolding chosenIn
       paid = ap (λ (m : Made rules.Best). pay m budget) (sym (asked v e)) ∙ sym (d .is)
 
       is : made .value ≡ bestIn books best
-      is = sym (paid-is made budget (record { value = bestIn books best; left = left }) paid .0)
+      is = sym (paid-is made budget (record { value = bestIn books best; left = left .count }) paid .0)
 
       pub best-stands : Stands books (best .text)
       unfolding ChosenStands
@@ -130,21 +131,21 @@ module _ {scope : Scope} {class area₀ words₀ : List ℕ} {books : Shelf} (s 
       then : all ≡ after (made .list) (overall (bestIn books best) ∷ more (bestIn books best))
       then = split ∙ ap (λ (b : rules.Best). after (made .list) (overall b ∷ more b)) is
 
-      writes : written budget all ≡ written left (more (bestIn books best))
+      writes : written budget all ≡ written (left .count) (more (bestIn books best))
       writes =
-          ap (written budget) then ∙ paid-written made budget (overall (bestIn books best) ∷ more (bestIn books best)) (record { value = bestIn books best; left = left }) paid ∙
-          overall-written left (bestIn books best) (more (bestIn books best))
+          ap (written budget) then ∙ paid-written made budget (overall (bestIn books best) ∷ more (bestIn books best)) (record { value = bestIn books best; left = left .count }) paid ∙
+          overall-written (left .count) (bestIn books best) (more (bestIn books best))
 
-      leaves : leftOver budget all ≡ leftOver left (more (bestIn books best))
+      leaves : leftOver budget all ≡ leftOver (left .count) (more (bestIn books best))
       leaves =
-          ap (leftOver budget) then ∙ paid-left made budget (overall (bestIn books best) ∷ more (bestIn books best)) (record { value = bestIn books best; left = left }) paid ∙
-          overall-left left (bestIn books best) (more (bestIn books best))
+          ap (leftOver budget) then ∙ paid-left made budget (overall (bestIn books best) ∷ more (bestIn books best)) (record { value = bestIn books best; left = left .count }) paid ∙
+          overall-left (left .count) (bestIn books best) (more (bestIn books best))
 
       -- a run of what follows is a run of the whole
-      ended-as : {r : List ℕ} (x : Outcome) → x .best ≡ best → Ran (more (bestIn books best)) left r₀ r (x .run) → Eliminated all budget books r₀ r x
+      ended-as : {r : List ℕ} (x : Outcome) → x .best ≡ best → Ran (more (bestIn books best)) (left .count) r₀ r (x .run) → Eliminated all budget books r₀ r x
       ended-as {r} x b a = record {
         best = ap (bestIn books) b ∙ sym (ap (λ (es : List Event). verdict (afford budget es)) then ∙
-            verdict-paid made budget (record { value = bestIn books best; left = left }) (bestIn books best) (more (bestIn books best)) paid);
+            verdict-paid made budget (record { value = bestIn books best; left = left .count }) (bestIn books best) (more (bestIn books best)) paid);
         name = subst (λ (y : Best). NameFits books (y .text)) (sym b) (stands-name (s .counted) best-stands);
         ran = record {
           wrote = subst (λ (l : List ℕ). Wrote l r₀ (recordWidth * x .run .records) r) (sym writes) (a .wrote);
@@ -152,9 +153,9 @@ module _ {scope : Scope} {class area₀ words₀ : List ℕ} {books : Shelf} (s 
         };
       }
 
-      pub whole-stop : (x : Outcome) → stops lim (bestIn books best) || not optimize ≡ true → x .best ≡ best → x .run ≡ runOf 0 (some left) → Eliminated all budget books r₀ r₀ x
+      pub whole-stop : (x : Outcome) → stops lim (bestIn books best) || not optimize ≡ true → x .best ≡ best → x .run ≡ runOf 0 (some (left .count)) → Eliminated all budget books r₀ r₀ x
       whole-stop x t b q =
-          ended-as x b (going-end (x .run) q (going-as (none-more t) (going-first (more (bestIn books best)) left r₀ (subst (λ (l : List ℕ). length l ≤ length r₀) writes room))))
+          ended-as x b (going-end (x .run) q (going-as (none-more t) (going-first (more (bestIn books best)) (left .count) r₀ (subst (λ (l : List ℕ). length l ≤ length r₀) writes room))))
         where
           none-more : stops lim (bestIn books best) || not optimize ≡ true → more (bestIn books best) ≡ []
           none-more t = rw t
@@ -164,12 +165,12 @@ module _ {scope : Scope} {class area₀ words₀ : List ℕ} {books : Shelf} (s 
         passes : more (bestIn books best) ≡ eachPass lim (texts books) p (linesAt area words (scope .lines)) (bestIn books best)
         passes = rw t (ap (λ (ms : List (List ℕ)). eachPass lim (texts books) p ms (bestIn books best)) (sym (d .held .same)))
 
-        pub whole-room : length (written left (eachPass lim (texts books) p (linesAt area words (scope .lines)) (bestIn books best))) ≤ length r₀
-        whole-room = subst (λ (l : List ℕ). length l ≤ length r₀) (writes ∙ ap (written left) passes) room
+        pub whole-room : length (written (left .count) (eachPass lim (texts books) p (linesAt area words (scope .lines)) (bestIn books best))) ≤ length r₀
+        whole-room = subst (λ (l : List ℕ). length l ≤ length r₀) (writes ∙ ap (written (left .count)) passes) room
 
-        pub whole-on : {r : List ℕ} (x : Outcome) → x .best ≡ best → Ran (eachPass lim (texts books) p (linesAt area words (scope .lines)) (bestIn books best)) left r₀ r (x .run) →
+        pub whole-on : {r : List ℕ} (x : Outcome) → x .best ≡ best → Ran (eachPass lim (texts books) p (linesAt area words (scope .lines)) (bestIn books best)) (left .count) r₀ r (x .run) →
             Eliminated all budget books r₀ r x
-        whole-on {r} x b a = ended-as x b (subst (λ (es : List Event). Ran es left r₀ r (x .run)) (sym passes) a)
+        whole-on {r} x b a = ended-as x b (subst (λ (es : List Event). Ran es (left .count) r₀ r (x .run)) (sym passes) a)
 
 -- ---- whether passes follow
 pub stop-by-best : (a b : Bool) → a ≡ true → a || b ≡ true

@@ -2,8 +2,8 @@
 --     Passing                           the passes still to come, paid from what is left, are all passes paid from the budget
 --     pass-first                        before the first pass
 --     pass-out, pass-below              bounds that are not paid, or too low
---     pass-found, pass-again            past a record, and past the best of what is left
---     pass-out-again, pass-end          a best that is not paid; no pass left
+--     pass-again, pass-out-again        past a record: the best of what is left, and where it is not paid
+--     pass-end                          no pass left
 -- Assumes nothing.
 use mathlib.Core.Path.{_≡_, refl, sym, ap, _∙_, subst}
 use mathlib.Core.Bool.{true, false, cond}
@@ -23,6 +23,7 @@ use Rattle.rules.specs.Scan.{Event, found, Recorded, after, below, eachPass}
 use Rattle.preproc_table.specs.Entries.{linesAt, Blanked}
 use Rattle.preproc_table.proofs.EntryLaws.{lines-length}
 use Rattle.license_bounds.specs.declared.Ranged.the-variants as ranged
+use Rattle.license_charge.specs.declared.Scorings.{Scorings}
 use Rattle.license_charge.specs.Pay.{Paid, pay}
 use Rattle.license_bounds.specs.Found.{rangedOf}
 use Rattle.license_notes.specs.Laid.{Held}
@@ -151,24 +152,24 @@ module _ {scope : Scope} {class area₀ words₀ : List ℕ} {books : Shelf} {r�
       going-out made (told (made .value)) x (ap (λ (m : Made Bounds). pay m left) (sym (asked v e)) ∙ range-out (pay (bounds ls v text) left) o) q
       (going-as (split l) (i .going))
 
-  module _ (v : View) (range : Bounds) (rest : ℕ) (l : k < p) (e : v ≡ view 0 (scope .lines))
+  module _ (v : View) (range : Bounds) (rest : Scorings) (l : k < p) (e : v ≡ view 0 (scope .lines))
       (o : ranged.Found range rest ≡ rangedOf (pay (bounds ls v text) left)) where
-    paid : pay made left ≡ some (record { value = range; left = rest })
+    paid : pay made left ≡ some (record { value = range; left = rest .count })
     paid = ap (λ (m : Made Bounds). pay m left) (sym (asked v e)) ∙ range-found (pay (bounds ls v text) left) range rest o
 
     is : made .value ≡ range
-    is = sym (paid-is made left (record { value = range; left = rest }) paid .0)
+    is = sym (paid-is made left (record { value = range; left = rest .count }) paid .0)
 
-    past : Going all budget r₀ r k rest (told range)
+    past : Going all budget r₀ r k (rest .count) (told range)
     past =
-        going-paid made (told range) (record { value = range; left = rest }) paid
+        going-paid made (told range) (record { value = range; left = rest .count }) paid
         (going-as (split l ∙ ap (λ (x : Bounds). after (made .list) (told x)) is) (i .going))
 
     pub pass-fits : RangeFits (scope .lines) range
     unfolding whole linesAt
     pass-fits = fits-of (i .ready) (whole ls) (best .text) (omega arith) (omega (arith, lines-length area words 0 (scope .lines))) (i .stands) range is
 
-    pub pass-below : (x : Run) → below lim range ≡ true → x ≡ runOf k (some rest) → Ran all budget r₀ r x
+    pub pass-below : (x : Run) → below lim range ≡ true → x ≡ runOf k (some (rest .count)) → Ran all budget r₀ r x
     pass-below x b q = going-end x q (going-as (low b) past)
       where
         low : below lim range ≡ true → told range ≡ []
@@ -184,25 +185,25 @@ module _ {scope : Scope} {class area₀ words₀ : List ℕ} {books : Shelf} {r�
       pub pass-room : recordWidth * k + recordWidth ≤ length r
       pass-room = going-room recorded (more range) (going-as high past)
 
-      pub pass-found : (r′ : List ℕ) → r′ ≡ take (recordWidth * k) r ++ four recorded ++ drop (recordWidth * k + recordWidth) r →
-          Going all budget r₀ r′ (k + 1) rest (more range)
-      pass-found r′ q = going-found recorded (more range) (going-as high past) r′ q
+      -- past the record
+      module _ (r′ : List ℕ) (q : r′ ≡ take (recordWidth * k) r ++ four recorded ++ drop (recordWidth * k + recordWidth) r) where
+        on : Going all budget r₀ r′ (k + 1) (rest .count) (more range)
+        on = going-found recorded (more range) (going-as high past) r′ q
 
-      module _ (r′ area′ words′ : List ℕ) (g : Going all budget r₀ r′ (k + 1) rest (more range)) where
-        pub pass-out-again : (x : Run) → BestWithout scope class area words area′ words′ books range rest chosen.Out → x ≡ runOf (k + 1) none →
+        pub pass-out-again : {area′ words′ : List ℕ} (x : Run) → BestWithout scope class area words area′ words′ books range (rest .count) chosen.Out → x ≡ runOf (k + 1) none →
             Ran all budget r₀ r′ x
         unfolding chosenIn
-        pass-out-again x w q =
-            going-out (next range) (eachPass lim (texts books) (p - (k + 1)) (without range) (next range .value)) x (sym (w .is)) q g
+        pass-out-again x w e′ =
+            going-out (next range) (eachPass lim (texts books) (p - (k + 1)) (without range) (next range .value)) x (sym (w .is)) e′ on
 
-        pub pass-again : (best′ : Best) (left′ : ℕ) → BestWithout scope class area words area′ words′ books range rest (chosen.Found best′ left′) →
-            Passing scope class area₀ words₀ books r₀ p budget first area′ words′ r′ best′ left′ (k + 1)
+        pub pass-again : {area′ words′ : List ℕ} (best′ : Best) (left′ : Scorings) → BestWithout scope class area words area′ words′ books range (rest .count) (chosen.Found best′ left′) →
+            Passing scope class area₀ words₀ books r₀ p budget first area′ words′ r′ best′ (left′ .count) (k + 1)
         unfolding chosenIn ChosenStands
-        pass-again best′ left′ w =
-            let paid-best : Paid rules.Best = record { value = bestIn books best′; left = left′ } in
+        pass-again {area′} {words′} best′ left′ w =
+            let paid-best : Paid rules.Best = record { value = bestIn books best′; left = left′ .count } in
             let es = eachPass lim (texts books) (p - (k + 1)) (without range) (next range .value) in
             let same : es ≡ eachPass lim (texts books) (p - (k + 1)) (linesAt area′ words′ (scope .lines)) (bestIn books best′) =
-            ap (λ (b : rules.Best). eachPass lim (texts books) (p - (k + 1)) (without range) b) (sym (paid-is (next range) rest paid-best (sym (w .is)) .0)) ∙
+            ap (λ (b : rules.Best). eachPass lim (texts books) (p - (k + 1)) (without range) b) (sym (paid-is (next range) (rest .count) paid-best (sym (w .is)) .0)) ∙
             ap (λ (m : List (List ℕ)). eachPass lim (texts books) (p - (k + 1)) m (bestIn books best′)) (sym (w .lines)) in
             record {
               ready = w .ready;
@@ -210,7 +211,7 @@ module _ {scope : Scope} {class area₀ words₀ : List ℕ} {books : Shelf} {r�
               words-long = w .words-long ∙ i .words-long;
               stands = w .stands;
               within = omega arith;
-              going = going-as same (going-paid (next range) es paid-best (sym (w .is)) g);
+              going = going-as same (going-paid (next range) es paid-best (sym (w .is)) on);
             }
 
   pub pass-end : (x : Run) → p ≤ k → x ≡ runOf k (some left) → Ran all budget r₀ r x

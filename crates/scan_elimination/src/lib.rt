@@ -17,6 +17,7 @@ use detect::Chosen;
 use detect::best_text;
 use detect::no_best;
 use license_bounds::Ranged;
+use license_charge::Scorings;
 use preproc_table::blank_lines;
 use rules::Bounds;
 use rules::Limits;
@@ -38,11 +39,11 @@ fn best_without<'a>(
     book: &'a [u8],
     second: &'a [u8],
     range: Bounds,
-    budget: u64,
+    budget: Scorings,
 ) -> Chosen
     requires { ⌜ Scanning scope (now class) (now area) (now words) (shelf (now book) (now second)) ⌝ }
     requires { ⌜ (range .first ≤ range .after) × (range .after ≤ scope .lines) ⌝ }
-    ensures { λ r. ⌜ BestWithout scope (now (class .entry)) (now (area .entry)) (now (words .entry)) (now (area .exit)) (now (words .exit)) (shelf (now (book .entry)) (now (second .entry))) range budget r ⌝ }
+    ensures { λ r. ⌜ BestWithout scope (now (class .entry)) (now (area .entry)) (now (words .entry)) (now (area .exit)) (now (words .exit)) (shelf (now (book .entry)) (now (second .entry))) range (budget .count) r ⌝ }
 {
     let n = scope.n;
     let lines = scope.lines;
@@ -73,12 +74,12 @@ pub fn each_pass<'a>(
     p: u16,
     first: Best,
     results: &mut [u32],
-    budget: u64,
+    budget: Scorings,
 ) -> Run
     requires { ⌜ Scanning scope (now class) (now area) (now words) (shelf (now book) (now second)) ⌝ }
     requires { ⌜ Stands (shelf (now book) (now second)) (first .text) ⌝ }
-    requires { ⌜ length (written budget (rules.eachPass (scope .limits) (texts (shelf (now book) (now second))) p (linesAt (now area) (now words) (scope .lines)) (bestIn (shelf (now book) (now second)) first))) ≤ length (now results) ⌝ }
-    ensures { λ r. ⌜ Ran (rules.eachPass (scope .limits) (texts (shelf (now (book .entry)) (now (second .entry)))) p (linesAt (now (area .entry)) (now (words .entry)) (scope .lines)) (bestIn (shelf (now (book .entry)) (now (second .entry))) first)) budget (now (results .entry)) (now (results .exit)) r ⌝ }
+    requires { ⌜ length (written (budget .count) (rules.eachPass (scope .limits) (texts (shelf (now book) (now second))) p (linesAt (now area) (now words) (scope .lines)) (bestIn (shelf (now book) (now second)) first))) ≤ length (now results) ⌝ }
+    ensures { λ r. ⌜ Ran (rules.eachPass (scope .limits) (texts (shelf (now (book .entry)) (now (second .entry)))) p (linesAt (now (area .entry)) (now (words .entry)) (scope .lines)) (bestIn (shelf (now (book .entry)) (now (second .entry))) first)) (budget .count) (now (results .entry)) (now (results .exit)) r ⌝ }
 {
     let v = whole_view(scope.lines);
     let mut best = first;
@@ -150,11 +151,11 @@ pub fn elimination<'a>(
     book: &'a [u8],
     second: &'a [u8],
     results: &mut [u32],
-    budget: u64,
+    budget: Scorings,
 ) -> Outcome
     requires { ⌜ Scanning scope (now class) (now area) (now words) (shelf (now book) (now second)) ⌝ }
-    requires { ⌜ length (written budget (rules.elimination (scope .limits) optimize p (texts (shelf (now book) (now second))) (linesAt (now area) (now words) (scope .lines)))) ≤ length (now results) ⌝ }
-    ensures { λ r. ⌜ Eliminated (rules.elimination (scope .limits) optimize p (texts (shelf (now (book .entry)) (now (second .entry)))) (linesAt (now (area .entry)) (now (words .entry)) (scope .lines))) budget (shelf (now (book .entry)) (now (second .entry))) (now (results .entry)) (now (results .exit)) r ⌝ }
+    requires { ⌜ length (written (budget .count) (rules.elimination (scope .limits) optimize p (texts (shelf (now book) (now second))) (linesAt (now area) (now words) (scope .lines)))) ≤ length (now results) ⌝ }
+    ensures { λ r. ⌜ Eliminated (rules.elimination (scope .limits) optimize p (texts (shelf (now (book .entry)) (now (second .entry)))) (linesAt (now (area .entry)) (now (words .entry)) (scope .lines))) (budget .count) (shelf (now (book .entry)) (now (second .entry))) (now (results .entry)) (now (results .exit)) r ⌝ }
 {
     let n = scope.n;
     let lines = scope.lines;

@@ -34,6 +34,7 @@ use Rattle.rules.proofs.ScanCountLaws.{results-fit, numbers-length}
 use Rattle.detection_texts.specs.Texts.{part}
 use Rattle.detect.specs.declared.Best.{Best}
 use Rattle.detect.specs.Bests.{bestIn}
+use Rattle.license_charge.specs.declared.Scorings.{Scorings}
 use Rattle.refusals.proofs.AreaLaws.{kept}
 use Rattle.refusals.proofs.AdmitLaws.{scan-most}
 use Rattle.refusals.specs.Admits.{ScanThrough}
@@ -95,11 +96,11 @@ module _ (t : List ℕ) (books : Shelf) (lim : Limits) (mode : Mode) (budget : �
   abbrev count : ℕ
   count = length (scorings all)
 
-  pub scan-room : (ls : List (List ℕ)) → ls ≡ lines t → length (written budget (events lim mode (texts books) ls)) ≤ length r₀
+  pub scan-room : (left : Scorings) → left ≡ record { count = budget } → (ls : List (List ℕ)) → ls ≡ lines t →
+      length (written (left .count) (events lim mode (texts books) ls)) ≤ length r₀
   unfolding written
-  scan-room ls e =
-      subst (λ (ms : List (List ℕ)). length (numbers (records (afford budget (events lim mode (texts books) ms)))) ≤ length r₀) (sym e)
-      (omega (arith, results-fit lim mode (texts books) (lines t) budget (passed .step), passed .room, ap (λ (n : ℕ). resultsNeed n mode) (lines-count t)))
+  scan-room left made ls e =
+      rw (made, e) (omega (arith, results-fit lim mode (texts books) (lines t) budget (passed .step), passed .room, ap (λ (n : ℕ). resultsNeed n mode) (lines-count t)))
 
 module _ (t : List ℕ) (books : Shelf) (lim : Limits) (mode : Mode) (budget : ℕ) (r₀ r : List ℕ) (x : Outcome) (h : Eliminated (full t books lim mode) budget books r₀ r x) where
   abbrev es : List Event
@@ -215,13 +216,13 @@ module _ (t : List ℕ) (bs : List (List ℕ)) (lim : Limits) (mode : Mode) (bud
       })
 
   -- 0 or 12: every element of a work area is zero
-  zero-after : before ≡ 0 → (area work left : List ℕ) → length work ≡ length area → left ≡ replicate (length work) 0 → left ≡ areaAfter number area
+  zero-after : before ≡ 0 → (n : ℕ) (area left : List ℕ) → n ≡ length area → left ≡ replicate n 0 → left ≡ areaAfter number area
   unfolding areaAfter
-  zero-after z area work left l e =
+  zero-after z n area left l e =
       at (ltb budget (length (scorings (events lim mode (shelved 0 bs) (lines t))))) ∙ ap (λ (n : ℕ). areaAfter n area) (sym (scan-then t bs lim mode (lent b₀ w₀) (length r₀) budget z))
     where
       cleared : left ≡ replicate (length area) 0
-      cleared = e ∙ ap (λ (n : ℕ). replicate n 0) l
+      cleared = e ∙ ap (λ (k : ℕ). replicate k 0) l
 
       at : (q : Bool) → left ≡ areaAfter (cond q 12 0) area
       at true = cleared
@@ -243,16 +244,15 @@ module _ (t : List ℕ) (bs : List (List ℕ)) (lim : Limits) (mode : Mode) (bud
         let l = happens in
         λ i. answered (n i) lim (parts i) (l i)
 
-    pub scan-done : (b₁ b w₁ w r : List ℕ) (x : Scanned) → Scans t books lim mode budget r₀ r x →
-        length b₁ ≡ length b₀ → b ≡ replicate (length b₁) 0 → length w₁ ≡ length w₀ → w ≡ replicate (length w₁) 0 →
+    pub scan-done : (b w r : List ℕ) (x : Scanned) → Scans t books lim mode budget r₀ r x → {m n : ℕ} → m ≡ length b₀ → b ≡ replicate m 0 → n ≡ length w₀ → w ≡ replicate n 0 →
         ScanDone t bs lim mode budget b₀ b w₀ w r₀ r x
     unfolding scan answered resultsAfter
-    scan-done b₁ b w₁ w r x s l p m q =
+    scan-done b w r x s {m} {n} l p k q =
         let answer = s .answer ∙ said in
-        let n : x .refusal ≡ number = ap (λ (y : Scanned). y .refusal) answer in
+        let said-so : x .refusal ≡ number = ap (λ (y : Scanned). y .refusal) answer in
         record {
           answer = answer;
           results = s .results ∙ ap (λ (l : List Event). over (numbers (records l)) r₀) happens;
-          bytes = zero-after z b₀ b₁ b l p ∙ ap (λ (k : ℕ). areaAfter k b₀) (sym n);
-          words = zero-after z w₀ w₁ w m q ∙ ap (λ (k : ℕ). areaAfter k w₀) (sym n);
+          bytes = zero-after z m b₀ b l p ∙ ap (λ (i : ℕ). areaAfter i b₀) (sym said-so);
+          words = zero-after z n w₀ w k q ∙ ap (λ (i : ℕ). areaAfter i w₀) (sym said-so);
         }

@@ -19,6 +19,7 @@ use Rattle.detection_shelf.specs.Shelves.{Shelf}
 use Rattle.detect.specs.declared.Best.{Best}
 use Rattle.detect.proofs.BestLaws.{noneYet, none-is}
 use Rattle.detect.specs.Bests.{bestIn}
+use Rattle.license_charge.specs.declared.Scorings.{Scorings}
 use Rattle.scan_elimination.specs.declared.Outcome.{Outcome}
 use Rattle.scan_ranges.specs.Run.{Ran}
 use Rattle.scan_elimination.specs.Ended.{NameFits, Eliminated}
@@ -42,6 +43,11 @@ step-above mode s e h =
 
 pub eliminated-as : {es fs : List Event} {budget : ℕ} {books : Shelf} {r₀ r : List ℕ} {x : Outcome} → es ≡ fs → Eliminated fs budget books r₀ r x → Eliminated es budget books r₀ r x
 eliminated-as {es} {fs} {budget} {books} {r₀} {r} {x} e h = subst (λ (l : List Event). Eliminated l budget books r₀ r x) (sym e) h
+
+-- of all that a budget pays
+pub eliminated-of : {es : List Event} {left : Scorings} {budget : ℕ} {books : Shelf} {r₀ r : List ℕ} {x : Outcome} → left ≡ record { count = budget } →
+    Eliminated es (left .count) books r₀ r x → Eliminated es budget books r₀ r x
+eliminated-of {es} {left} {budget} {books} {r₀} {r} {x} e h = subst (λ (s : Scorings). Eliminated es (s .count) books r₀ r x) e h
 
 -- top-down as a whole
 pub down-ended : (lim : Limits) (s : ℕ) (ss : List Stored) (ls : List (List ℕ)) {budget : ℕ} {books : Shelf} {r₀ r : List ℕ} (x : Outcome) → x .best ≡ noneYet →

@@ -22,6 +22,8 @@ use detect::no_best;
 use detection_shelf::Counts;
 use detection_texts::names::Name;
 use detection_texts::names::name_in;
+use license_charge::Scorings;
+use license_charge::scorings_of;
 use license_notes::clear;
 use license_notes::lay;
 use refusals::admit_scan;
@@ -45,12 +47,12 @@ fn scan_mode<'a>(
     book: &'a [u8],
     second: &'a [u8],
     results: &mut [u32],
-    budget: u64,
+    budget: Scorings,
 ) -> Outcome
     requires { ⌜ Scanning scope (now class) (now area) (now words) (shelf (now book) (now second)) ⌝ }
     requires { ⌜ stepZero mode ≡ false ⌝ }
-    requires { ⌜ length (written budget (events (scope .limits) mode (texts (shelf (now book) (now second))) (linesAt (now area) (now words) (scope .lines)))) ≤ length (now results) ⌝ }
-    ensures { λ r. ⌜ Eliminated (events (scope .limits) mode (texts (shelf (now (book .entry)) (now (second .entry)))) (linesAt (now (area .entry)) (now (words .entry)) (scope .lines))) budget (shelf (now (book .entry)) (now (second .entry))) (now (results .entry)) (now (results .exit)) r ⌝ }
+    requires { ⌜ length (written (budget .count) (events (scope .limits) mode (texts (shelf (now book) (now second))) (linesAt (now area) (now words) (scope .lines)))) ≤ length (now results) ⌝ }
+    ensures { λ r. ⌜ Eliminated (events (scope .limits) mode (texts (shelf (now (book .entry)) (now (second .entry)))) (linesAt (now (area .entry)) (now (words .entry)) (scope .lines))) (budget .count) (shelf (now (book .entry)) (now (second .entry))) (now (results .entry)) (now (results .exit)) r ⌝ }
 {
     match mode {
         Mode::Elimination(optimize, p) => {
@@ -210,7 +212,7 @@ pub fn scan_laid<'a>(
         book,
         second,
         results,
-        budget,
+        scorings_of(budget),
     );
     answer(book, second, limits, outcome, budget)
 }

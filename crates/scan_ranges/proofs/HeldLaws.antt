@@ -4,7 +4,7 @@
 --     held-none, held-more              the same lines, once and again
 --     scanning-held                     a scan goes on
 -- Assumes nothing.
-use mathlib.Core.Path.{_≡_, refl, sym, _∙_, subst}
+use mathlib.Core.Path.{_≡_, refl, sym, ap, _∙_, subst}
 use mathlib.Core.List.{List}
 use mathlib.Core.Option.{Option, none, some}
 use Prim.Native.Nat.{ℕ, _≤_}
@@ -15,6 +15,7 @@ use Rattle.rules.specs.Search.{bounds, view}
 use Rattle.rules.proofs.DownLaws.{bounds-in}
 use Rattle.preproc_table.specs.Entries.{linesAt}
 use Rattle.license_bounds.specs.declared.Ranged.the-variants as ranged
+use Rattle.license_charge.specs.declared.Scorings.{Scorings}
 use Rattle.license_charge.specs.Pay.{Paid}
 use Rattle.license_bounds.specs.Found.{rangedOf}
 use Rattle.license_notes.specs.Laid.{Laid, Held}
@@ -32,12 +33,13 @@ unfolding rangedOf
 range-out none e = refl
 range-out (some p) e = absurd (let z : _≡_ {A = ℕ} 0 1 = cc in omega arith)
 
-pub range-found : (o : Option (Paid Bounds)) (x : Bounds) (left : ℕ) → ranged.Found x left ≡ rangedOf o → o ≡ some (record { value = x; left = left })
+pub range-found : (o : Option (Paid Bounds)) (x : Bounds) (left : Scorings) → ranged.Found x left ≡ rangedOf o → o ≡ some (record { value = x; left = left .count })
 unfolding rangedOf
 range-found none x left e = absurd (let z : _≡_ {A = ℕ} 0 1 = cc in omega arith)
 range-found (some p) x left e =
     let v : p .value ≡ x = cc in
-    let l : p .left ≡ left = cc in
+    let s : _≡_ {A = Scorings} (record { count = p .left }) left = cc in
+    let l = ap (λ (y : Scorings). y .count) s in
     simp (sym v, sym l)
 
 -- ---- bounds lie in their view, and score from 0.0 to 1.0

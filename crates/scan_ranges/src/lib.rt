@@ -19,6 +19,8 @@ use detection_shelf::Shelved;
 use detection_shelf::body_of;
 use license_bounds::Ranged;
 use license_bounds::find_bounds;
+use license_charge::Scorings;
+use license_charge::count_of;
 use rules::Bounds;
 use rules::Limits;
 use rules::View;
@@ -53,13 +55,13 @@ pub fn out_at(k: u32) -> Run
 }
 
 // All is paid, with k ranges recorded.
-pub fn ended(k: u32, left: u64) -> Run
-    ensures { λ r. ⌜ r ≡ runOf k (some left) ⌝ }
+pub fn ended(k: u32, left: Scorings) -> Run
+    ensures { λ r. ⌜ r ≡ runOf k (some (left .count)) ⌝ }
 {
     Run {
         out: false,
         records: k,
-        left,
+        left: count_of(left),
     }
 }
 
@@ -82,12 +84,12 @@ pub fn text_bounds<'a>(
     book: &'a [u8],
     second: &'a [u8],
     text: Shelved,
-    budget: u64,
+    budget: Scorings,
 ) -> Ranged
     requires { ⌜ Scanning scope (now class) (now area) (now words) (shelf (now book) (now second)) ⌝ }
     requires { ⌜ (v .start ≤ v .end) × (v .end ≤ scope .lines) ⌝ }
     requires { ⌜ Stands (shelf (now book) (now second)) text ⌝ }
-    ensures { λ r. ⌜ RangeDone scope (now (class .entry)) (now (area .entry)) (now (words .entry)) (now (area .exit)) (now (words .exit)) v (shelf (now (book .entry)) (now (second .entry))) text budget r ⌝ }
+    ensures { λ r. ⌜ RangeDone scope (now (class .entry)) (now (area .entry)) (now (words .entry)) (now (area .exit)) (now (words .exit)) v (shelf (now (book .entry)) (now (second .entry))) text (budget .count) r ⌝ }
 {
     let n = scope.n;
     let lines = scope.lines;

@@ -23,6 +23,7 @@ use Rattle.preproc_table.specs.Entries.{linesAt}
 use Rattle.preproc_table.proofs.EntryLaws.{lines-length}
 use Rattle.license_bounds.specs.declared.Ranged.{Ranged}
 use Rattle.license_bounds.specs.declared.Ranged.the-variants as ranged
+use Rattle.license_charge.specs.declared.Scorings.{Scorings}
 use Rattle.license_charge.specs.Pay.{Paid, pay}
 use Rattle.license_notes.specs.Laid.{Held}
 use Rattle.license_charge.proofs.PayLaws.{andThen, pay-bind, pay-done}
@@ -45,13 +46,13 @@ use Rattle.scan_ranges.proofs.GoingLaws.{Going, going-first, going-as, going-pa
 use Rattle.scan_views.proofs.RoundLaws.{viewsFrom}
 
 -- ---- the pair's bounds
-module _ {scope : Scope} {class area₀ words₀ : List ℕ} {books : Shelf} (s : Scanning scope class area₀ words₀ books) (budget : ℕ) where
+module _ {scope : Scope} {class area₀ words₀ : List ℕ} {books : Shelf} (s : Scanning scope class area₀ words₀ books) (budget : Scorings) where
   abbrev pub settles : Latest → List Stored → List (List ℕ) → Made (Option Recorded)
   settles l ss ms = settled (scope .limits) ms (latestIn books l)
 
-  pub settle-none : (l : Latest) → l ≡ recent.Nothing → Contains scope area₀ words₀ area₀ words₀ books (λ ss ms. settles l ss ms) budget (round.Nothing budget)
+  pub settle-none : (l : Latest) → l ≡ recent.Nothing → Contains scope area₀ words₀ area₀ words₀ books (λ ss ms. settles l ss ms) (budget .count) (round.Nothing budget)
   unfolding settled latestIn containedIn ContainedStands
-  settle-none l e = rw e (record { is = sym (pay-done none budget); stands = tt; held = held-none (s .laid) })
+  settle-none l e = rw e (record { is = sym (pay-done none (budget .count)); stands = tt; held = held-none (s .laid) })
 
   module _ (l : Latest) (v : View) (t : Shelved) (e : l ≡ recent.Pair v t) where
     abbrev ls : List (List ℕ)
@@ -60,42 +61,42 @@ module _ {scope : Scope} {class area₀ words₀ : List ℕ} {books : Shelf} (s 
     abbrev kept : Bounds → Option Recorded
     kept r = cond (below (scope .limits) r) none (some (record { text = textIn books t; range = r }))
 
-    pair-paid : pay (settles l (texts books) ls) budget ≡ andThen (pay (bounds ls v (textIn books t)) budget) (λ r n. pay (done (kept r)) n)
+    pair-paid : pay (settles l (texts books) ls) (budget .count) ≡ andThen (pay (bounds ls v (textIn books t)) (budget .count)) (λ r n. pay (done (kept r)) n)
     unfolding settled latestIn
-    pair-paid = ap (λ (k : Latest). pay (settles k (texts books) ls) budget) e ∙ pay-bind (bounds ls v (textIn books t)) (λ r. done (kept r)) budget
+    pair-paid = ap (λ (k : Latest). pay (settles k (texts books) ls) (budget .count)) e ∙ pay-bind (bounds ls v (textIn books t)) (λ r. done (kept r)) (budget .count)
 
-    pub settle-out : {area words : List ℕ} → RangeDone scope class area₀ words₀ area words v books t budget ranged.Out →
-        Contains scope area₀ words₀ area words books (λ ss ms. settles l ss ms) budget round.Out
+    pub settle-out : {area words : List ℕ} → RangeDone scope class area₀ words₀ area words v books t (budget .count) ranged.Out →
+        Contains scope area₀ words₀ area words books (λ ss ms. settles l ss ms) (budget .count) round.Out
     unfolding containedIn ContainedStands andThen
     settle-out d = record {
-      is = sym (pair-paid ∙ ap (λ (o : Option (Paid Bounds)). andThen o (λ r n. pay (done (kept r)) n)) (range-out (pay (bounds ls v (textIn books t)) budget) (d .is)));
+      is = sym (pair-paid ∙ ap (λ (o : Option (Paid Bounds)). andThen o (λ r n. pay (done (kept r)) n)) (range-out (pay (bounds ls v (textIn books t)) (budget .count)) (d .is)));
       stands = tt;
       held = d .held;
     }
 
-    module _ {area words : List ℕ} (range : Bounds) (left : ℕ) (d : RangeDone scope class area₀ words₀ area words v books t budget (ranged.Found range left)) where
-      range-paid : pay (bounds ls v (textIn books t)) budget ≡ some (record { value = range; left = left })
-      range-paid = range-found (pay (bounds ls v (textIn books t)) budget) range left (d .is)
+    module _ {area words : List ℕ} (range : Bounds) (left : Scorings) (d : RangeDone scope class area₀ words₀ area words v books t (budget .count) (ranged.Found range left)) where
+      range-paid : pay (bounds ls v (textIn books t)) (budget .count) ≡ some (record { value = range; left = left .count })
+      range-paid = range-found (pay (bounds ls v (textIn books t)) (budget .count)) range left (d .is)
 
-      kept-paid : pay (settles l (texts books) ls) budget ≡ pay (done (kept range)) left
+      kept-paid : pay (settles l (texts books) ls) (budget .count) ≡ pay (done (kept range)) (left .count)
       unfolding andThen
       kept-paid = pair-paid ∙ ap (λ (o : Option (Paid Bounds)). andThen o (λ r n. pay (done (kept r)) n)) range-paid
 
-      pub settle-below : below (scope .limits) range ≡ true → Contains scope area₀ words₀ area words books (λ ss ms. settles l ss ms) budget (round.Nothing left)
+      pub settle-below : below (scope .limits) range ≡ true → Contains scope area₀ words₀ area words books (λ ss ms. settles l ss ms) (budget .count) (round.Nothing left)
       unfolding containedIn ContainedStands
       settle-below b = record {
-        is = sym (kept-paid ∙ ap (λ (q : Bool). pay (done (cond q none (some (record { text = textIn books t; range = range })))) left) b ∙ pay-done none left);
+        is = sym (kept-paid ∙ ap (λ (q : Bool). pay (done (cond q none (some (record { text = textIn books t; range = range })))) (left .count)) b ∙ pay-done none (left .count));
         stands = tt;
         held = d .held;
       }
 
       pub settle-found : below (scope .limits) range ≡ false → LatestStands books (scope .lines) l →
-          Contains scope area₀ words₀ area words books (λ ss ms. settles l ss ms) budget (round.Found t range left)
+          Contains scope area₀ words₀ area words books (λ ss ms. settles l ss ms) (budget .count) (round.Found t range left)
       unfolding containedIn ContainedStands LatestStands
       settle-found b h = record {
-        is = sym (kept-paid ∙ ap (λ (q : Bool). pay (done (cond q none (some (record { text = textIn books t; range = range })))) left) b ∙
-            pay-done (some (record { text = textIn books t; range = range })) left);
-        stands = (both .0, fits-of s v t (both .1) (both .2) (both .0) range (sym (paid-is (bounds ls v (textIn books t)) budget (record { value = range; left = left }) range-paid .0)));
+        is = sym (kept-paid ∙ ap (λ (q : Bool). pay (done (cond q none (some (record { text = textIn books t; range = range })))) (left .count)) b ∙
+            pay-done (some (record { text = textIn books t; range = range })) (left .count));
+        stands = (both .0, fits-of s v t (both .1) (both .2) (both .0) range (sym (paid-is (bounds ls v (textIn books t)) (budget .count) (record { value = range; left = left .count }) range-paid .0)));
         held = d .held;
       }
         where
@@ -143,15 +144,15 @@ module _ (scope : Scope) (area₀ words₀ : List ℕ) (books : Shelf) (c step b
       held = held-more (w .held) (d .held);
     }
 
-    module _ {area words : List ℕ} {l : Latest} {left : ℕ} {r : Contained} where
+    module _ {area words : List ℕ} {l : Latest} {left : Scorings} {r : Contained} where
       pub contains-on : Pairs scope area₀ words₀ area₁ words₁ books (λ ss ms. seeks ss ms) budget (walked.On l left) →
-          Contains scope area₁ words₁ area words books (λ ss ms. settled (scope .limits) ms (latestIn books l)) left r →
+          Contains scope area₁ words₁ area words books (λ ss ms. settled (scope .limits) ms (latestIn books l)) (left .count) r →
           Contains scope area₀ words₀ area words books (λ ss ms. contains ss ms) budget r
       unfolding pairIn
       contains-on w d = settle-after l refl w d
 
       pub contains-over : Pairs scope area₀ words₀ area₁ words₁ books (λ ss ms. seeks ss ms) budget (walked.Over l left) →
-          Contains scope area₁ words₁ area words books (λ ss ms. settled (scope .limits) ms (latestIn books l)) left r →
+          Contains scope area₁ words₁ area words books (λ ss ms. settled (scope .limits) ms (latestIn books l)) (left .count) r →
           Contains scope area₀ words₀ area words books (λ ss ms. contains ss ms) budget r
       unfolding pairIn
       contains-over w d = settle-after l refl w d
@@ -233,23 +234,23 @@ module _ {scope : Scope} {class area₀ words₀ : List ℕ} {books : Shelf} {r�
         going-paid made (andOn (λ a. on a) o) (record { value = o; left = rest }) e
         (going-as (down-split h ∙ ap (λ (q : Option Recorded). after (made .list) (andOn (λ a. on a) q)) (sym (paid-is made left (record { value = o; left = rest }) e .0))) (i .going))
 
-    pub rounds-nothing : {area′ words′ : List ℕ} (x : Run) (rest : ℕ) → Contains scope area words area′ words′ books (λ ss ms. rules.contained (scope .limits) step ss ms c) left (round.Nothing rest) →
-        x ≡ runOf k (some rest) → Ran whole budget r₀ r x
+    pub rounds-nothing : {area′ words′ : List ℕ} (x : Run) (rest : Scorings) → Contains scope area words area′ words′ books (λ ss ms. rules.contained (scope .limits) step ss ms c) left (round.Nothing rest) →
+        x ≡ runOf k (some (rest .count)) → Ran whole budget r₀ r x
     unfolding containedIn andOn
-    rounds-nothing x rest d q = going-end x q (paid-past none rest (sym (round-is d)))
+    rounds-nothing x rest d q = going-end x q (paid-past none (rest .count) (sym (round-is d)))
 
-    module _ {area′ words′ : List ℕ} (t : Shelved) (range : Bounds) (rest : ℕ)
+    module _ {area′ words′ : List ℕ} (t : Shelved) (range : Bounds) (rest : Scorings)
         (d : Contains scope area words area′ words′ books (λ ss ms. rules.contained (scope .limits) step ss ms c) left (round.Found t range rest)) where
       abbrev recorded : Recorded
       recorded = record { text = textIn books t; range = range }
 
-      paid-found : pay made left ≡ some (record { value = some recorded; left = rest })
+      paid-found : pay made left ≡ some (record { value = some recorded; left = rest .count })
       unfolding containedIn
       paid-found = sym (round-is d)
 
-      past : Going whole budget r₀ r k rest (found recorded ∷ on (range .after + 1))
+      past : Going whole budget r₀ r k (rest .count) (found recorded ∷ on (range .after + 1))
       unfolding andOn
-      past = paid-past (some recorded) rest paid-found
+      past = paid-past (some recorded) (rest .count) paid-found
 
       pub rounds-fits : RangeFits (scope .lines) range
       unfolding ContainedStands
@@ -260,11 +261,11 @@ module _ {scope : Scope} {class area₀ words₀ : List ℕ} {books : Shelf} {r�
 
       pub rounds-rise : c ≤ range .after
       rounds-rise =
-          let inside = contained-in (scope .limits) step (texts books) all-lines p c recorded (sym (paid-is made left (record { value = some recorded; left = rest }) paid-found .0)) in
+          let inside = contained-in (scope .limits) step (texts books) all-lines p c recorded (sym (paid-is made left (record { value = some recorded; left = rest .count }) paid-found .0)) in
           omega (arith, inside .0, inside .1)
 
       pub rounds-found : {r′ : List ℕ} → r′ ≡ take (recordWidth * k) r ++ four recorded ++ drop (recordWidth * k + recordWidth) r →
-          Downing scope class area₀ words₀ books r₀ step budget area′ words′ r′ rest (range .after + 1) (k + 1)
+          Downing scope class area₀ words₀ books r₀ step budget area′ words′ r′ (rest .count) (range .after + 1) (k + 1)
       rounds-found {r′} e = record {
         ready = scanning-held (i .ready) (d .held);
         held = held-more (i .held) (d .held);

@@ -17,8 +17,8 @@ use Rattle.scan_top_down.specs.declared.Contained.the-variants as contai
 
 unfoldable pub containedIn : Shelf → Contained → Option (Paid (Option Recorded))
 containedIn books contained.Out = none
-containedIn books (contained.Nothing left) = some (record { value = none; left = left })
-containedIn books (contained.Found t r left) = some (record { value = some (record { text = textIn books t; range = r }); left = left })
+containedIn books (contained.Nothing left) = some (record { value = none; left = left .count })
+containedIn books (contained.Found t r left) = some (record { value = some (record { text = textIn books t; range = r }); left = left .count })
 
 unfoldable pub ContainedStands : Shelf → ℕ → Contained → Type 0
 ContainedStands books lines contained.Out = Unit {0}

@@ -11,6 +11,7 @@ ghost use Rattle.scan_views.specs.Down.{latestIn, LatestStands};
 ghost use Rattle.scan_top_down.specs.Contains.{Contains};
 use detection_shelf::Shelved;
 use license_bounds::Ranged;
+use license_charge::Scorings;
 use rules::Bounds;
 use scan_ranges::Run;
 use scan_ranges::Scope;
@@ -26,8 +27,8 @@ use scan_views::walk_starts;
 // What a round finds: the budget is out; nothing; or a text and its range. With the scorings left.
 pub enum Contained {
     Out,
-    Nothing(u64),
-    Found(Shelved, Bounds, u64),
+    Nothing(Scorings),
+    Found(Shelved, Bounds, Scorings),
 }
 
 // The bounds of the pair against its text; below the threshold it is nothing.
@@ -39,11 +40,11 @@ fn settle<'a>(
     book: &'a [u8],
     second: &'a [u8],
     latest: Latest,
-    budget: u64,
+    budget: Scorings,
 ) -> Contained
     requires { ⌜ Scanning scope (now class) (now area) (now words) (shelf (now book) (now second)) ⌝ }
     requires { ⌜ LatestStands (shelf (now book) (now second)) (scope .lines) latest ⌝ }
-    ensures { λ r. ⌜ Contains scope (now (area .entry)) (now (words .entry)) (now (area .exit)) (now (words .exit)) (shelf (now (book .entry)) (now (second .entry))) (λ ss ls. rules.settled (scope .limits) ls (latestIn (shelf (now (book .entry)) (now (second .entry))) latest)) budget r ⌝ }
+    ensures { λ r. ⌜ Contains scope (now (area .entry)) (now (words .entry)) (now (area .exit)) (now (words .exit)) (shelf (now (book .entry)) (now (second .entry))) (λ ss ls. rules.settled (scope .limits) ls (latestIn (shelf (now (book .entry)) (now (second .entry))) latest)) (budget .count) r ⌝ }
 {
     let Latest::Pair(v, text) = latest else {
         return Contained::Nothing(budget);
@@ -77,11 +78,11 @@ fn find_contained<'a>(
     step: u64,
     book: &'a [u8],
     second: &'a [u8],
-    budget: u64,
+    budget: Scorings,
 ) -> Contained
     requires { ⌜ Scanning scope (now class) (now area) (now words) (shelf (now book) (now second)) ⌝ }
     requires { ⌜ (c ≤ scope .lines) × (0 < step) ⌝ }
-    ensures { λ r. ⌜ Contains scope (now (area .entry)) (now (words .entry)) (now (area .exit)) (now (words .exit)) (shelf (now (book .entry)) (now (second .entry))) (λ ss ls. rules.contained (scope .limits) step ss ls c) budget r ⌝ }
+    ensures { λ r. ⌜ Contains scope (now (area .entry)) (now (words .entry)) (now (area .exit)) (now (words .exit)) (shelf (now (book .entry)) (now (second .entry))) (λ ss ls. rules.contained (scope .limits) step ss ls c) (budget .count) r ⌝ }
 {
     match walk_starts(class, area, words, scope, c, step, book, second, budget) {
         Walked::Out => Contained::Out,
@@ -100,12 +101,12 @@ pub fn top_down<'a>(
     book: &'a [u8],
     second: &'a [u8],
     results: &mut [u32],
-    budget: u64,
+    budget: Scorings,
 ) -> Run
     requires { ⌜ Scanning scope (now class) (now area) (now words) (shelf (now book) (now second)) ⌝ }
     requires { ⌜ 0 < step ⌝ }
-    requires { ⌜ length (written budget (rules.topDown (scope .limits) step (texts (shelf (now book) (now second))) (linesAt (now area) (now words) (scope .lines)))) ≤ length (now results) ⌝ }
-    ensures { λ r. ⌜ Ran (rules.topDown (scope .limits) step (texts (shelf (now (book .entry)) (now (second .entry)))) (linesAt (now (area .entry)) (now (words .entry)) (scope .lines))) budget (now (results .entry)) (now (results .exit)) r ⌝ }
+    requires { ⌜ length (written (budget .count) (rules.topDown (scope .limits) step (texts (shelf (now book) (now second))) (linesAt (now area) (now words) (scope .lines)))) ≤ length (now results) ⌝ }
+    ensures { λ r. ⌜ Ran (rules.topDown (scope .limits) step (texts (shelf (now (book .entry)) (now (second .entry)))) (linesAt (now (area .entry)) (now (words .entry)) (scope .lines))) (budget .count) (now (results .entry)) (now (results .exit)) r ⌝ }
 {
     let lines = scope.lines;
     let mut left = budget;

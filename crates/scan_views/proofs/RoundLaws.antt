@@ -22,6 +22,7 @@ use Rattle.rules.specs.Search.{Made, Stored, done, view}
 use Rattle.rules.specs.Scan.{Pair, steps, viewsOf, latest}
 use Rattle.rules.proofs.Steps.{steps-more, steps-end}
 use Rattle.preproc_table.specs.Entries.{linesAt}
+use Rattle.license_charge.specs.declared.Scorings.{Scorings}
 use Rattle.license_charge.specs.Pay.{Paid, pay}
 use Rattle.license_notes.specs.Laid.{Held}
 use Rattle.license_charge.proofs.PayLaws.{andThen, pay-bind, pay-done}
@@ -52,12 +53,12 @@ walks-as {scope} {area₀} {words₀} {area} {words} {books} {run} {budget} {r} 
     subst (λ (y : Walked). Walks scope area₀ words₀ area words books run budget y) e d
 
 -- ---- one view
-lower-is : (books : Shelf) (l : Latest) (left : ℕ) → walkedIn books (lowerIn l left) ≡ pay (done (lowered (latestIn books l))) left
+lower-is : (books : Shelf) (l : Latest) (left : Scorings) → walkedIn books (lowerIn l left) ≡ pay (done (lowered (latestIn books l))) (left .count)
 unfolding walkedIn lowerIn lowered latestIn
-lower-is books recent.Nothing left = sym (pay-done (record { pair = none; ended = false }) left)
-lower-is books (recent.Pair v t) left = sym (pay-done (record { pair = some (record { view = v; text = textIn books t }); ended = true }) left)
+lower-is books recent.Nothing left = sym (pay-done (record { pair = none; ended = false }) (left .count))
+lower-is books (recent.Pair v t) left = sym (pay-done (record { pair = some (record { view = v; text = textIn books t }); ended = true }) (left .count))
 
-lower-stands : (books : Shelf) (lines : ℕ) (l : Latest) (left : ℕ) → LatestStands books lines l → WalkedStands books lines (lowerIn l left)
+lower-stands : (books : Shelf) (lines : ℕ) (l : Latest) (left : Scorings) → LatestStands books lines l → WalkedStands books lines (lowerIn l left)
 unfolding WalkedStands lowerIn
 lower-stands books lines recent.Nothing left h = h
 lower-stands books lines (recent.Pair v t) left h = h
@@ -89,13 +90,13 @@ module _ (scope : Scope) (area₀ words₀ : List ℕ) (books : Shelf) (v : View
     held = d .held;
   }
 
-  module _ {area words : List ℕ} (b : Best) (left : ℕ) (d : BestAbove (scope .n) (scope .lines) area₀ words₀ area words v books floor budget (chosen.Found b left)) where
+  module _ {area words : List ℕ} (b : Best) (left : Scorings) (d : BestAbove (scope .n) (scope .lines) area₀ words₀ area words v books floor budget (chosen.Found b left)) where
     -- the definition's best, which b is unless both are below the threshold
-    real : (x : rules.Best) × ((pay (rules.best (texts books) all-lines v) budget ≡ some (record { value = x; left = left })) × Alike floor (bestIn books b) x)
+    real : (x : rules.Best) × ((pay (rules.best (texts books) all-lines v) budget ≡ some (record { value = x; left = left .count })) × Alike floor (bestIn books b) x)
     unfolding ChosenFor
     real = d .is
 
-    found-paid : pay (one (texts books) all-lines) budget ≡ pay (seen (real .0)) left
+    found-paid : pay (one (texts books) all-lines) budget ≡ pay (seen (real .0)) (left .count)
     unfolding andThen
     found-paid = one-paid ∙ ap (λ (o : Option (Paid rules.Best)). andThen o (λ x n. pay (seen x) n)) (real .1 .0)
 
@@ -103,7 +104,7 @@ module _ (scope : Scope) (area₀ words₀ : List ℕ) (books : Shelf) (v : View
         Walks scope area₀ words₀ area words books (λ ss ls. one ss ls) budget r
     unfolding bestIn
     see-low r t h e = rw e (record {
-      is = lower-is books l left ∙ sym (found-paid ∙ ap (λ (q : Bool). pay (cond q (done (lowered (latestIn books l))) (done (record { pair = some (record { view = v; text = real .0 .text }); ended = false }))) left)
+      is = lower-is books l left ∙ sym (found-paid ∙ ap (λ (q : Bool). pay (cond q (done (lowered (latestIn books l))) (done (record { pair = some (record { view = v; text = real .0 .text }); ended = false }))) (left .count))
           (alike-low floor (bestIn books b) (real .0) (real .1 .1) t));
       stands = lower-stands books (scope .lines) l left h;
       held = d .held;
@@ -113,9 +114,9 @@ module _ (scope : Scope) (area₀ words₀ : List ℕ) (books : Shelf) (v : View
         Walks scope area₀ words₀ area words books (λ ss ls. one ss ls) budget (walked.On (recent.Pair v (b .text)) left)
     unfolding bestIn walkedIn latestIn WalkedStands LatestStands ChosenStands
     see-high t h u = record {
-      is = sym (found-paid ∙ ap (λ (x : rules.Best). pay (seen x) left) (sym (alike-high floor (bestIn books b) (real .0) (real .1 .1) t)) ∙
-          ap (λ (q : Bool). pay (cond q (done (lowered (latestIn books l))) (done (record { pair = some (record { view = v; text = textIn books (b .text) }); ended = false }))) left) t ∙
-          pay-done (record { pair = some (record { view = v; text = textIn books (b .text) }); ended = false }) left);
+      is = sym (found-paid ∙ ap (λ (x : rules.Best). pay (seen x) (left .count)) (sym (alike-high floor (bestIn books b) (real .0) (real .1 .1) t)) ∙
+          ap (λ (q : Bool). pay (cond q (done (lowered (latestIn books l))) (done (record { pair = some (record { view = v; text = textIn books (b .text) }); ended = false }))) (left .count)) t ∙
+          pay-done (record { pair = some (record { view = v; text = textIn books (b .text) }); ended = false }) (left .count));
       stands = (d .stands u, h .0, h .1);
       held = d .held;
     }
@@ -148,18 +149,18 @@ module _ (lim : Limits) (ss : List Stored) (ls : List (List ℕ)) (books : Shelf
 abbrev pub endsFrom : ℕ → ℕ → ℕ → ℕ → List View
 endsFrom start step lines e = map (λ x. view start x) (steps step e (suc lines))
 
-pub record Ending (scope : Scope) (class area₀ words₀ : List ℕ) (books : Shelf) (start step : ℕ) (o : Latest) (budget : ℕ) (area words : List ℕ) (l : Latest) (left end : ℕ) : Type 0 where
+pub record Ending (scope : Scope) (class area₀ words₀ : List ℕ) (books : Shelf) (start step : ℕ) (o : Latest) (budget : ℕ) (area words : List ℕ) (l : Latest) (left : Scorings) (end : ℕ) : Type 0 where
   pub ready : Scanning scope class area words books
   pub held : Held (scope .n) (scope .lines) area₀ words₀ area words
   pub stands : LatestStands books (scope .lines) l
   pub from : start ≤ end
   pub to : end ≤ suc (scope .lines)
   pub paid :
-      pay (walk (scope .limits) (texts books) (linesAt area₀ words₀ (scope .lines)) (latestIn books l) (endsFrom start step (scope .lines) end)) left ≡
+      pay (walk (scope .limits) (texts books) (linesAt area₀ words₀ (scope .lines)) (latestIn books l) (endsFrom start step (scope .lines) end)) (left .count) ≡
       pay (walk (scope .limits) (texts books) (linesAt area₀ words₀ (scope .lines)) (latestIn books o) (endsFrom start step (scope .lines) start)) budget
 
-pub ends-first : {scope : Scope} {class area words : List ℕ} {books : Shelf} (start step : ℕ) (o : Latest) (budget : ℕ) → Scanning scope class area words books →
-    LatestStands books (scope .lines) o → start ≤ scope .lines → Ending scope class area words books start step o budget area words o budget start
+pub ends-first : {scope : Scope} {class area words : List ℕ} {books : Shelf} (start step : ℕ) (o : Latest) (budget : Scorings) → Scanning scope class area words books →
+    LatestStands books (scope .lines) o → start ≤ scope .lines → Ending scope class area words books start step o (budget .count) area words o budget start
 ends-first start step o budget s h l = record {
   ready = s;
   held = held-none (s .laid);
@@ -169,7 +170,7 @@ ends-first start step o budget s h l = record {
   paid = refl;
 }
 
-module _ {scope : Scope} {class area₀ words₀ : List ℕ} {books : Shelf} {start step : ℕ} {o : Latest} {budget : ℕ} {area words : List ℕ} {l : Latest} {left end : ℕ}
+module _ {scope : Scope} {class area₀ words₀ : List ℕ} {books : Shelf} {start step : ℕ} {o : Latest} {budget : ℕ} {area words : List ℕ} {l : Latest} {left : Scorings} {end : ℕ}
     (i : Ending scope class area₀ words₀ books start step o budget area words l left end) (p : 0 < step) where
   abbrev lim : Limits
   lim = scope .limits
@@ -190,30 +191,30 @@ module _ {scope : Scope} {class area₀ words₀ : List ℕ} {books : Shelf} {st
   ends-split h =
       ap (map (λ x. view start x)) (steps-more step end (suc (scope .lines)) p h ∙ ap (λ (m : List ℕ). end ∷ m) (sym (steps-least step end (suc (scope .lines)) p)))
 
-  module _ {area′ words′ : List ℕ} {r : Walked} (h : end < suc (scope .lines)) (w : Walks scope area words area′ words′ books (λ ss ms. oneEnd ss ms) left r) where
+  module _ {area′ words′ : List ℕ} {r : Walked} (h : end < suc (scope .lines)) (w : Walks scope area words area′ words′ books (λ ss ms. oneEnd ss ms) (left .count) r) where
     past : andThen (walkedIn books r) (λ a n. pay (walk-on lim (texts books) ls (ends (min (end + step) (suc (scope .lines)))) a) n) ≡ pay (allEnds (texts books) ls) budget
     past =
-        sym (walk-past lim (texts books) ls books (latestIn books l) left r (view start end) (ends (min (end + step) (suc (scope .lines))))
-        (w .is ∙ ap (λ (ms : List (List ℕ)). pay (oneEnd (texts books) ms) left) (i .held .same))) ∙
-        ap (λ (vs : List View). pay (walk lim (texts books) ls (latestIn books l) vs) left) (sym (ends-split h)) ∙ i .paid
+        sym (walk-past lim (texts books) ls books (latestIn books l) (left .count) r (view start end) (ends (min (end + step) (suc (scope .lines))))
+        (w .is ∙ ap (λ (ms : List (List ℕ)). pay (oneEnd (texts books) ms) (left .count)) (i .held .same))) ∙
+        ap (λ (vs : List View). pay (walk lim (texts books) ls (latestIn books l) vs) (left .count)) (sym (ends-split h)) ∙ i .paid
 
   module _ {area′ words′ : List ℕ} (h : end < suc (scope .lines)) where
-    pub ends-out : Walks scope area words area′ words′ books (λ ss ms. oneEnd ss ms) left walked.Out →
+    pub ends-out : Walks scope area words area′ words′ books (λ ss ms. oneEnd ss ms) (left .count) walked.Out →
         Walks scope area₀ words₀ area′ words′ books (λ ss ms. allEnds ss ms) budget walked.Out
     unfolding walkedIn andThen WalkedStands
     ends-out w = record { is = past h w; stands = tt; held = held-more (i .held) (w .held) }
 
-    module _ {l′ : Latest} {left′ : ℕ} where
-      pub ends-over : Walks scope area words area′ words′ books (λ ss ms. oneEnd ss ms) left (walked.Over l′ left′) →
+    module _ {l′ : Latest} {left′ : Scorings} where
+      pub ends-over : Walks scope area words area′ words′ books (λ ss ms. oneEnd ss ms) (left .count) (walked.Over l′ left′) →
           Walks scope area₀ words₀ area′ words′ books (λ ss ms. allEnds ss ms) budget (walked.Over l′ left′)
       unfolding walkedIn andThen WalkedStands
       ends-over w = record {
-        is = sym (pay-done (record { pair = latestIn books l′; ended = true }) left′) ∙ past h w;
+        is = sym (pay-done (record { pair = latestIn books l′; ended = true }) (left′ .count)) ∙ past h w;
         stands = w .stands;
         held = held-more (i .held) (w .held);
       }
 
-      pub ends-next : {end′ : ℕ} → end′ ≡ min (end + step) (suc (scope .lines)) → Walks scope area words area′ words′ books (λ ss ms. oneEnd ss ms) left (walked.On l′ left′) →
+      pub ends-next : {end′ : ℕ} → end′ ≡ min (end + step) (suc (scope .lines)) → Walks scope area words area′ words′ books (λ ss ms. oneEnd ss ms) (left .count) (walked.On l′ left′) →
           Ending scope class area₀ words₀ books start step o budget area′ words′ l′ left′ end′
       unfolding walkedIn andThen WalkedStands
       ends-next {end′} e w = record {
@@ -222,41 +223,41 @@ module _ {scope : Scope} {class area₀ words₀ : List ℕ} {books : Shelf} {st
         stands = w .stands;
         from = omega (arith, e, i .from, h);
         to = omega (arith, e);
-        paid = ap (λ (k : ℕ). pay (walk lim (texts books) ls (latestIn books l′) (ends k)) left′) e ∙ past h w;
+        paid = ap (λ (k : ℕ). pay (walk lim (texts books) ls (latestIn books l′) (ends k)) (left′ .count)) e ∙ past h w;
       }
 
   pub ends-end : suc (scope .lines) ≤ end → Walks scope area₀ words₀ area words books (λ ss ms. allEnds ss ms) budget (walked.On l left)
   unfolding walkedIn WalkedStands walk
   ends-end h = record {
-    is = sym (sym (i .paid) ∙ ap (λ (m : List ℕ). pay (walk lim (texts books) ls (latestIn books l) (map (λ x. view start x) m)) left) (steps-end step end (suc (scope .lines)) p h) ∙
+    is = sym (sym (i .paid) ∙ ap (λ (m : List ℕ). pay (walk lim (texts books) ls (latestIn books l) (map (λ x. view start x) m)) (left .count)) (steps-end step end (suc (scope .lines)) p h) ∙
         none-left (latestIn books l));
     stands = i .stands;
     held = i .held;
   }
     where
-      none-left : (q : Option Pair) → pay (walk lim (texts books) ls q []) left ≡ some (record { value = record { pair = q; ended = false }; left = left })
-      none-left none = pay-done (record { pair = none; ended = false }) left
-      none-left (some x) = pay-done (record { pair = some x; ended = false }) left
+      none-left : (q : Option Pair) → pay (walk lim (texts books) ls q []) (left .count) ≡ some (record { value = record { pair = q; ended = false }; left = left .count })
+      none-left none = pay-done (record { pair = none; ended = false }) (left .count)
+      none-left (some x) = pay-done (record { pair = some x; ended = false }) (left .count)
 
 -- ---- the starts
 abbrev pub viewsFrom : ℕ → ℕ → ℕ → List View
 viewsFrom step lines a = viewsOf step lines (steps step a lines)
 
-pub record Starting (scope : Scope) (class area₀ words₀ : List ℕ) (books : Shelf) (c step : ℕ) (budget : ℕ) (area words : List ℕ) (l : Latest) (left start : ℕ) : Type 0 where
+pub record Starting (scope : Scope) (class area₀ words₀ : List ℕ) (books : Shelf) (c step : ℕ) (budget : ℕ) (area words : List ℕ) (l : Latest) (left : Scorings) (start : ℕ) : Type 0 where
   pub ready : Scanning scope class area words books
   pub held : Held (scope .n) (scope .lines) area₀ words₀ area words
   pub stands : LatestStands books (scope .lines) l
   pub to : start ≤ scope .lines
   pub paid :
-      pay (latest (scope .limits) (texts books) (linesAt area₀ words₀ (scope .lines)) (latestIn books l) (viewsFrom step (scope .lines) start)) left ≡
+      pay (latest (scope .limits) (texts books) (linesAt area₀ words₀ (scope .lines)) (latestIn books l) (viewsFrom step (scope .lines) start)) (left .count) ≡
       pay (latest (scope .limits) (texts books) (linesAt area₀ words₀ (scope .lines)) none (viewsFrom step (scope .lines) c)) budget
 
-pub starts-first : {scope : Scope} {class area words : List ℕ} {books : Shelf} (c step : ℕ) (budget : ℕ) → Scanning scope class area words books → c ≤ scope .lines →
-    Starting scope class area words books c step budget area words recent.Nothing budget c
+pub starts-first : {scope : Scope} {class area words : List ℕ} {books : Shelf} (c step : ℕ) (budget : Scorings) → Scanning scope class area words books → c ≤ scope .lines →
+    Starting scope class area words books c step (budget .count) area words recent.Nothing budget c
 unfolding latestIn LatestStands
 starts-first c step budget s l = record { ready = s; held = held-none (s .laid); stands = tt; to = l; paid = refl }
 
-module _ {scope : Scope} {class area₀ words₀ : List ℕ} {books : Shelf} {c step : ℕ} {budget : ℕ} {area words : List ℕ} {l : Latest} {left start : ℕ}
+module _ {scope : Scope} {class area₀ words₀ : List ℕ} {books : Shelf} {c step : ℕ} {budget : ℕ} {area words : List ℕ} {l : Latest} {left : Scorings} {start : ℕ}
     (i : Starting scope class area₀ words₀ books c step budget area words l left start) (p : 0 < step) where
   abbrev slim : Limits
   slim = scope .limits
@@ -278,30 +279,30 @@ module _ {scope : Scope} {class area₀ words₀ : List ℕ} {books : Shelf} {c 
   starts-split h =
       ap (viewsOf step (scope .lines)) (steps-more step start (scope .lines) p h ∙ ap (λ (m : List ℕ). start ∷ m) (sym (steps-least step start (scope .lines) p)))
 
-  module _ {area′ words′ : List ℕ} {r : Walked} (h : start < scope .lines) (w : Walks scope area words area′ words′ books (λ ss ms. oneStart ss ms) left r) where
+  module _ {area′ words′ : List ℕ} {r : Walked} (h : start < scope .lines) (w : Walks scope area words area′ words′ books (λ ss ms. oneStart ss ms) (left .count) r) where
     past-start : andThen (walkedIn books r) (λ a n. pay (after-walk slim (texts books) sls (views (min (start + step) (scope .lines))) a) n) ≡ pay (allStarts (texts books) sls) budget
     past-start =
-        sym (latest-past slim (texts books) sls books (latestIn books l) left r (endsFrom start step (scope .lines) start) (views (min (start + step) (scope .lines)))
-        (w .is ∙ ap (λ (ms : List (List ℕ)). pay (oneStart (texts books) ms) left) (i .held .same))) ∙
-        ap (λ (vs : List View). pay (latest slim (texts books) sls (latestIn books l) vs) left) (sym (starts-split h)) ∙ i .paid
+        sym (latest-past slim (texts books) sls books (latestIn books l) (left .count) r (endsFrom start step (scope .lines) start) (views (min (start + step) (scope .lines)))
+        (w .is ∙ ap (λ (ms : List (List ℕ)). pay (oneStart (texts books) ms) (left .count)) (i .held .same))) ∙
+        ap (λ (vs : List View). pay (latest slim (texts books) sls (latestIn books l) vs) (left .count)) (sym (starts-split h)) ∙ i .paid
 
   module _ {area′ words′ : List ℕ} (h : start < scope .lines) where
-    pub starts-out : Walks scope area words area′ words′ books (λ ss ms. oneStart ss ms) left walked.Out →
+    pub starts-out : Walks scope area words area′ words′ books (λ ss ms. oneStart ss ms) (left .count) walked.Out →
         Pairs scope area₀ words₀ area′ words′ books (λ ss ms. allStarts ss ms) budget walked.Out
     unfolding walkedIn pairIn andThen WalkedStands
     starts-out w = record { is = past-start h w; stands = tt; held = held-more (i .held) (w .held) }
 
-    module _ {l′ : Latest} {left′ : ℕ} where
-      pub starts-over : Walks scope area words area′ words′ books (λ ss ms. oneStart ss ms) left (walked.Over l′ left′) →
+    module _ {l′ : Latest} {left′ : Scorings} where
+      pub starts-over : Walks scope area words area′ words′ books (λ ss ms. oneStart ss ms) (left .count) (walked.Over l′ left′) →
           Pairs scope area₀ words₀ area′ words′ books (λ ss ms. allStarts ss ms) budget (walked.Over l′ left′)
       unfolding walkedIn pairIn andThen WalkedStands
       starts-over w = record {
-        is = sym (pay-done (latestIn books l′) left′) ∙ past-start h w;
+        is = sym (pay-done (latestIn books l′) (left′ .count)) ∙ past-start h w;
         stands = w .stands;
         held = held-more (i .held) (w .held);
       }
 
-      pub starts-next : {start′ : ℕ} → start′ ≡ min (start + step) (scope .lines) → Walks scope area words area′ words′ books (λ ss ms. oneStart ss ms) left (walked.On l′ left′) →
+      pub starts-next : {start′ : ℕ} → start′ ≡ min (start + step) (scope .lines) → Walks scope area words area′ words′ books (λ ss ms. oneStart ss ms) (left .count) (walked.On l′ left′) →
           Starting scope class area₀ words₀ books c step budget area′ words′ l′ left′ start′
       unfolding walkedIn andThen WalkedStands
       starts-next {start′} e w = record {
@@ -309,18 +310,18 @@ module _ {scope : Scope} {class area₀ words₀ : List ℕ} {books : Shelf} {c 
         held = held-more (i .held) (w .held);
         stands = w .stands;
         to = omega (arith, e);
-        paid = ap (λ (k : ℕ). pay (latest slim (texts books) sls (latestIn books l′) (views k)) left′) e ∙ past-start h w;
+        paid = ap (λ (k : ℕ). pay (latest slim (texts books) sls (latestIn books l′) (views k)) (left′ .count)) e ∙ past-start h w;
       }
 
   pub starts-end : scope .lines ≤ start → Pairs scope area₀ words₀ area words books (λ ss ms. allStarts ss ms) budget (walked.On l left)
   unfolding pairIn WalkedStands viewsOf latest
   starts-end h = record {
-    is = sym (sym (i .paid) ∙ ap (λ (m : List ℕ). pay (latest slim (texts books) sls (latestIn books l) (viewsOf step (scope .lines) m)) left) (steps-end step start (scope .lines) p h) ∙
+    is = sym (sym (i .paid) ∙ ap (λ (m : List ℕ). pay (latest slim (texts books) sls (latestIn books l) (viewsOf step (scope .lines) m)) (left .count)) (steps-end step start (scope .lines) p h) ∙
         none-left (latestIn books l));
     stands = i .stands;
     held = i .held;
   }
     where
-      none-left : (q : Option Pair) → pay (latest slim (texts books) sls q []) left ≡ some (record { value = q; left = left })
-      none-left none = pay-done none left
-      none-left (some x) = pay-done (some x) left
+      none-left : (q : Option Pair) → pay (latest slim (texts books) sls q []) (left .count) ≡ some (record { value = q; left = left .count })
+      none-left none = pay-done none (left .count)
+      none-left (some x) = pay-done (some x) (left .count)

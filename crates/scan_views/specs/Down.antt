@@ -12,6 +12,7 @@ use Rattle.rules.specs.declared.View.{View}
 use Rattle.rules.specs.Search.{Stored, Made, done, _>>=_, best}
 use Rattle.rules.specs.Scan.{Pair}
 use Rattle.preproc_table.specs.Entries.{linesAt}
+use Rattle.license_charge.specs.declared.Scorings.{Scorings}
 use Rattle.license_charge.specs.Pay.{Paid, pay}
 use Rattle.license_notes.specs.Laid.{Held}
 use Rattle.detection_shelf.specs.Shelves.{Shelf, texts, textIn, Stands}
@@ -44,19 +45,19 @@ latestIn books (latest.Pair v t) = some (record { view = v; text = textIn books 
 
 unfoldable pub walkedIn : Shelf → Walked → Option (Paid Seen)
 walkedIn books walked.Out = none
-walkedIn books (walked.On l left) = some (record { value = record { pair = latestIn books l; ended = false }; left = left })
-walkedIn books (walked.Over l left) = some (record { value = record { pair = latestIn books l; ended = true }; left = left })
+walkedIn books (walked.On l left) = some (record { value = record { pair = latestIn books l; ended = false }; left = left .count })
+walkedIn books (walked.Over l left) = some (record { value = record { pair = latestIn books l; ended = true }; left = left .count })
 
 -- after a score below the threshold
-unfoldable pub lowerIn : Latest → ℕ → Walked
+unfoldable pub lowerIn : Latest → Scorings → Walked
 lowerIn latest.Nothing left = walked.On latest.Nothing left
 lowerIn (latest.Pair v t) left = walked.Over (latest.Pair v t) left
 
 -- of a whole round: whichever way the walk came to its end
 unfoldable pub pairIn : Shelf → Walked → Option (Paid (Option Pair))
 pairIn books walked.Out = none
-pairIn books (walked.On l left) = some (record { value = latestIn books l; left = left })
-pairIn books (walked.Over l left) = some (record { value = latestIn books l; left = left })
+pairIn books (walked.On l left) = some (record { value = latestIn books l; left = left .count })
+pairIn books (walked.Over l left) = some (record { value = latestIn books l; left = left .count })
 
 -- a pair is a view of the lines and one of the stored texts
 unfoldable pub LatestStands : Shelf → ℕ → Latest → Type 0

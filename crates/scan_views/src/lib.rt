@@ -13,6 +13,7 @@ ghost use Rattle.scan_views.specs.Down.{walk, latestIn, LatestStands, Wa
 use detect::Chosen;
 use detect::best_above;
 use detection_shelf::Shelved;
+use license_charge::Scorings;
 use rules::View;
 use scan_ranges::Scope;
 
@@ -25,8 +26,8 @@ pub enum Latest {
 // A walk over views: the budget is out; or it goes on; or a score below the threshold has ended it. With the latest pair and the scorings left.
 pub enum Walked {
     Out,
-    On(Latest, u64),
-    Over(Latest, u64),
+    On(Latest, Scorings),
+    Over(Latest, Scorings),
 }
 
 // The next of some steps below n, or n. The sum is made only where it stays below n, so it never wraps.
@@ -41,7 +42,7 @@ fn next_step(a: usize, step: u64, n: usize) -> usize
 }
 
 // A score below the threshold ends the walk once there is a pair.
-fn lower(latest: Latest, left: u64) -> Walked
+fn lower(latest: Latest, left: Scorings) -> Walked
     ensures { λ r. ⌜ r ≡ lowerIn latest left ⌝ }
 {
     match latest {
@@ -60,12 +61,12 @@ fn see<'a>(
     book: &'a [u8],
     second: &'a [u8],
     latest: Latest,
-    budget: u64,
+    budget: Scorings,
 ) -> Walked
     requires { ⌜ Scanning scope (now class) (now area) (now words) (shelf (now book) (now second)) ⌝ }
     requires { ⌜ (v .start ≤ v .end) × (v .end ≤ scope .lines) ⌝ }
     requires { ⌜ LatestStands (shelf (now book) (now second)) (scope .lines) latest ⌝ }
-    ensures { λ r. ⌜ Walks scope (now (area .entry)) (now (words .entry)) (now (area .exit)) (now (words .exit)) (shelf (now (book .entry)) (now (second .entry))) (λ ss ls. walk (scope .limits) ss ls (latestIn (shelf (now (book .entry)) (now (second .entry))) latest) (v ∷ [])) budget r ⌝ }
+    ensures { λ r. ⌜ Walks scope (now (area .entry)) (now (words .entry)) (now (area .exit)) (now (words .exit)) (shelf (now (book .entry)) (now (second .entry))) (λ ss ls. walk (scope .limits) ss ls (latestIn (shelf (now (book .entry)) (now (second .entry))) latest) (v ∷ [])) (budget .count) r ⌝ }
 {
     let n = scope.n;
     let lines = scope.lines;
@@ -104,12 +105,12 @@ fn walk_ends<'a>(
     book: &'a [u8],
     second: &'a [u8],
     from: Latest,
-    budget: u64,
+    budget: Scorings,
 ) -> Walked
     requires { ⌜ Scanning scope (now class) (now area) (now words) (shelf (now book) (now second)) ⌝ }
     requires { ⌜ (start ≤ scope .lines) × (0 < step) ⌝ }
     requires { ⌜ LatestStands (shelf (now book) (now second)) (scope .lines) from ⌝ }
-    ensures { λ r. ⌜ Walks scope (now (area .entry)) (now (words .entry)) (now (area .exit)) (now (words .exit)) (shelf (now (book .entry)) (now (second .entry))) (λ ss ls. walk (scope .limits) ss ls (latestIn (shelf (now (book .entry)) (now (second .entry))) from) (map (λ e. view start e) (steps step start (suc (scope .lines))))) budget r ⌝ }
+    ensures { λ r. ⌜ Walks scope (now (area .entry)) (now (words .entry)) (now (area .exit)) (now (words .exit)) (shelf (now (book .entry)) (now (second .entry))) (λ ss ls. walk (scope .limits) ss ls (latestIn (shelf (now (book .entry)) (now (second .entry))) from) (map (λ e. view start e) (steps step start (suc (scope .lines))))) (budget .count) r ⌝ }
 {
     let past = scope.lines + 1;
     let mut latest = from;
@@ -140,11 +141,11 @@ pub fn walk_starts<'a>(
     step: u64,
     book: &'a [u8],
     second: &'a [u8],
-    budget: u64,
+    budget: Scorings,
 ) -> Walked
     requires { ⌜ Scanning scope (now class) (now area) (now words) (shelf (now book) (now second)) ⌝ }
     requires { ⌜ (c ≤ scope .lines) × (0 < step) ⌝ }
-    ensures { λ r. ⌜ Pairs scope (now (area .entry)) (now (words .entry)) (now (area .exit)) (now (words .exit)) (shelf (now (book .entry)) (now (second .entry))) (λ ss ls. latestOf (scope .limits) ss ls none (viewsOf step (scope .lines) (steps step c (scope .lines)))) budget r ⌝ }
+    ensures { λ r. ⌜ Pairs scope (now (area .entry)) (now (words .entry)) (now (area .exit)) (now (words .exit)) (shelf (now (book .entry)) (now (second .entry))) (λ ss ls. latestOf (scope .limits) ss ls none (viewsOf step (scope .lines) (steps step c (scope .lines)))) (budget .count) r ⌝ }
 {
     let lines = scope.lines;
     let mut latest = Latest::Nothing;

@@ -4,10 +4,9 @@
 -- Assumes nothing.
 use mathlib.Core.Path.{_≡_, sym, ap, ap₂, _∙_}
 use mathlib.Core.List.{List}
-use Prim.Native.Nat.{ℕ, _≤_}
-use native.Mathlib.Omega.{arith}
+use Prim.Native.Nat.{ℕ}
 use lib.Ieee.{Float}
-use lib.ListN.{length, getD, replicate}
+use lib.ListN.{getD}
 use borrow.Author.Tests.{ne-eqb}
 use Rattle.rules.specs.declared.View.{View}
 use Rattle.rules.specs.declared.Value.{Value}
@@ -18,8 +17,8 @@ use Rattle.rules.specs.Book.{shelved}
 use Rattle.rules.specs.Refusal.{refusal, ofView}
 use Rattle.rules.specs.Jobs.{lent, scoreJob, ScoreDone}
 use Rattle.detection_shelf.specs.Bodies.{tableOfBody}
-use Rattle.refusals.proofs.AdmitLaws.{view-most}
-use Rattle.refusals.proofs.AreaLaws.{kept, zeroed}
+use Rattle.refusals.proofs.AdmitLaws.{view-kept}
+use Rattle.refusals.proofs.AreaLaws.{BothAfter}
 
 -- ---- score
 pub score-is : (ls laid : List (List ℕ)) (v : View) (s : Stored) (t : Table) (body : List ℕ) (x : Value) → laid ≡ ls → t ≡ viewTable (viewed laid v) →
@@ -36,11 +35,10 @@ module _ (t : List ℕ) (bs : List (List ℕ)) (v : View) (k : ℕ) (b₀ w₀ :
   pub score-refused : (n : ℕ) → n ≡ number → (n ≡ 0 → ⊥) → ScoreDone t bs v k b₀ b₀ w₀ w₀ (record { refusal = n; score = nought })
   unfolding scoreJob
   score-refused n e q =
-      let h : n ≤ 10 = omega (arith, view-most t bs v k (lent b₀ w₀)) in
-      record { answer = rw (← e, ne-eqb n 0 q); bytes = kept n b₀ q h; words = kept n w₀ q h }
+      let areas = view-kept t bs v k b₀ w₀ n e q in
+      record { answer = rw (← e, ne-eqb n 0 q); bytes = areas .bytes; words = areas .words }
 
-  pub score-done : (ss : List Stored) → shelved 0 bs ≡ ss → (b₁ b w₁ w : List ℕ) (x : Float) → number ≡ 0 → x ≡ scoreView (lines t) (getD ss k noText) v .value .score →
-      length b₁ ≡ length b₀ → b ≡ replicate (length b₁) 0 → length w₁ ≡ length w₀ → w ≡ replicate (length w₁) 0 →
-      ScoreDone t bs v k b₀ b w₀ w (record { refusal = 0; score = x })
+  pub score-done : (ss : List Stored) → shelved 0 bs ≡ ss → (x : Float) → number ≡ 0 → x ≡ scoreView (lines t) (getD ss k noText) v .value .score →
+      {b w : List ℕ} → BothAfter 0 b₀ b w₀ w → ScoreDone t bs v k b₀ b w₀ w (record { refusal = 0; score = x })
   unfolding scoreJob
-  score-done ss s b₁ b w₁ w x z e l p m q = record { answer = rw (z, e, s); bytes = zeroed b₀ b₁ b l p; words = zeroed w₀ w₁ w m q }
+  score-done ss s x z e areas = record { answer = rw (z, e, s); bytes = areas .bytes; words = areas .words }

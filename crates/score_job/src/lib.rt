@@ -13,6 +13,7 @@ use detection_shelf::Counts;
 use detection_shelf::body_of;
 use detection_shelf::stored_on;
 use license_charge::charge_exact;
+use license_charge::scorings_of;
 use license_notes::clear;
 use license_notes::lay;
 use license_views::view_table;
@@ -42,7 +43,7 @@ pub fn score_laid<'a>(
     let t = view_table(&class, area, words, n, lines, v);
     let found = stored_on(book, second, counts, k);
     let body = body_of(book, second, found);
-    let charged = charge_exact(area, words, n, t, body, 1);
+    let charged = charge_exact(area, words, n, t, body, scorings_of(1));
     charged.value.score
 }
 

@@ -8,31 +8,63 @@ use borrow.Author.Needs.{needs}
 use Rattle.rules.specs.declared.View.{View}
 use Rattle.detection_shelf.specs.Shelves.{shelf, textIn}
 use Rattle.scan_ranges.proofs.HeldLaws.{scanning-held}
-use Rattle.scan_elimination.proofs.PassLaws.{Passing, pass-first, pass-out, pass-fits, pass-below, pass-room, pass-found, pass-out-again, pass-again, pass-end, without-held, without-out}
+use Rattle.scan_elimination.proofs.PassLaws.{Passing, pass-first, pass-out, pass-fits, pass-below, pass-room, pass-out-again, pass-again, pass-end, without-held, without-out}
 use Rattle.scan_elimination.proofs.each_pass.Statement.{statement}
 use Rattle.scan_elimination.proofs.each_pass.Tie as tie
 
 abbrev Inv-loop : tie.InvT-loop
-Inv-loop class area₀ words₀ scope book second p results₀ budget v best₀ left₀ k₀ area words results best left k =
-    Passing scope class area₀ words₀ (shelf book second) results₀ p budget best₀ area words results best left k
+Inv-loop class area₀ words₀ scope book second p results₀ v best₀ left₀ k₀ area words results best left k =
+    Passing scope class area₀ words₀ (shelf book second) results₀ p (left₀ .count) best₀ area words results best (left .count) k
 
 abbrev μ-loop : tie.MeasureT-loop
-μ-loop class area₀ words₀ scope book second p results₀ budget v best₀ left₀ k₀ area words results best left k = p - k
+μ-loop class area₀ words₀ scope book second p results₀ v best₀ left₀ k₀ area words results best left k = p - k
+
+-- the places that the answers speak of, each found by its type: one statement more in the code moves none
+module _ (x : tie.At-loop Inv-loop μ-loop) where
+  abbrev seen : tie.After-whole-view Inv-loop μ-loop
+  seen = search
+
+  abbrev start : tie.Start Inv-loop μ-loop
+  start = search
+
+module _ (x : tie.After-text-bounds Inv-loop μ-loop) where
+  abbrev turn : tie.In-loop Inv-loop μ-loop
+  turn = search
+
+  abbrev top : tie.At-loop Inv-loop μ-loop
+  top = search
+
+-- the bounds are paid, and not below the threshold
+module _ (x : tie.Else1 Inv-loop μ-loop) where
+  abbrev ranged : tie.After-range Inv-loop μ-loop
+  ranged = search
+
+  abbrev bounded : tie.After-text-bounds Inv-loop μ-loop
+  bounded = search
+
+module _ (x : tie.After-best-without Inv-loop μ-loop) where
+  abbrev put : tie.After-put-record Inv-loop μ-loop
+  put = search
+
+  abbrev high : tie.Else1 Inv-loop μ-loop
+  high = search
 
 whole-view-requires : tie.Need-whole-view-requires Inv-loop μ-loop
 whole-view-requires c κs = search needs
 
 loop-holds : tie.Need-loop-holds Inv-loop μ-loop
 loop-holds c =
-    let pre = c .before .before .before .before .before .before .pre in
+    let begin : tie.Start Inv-loop μ-loop = search in
+    let pre = begin .pre in
     pass-first _ _ _ _ _ _ _ _ _ (pre .0) (pre .1 .0) (pre .1 .1)
 
 text-bounds-requires : tie.Need-text-bounds-requires Inv-loop μ-loop
 text-bounds-requires c κs =
-    let i = c .before .before .before .before .loop .inv in (
+    let at : tie.At-loop Inv-loop μ-loop = search in
+    let i = at .loop .inv in (
       i .ready,
       (
-        subst (λ (w : View). (w .start ≤ w .end) × (w .end ≤ c .before .before .before .before .before .before .before .before .before .before .before .args .scope .lines)) (sym (c .before .before .before .before .before .whole-view .ensures)) (omega arith, omega arith),
+        subst (λ (w : View). (w .start ≤ w .end) × (w .end ≤ start at .args .scope .lines)) (sym (seen at .whole-view .ensures)) (omega arith, omega arith),
         i .stands,
       ),
     )
@@ -47,18 +79,29 @@ out-at-requires : tie.Need-out-at-requires Inv-loop μ-loop
 out-at-requires c κs = search needs
 
 same-length : tie.Need-same-length Inv-loop μ-loop
-same-length c = c .before .before .before .before .before .before .before .text-bounds .ensures .held .area-long ∙ c .before .before .before .before .before .before .before .before .before .before .before .before .loop .inv .area-long
+same-length c =
+    let out : tie.After-enum-told Inv-loop μ-loop = search in
+    let b : tie.After-text-bounds Inv-loop μ-loop = search in
+    b .text-bounds .ensures .held .area-long ∙ top b .loop .inv .area-long
 
 same-length-2 : tie.Need-same-length-2 Inv-loop μ-loop
-same-length-2 c = c .before .before .before .before .before .before .before .text-bounds .ensures .held .words-long ∙ c .before .before .before .before .before .before .before .before .before .before .before .before .loop .inv .words-long
+same-length-2 c =
+    let out : tie.After-enum-told Inv-loop μ-loop = search in
+    let b : tie.After-text-bounds Inv-loop μ-loop = search in
+    b .text-bounds .ensures .held .words-long ∙ top b .loop .inv .words-long
 
 same-length-3 : tie.Need-same-length-3 Inv-loop μ-loop
-same-length-3 c = c .before .before .before .before .before .before .before .before .before .before .before .before .loop .inv .going .part .long
+same-length-3 c =
+    let out : tie.After-enum-told Inv-loop μ-loop = search in
+    let b : tie.After-text-bounds Inv-loop μ-loop = search in
+    top b .loop .inv .going .part .long
 
 returns : tie.Need-returns Inv-loop μ-loop
 returns c =
-    pass-out (c .before .before .before .before .before .before .before .before .before .before .before .before .loop .inv) _ _ (omega (arith, c .before .before .before .before .before .before .before .before .before .before .before .loop-test .taken)) (c .before .before .before .before .before .before .before .before .before .before .before .before .before .whole-view .ensures)
-    (sym (c .before .enum-told .given .1) ∙ c .before .before .before .before .before .before .before .text-bounds .ensures .is) (c .out-at .ensures)
+    let out : tie.After-enum-told Inv-loop μ-loop = search in
+    let b : tie.After-text-bounds Inv-loop μ-loop = search in
+    pass-out (top b .loop .inv) _ _ (omega (arith, turn b .loop-test .taken)) (seen (top b) .whole-view .ensures)
+    (sym (out .enum-told .given .1) ∙ b .text-bounds .ensures .is) (c .out-at .ensures)
 
 below-requires : tie.Need-below-requires Inv-loop μ-loop
 below-requires c κs = search needs
@@ -67,38 +110,60 @@ ended-requires : tie.Need-ended-requires Inv-loop μ-loop
 ended-requires c κs = search needs
 
 same-length-4 : tie.Need-same-length-4 Inv-loop μ-loop
-same-length-4 c = c .before .before .before .before .before .before .before .before .before .before .text-bounds .ensures .held .area-long ∙ c .before .before .before .before .before .before .before .before .before .before .before .before .before .before .before .loop .inv .area-long
+same-length-4 c =
+    let r : tie.After-range Inv-loop μ-loop = search in
+    let b : tie.After-text-bounds Inv-loop μ-loop = search in
+    b .text-bounds .ensures .held .area-long ∙ top b .loop .inv .area-long
 
 same-length-5 : tie.Need-same-length-5 Inv-loop μ-loop
-same-length-5 c = c .before .before .before .before .before .before .before .before .before .before .text-bounds .ensures .held .words-long ∙ c .before .before .before .before .before .before .before .before .before .before .before .before .before .before .before .loop .inv .words-long
+same-length-5 c =
+    let r : tie.After-range Inv-loop μ-loop = search in
+    let b : tie.After-text-bounds Inv-loop μ-loop = search in
+    b .text-bounds .ensures .held .words-long ∙ top b .loop .inv .words-long
 
 same-length-6 : tie.Need-same-length-6 Inv-loop μ-loop
-same-length-6 c = c .before .before .before .before .before .before .before .before .before .before .before .before .before .before .before .loop .inv .going .part .long
+same-length-6 c =
+    let r : tie.After-range Inv-loop μ-loop = search in
+    let b : tie.After-text-bounds Inv-loop μ-loop = search in
+    top b .loop .inv .going .part .long
 
 returns-2 : tie.Need-returns-2 Inv-loop μ-loop
 returns-2 c =
-    pass-below (c .before .before .before .before .before .before .before .before .before .before .before .before .before .before .before .loop .inv) _ _ _ (omega (arith, c .before .before .before .before .before .before .before .before .before .before .before .before .before .before .loop-test .taken)) (c .before .before .before .before .before .before .before .before .before .before .before .before .before .before .before .before .whole-view .ensures)
-    (sym (c .before .before .before .before .range .given .1) ∙ c .before .before .before .before .before .before .before .before .before .before .text-bounds .ensures .is) _ (sym (c .before .before .below .ensures) ∙ c .before .if1 .taken) (c .ended .ensures)
+    let low : tie.Then1 Inv-loop μ-loop = search in
+    let r : tie.After-range Inv-loop μ-loop = search in
+    let b : tie.After-text-bounds Inv-loop μ-loop = search in
+    pass-below (top b .loop .inv) _ _ _ (omega (arith, turn b .loop-test .taken)) (seen (top b) .whole-view .ensures)
+    (sym (r .range .given .1) ∙ b .text-bounds .ensures .is) _ (sym (low .before .below .ensures) ∙ low .if1 .taken) (c .ended .ensures)
 
 put-record-requires : tie.Need-put-record-requires Inv-loop μ-loop
 put-record-requires c κs =
-    let i = c .before .before .before .before .before .before .before .before .before .before .before .before .before .before .before .loop .inv in
-    let l = c .before .before .before .before .before .before .before .before .before .before .before .before .before .before .loop-test .taken in
-    let o = sym (c .before .before .before .before .range .given .1) ∙ c .before .before .before .before .before .before .before .before .before .before .text-bounds .ensures .is in
-    let fits = pass-fits i _ _ _ (omega (arith, l)) (c .before .before .before .before .before .before .before .before .before .before .before .before .before .before .before .before .whole-view .ensures) o in (
-      pass-room i _ _ _ (omega (arith, l)) (c .before .before .before .before .before .before .before .before .before .before .before .before .before .before .before .before .whole-view .ensures) o (sym (c .before .before .below .ensures) ∙ c .before .if1 .left),
+    let h : tie.Else1 Inv-loop μ-loop = search in
+    let b = bounded h in
+    let i = top b .loop .inv in
+    let l = turn b .loop-test .taken in
+    let e = seen (top b) .whole-view .ensures in
+    let o = sym (ranged h .range .given .1) ∙ b .text-bounds .ensures .is in
+    let fits = pass-fits i _ _ _ (omega (arith, l)) e o in (
+      pass-room i _ _ _ (omega (arith, l)) e o (sym (h .before .below .ensures) ∙ h .if1 .left),
       (omega (arith, fits .order, fits .high, i .ready .few), omega (arith, fits .high, i .ready .few), fits .unit),
     )
 
 add-k : tie.Need-add-k Inv-loop μ-loop
-add-k c = omega (arith, c .before .before .before .before .before .before .before .before .before .before .before .before .before .before .before .before .before .loop-test .taken, c .before .before .before .before .before .before .before .before .before .before .before .before .before .before .before .before .before .before .before .before .before .before .before .before .before .fits .p)
+add-k c =
+    let p : tie.After-put-record Inv-loop μ-loop = search in
+    let h : tie.Else1 Inv-loop μ-loop = search in
+    let b = bounded h in
+    omega (arith, turn b .loop-test .taken, start (top b) .fits .p)
 
 best-without-requires : tie.Need-best-without-requires Inv-loop μ-loop
 best-without-requires c κs =
-    let i = c .before .before .before .before .before .before .before .before .before .before .before .before .before .before .before .before .before .before .before .before .loop .inv in
-    let b = c .before .before .before .before .before .before .before .before .before .before .before .before .before .before .before .text-bounds .ensures in
-    let fits = pass-fits i _ _ _ (omega (arith, c .before .before .before .before .before .before .before .before .before .before .before .before .before .before .before .before .before .before .before .loop-test .taken)) (c .before .before .before .before .before .before .before .before .before .before .before .before .before .before .before .before .before .before .before .before .before .whole-view .ensures) (sym (c .before .before .before .before .before .before .before .before .before .range .given .1) ∙ b .is) in
-    (scanning-held (i .ready) (b .held), (fits .order, fits .high))
+    let p : tie.After-put-record Inv-loop μ-loop = search in
+    let h : tie.Else1 Inv-loop μ-loop = search in
+    let b = bounded h in
+    let i = top b .loop .inv in
+    let fits = pass-fits i _ _ _ (omega (arith, turn b .loop-test .taken)) (seen (top b) .whole-view .ensures)
+    (sym (ranged h .range .given .1) ∙ b .text-bounds .ensures .is) in
+    (scanning-held (i .ready) (b .text-bounds .ensures .held), (fits .order, fits .high))
 
 enum-known-next : tie.Need-enum-known-next Inv-loop μ-loop
 enum-known-next c = search needs
@@ -111,41 +176,52 @@ out-at-requires-2 c κs = search needs
 
 same-length-7 : tie.Need-same-length-7 Inv-loop μ-loop
 same-length-7 c =
-    c .before .before .before .before .before .before .before .best-without .ensures .area-long ∙ c .before .before .before .before .before .before .before .before .before .before .before .before .before .before .before .before .before .before .before .before .before .before .before .text-bounds .ensures .held .area-long ∙ c .before .before .before .before .before .before .before .before .before .before .before .before .before .before .before .before .before .before .before .before .before .before .before .before .before .before .before .before .loop .inv .area-long
+    let out : tie.After-enum-told2 Inv-loop μ-loop = search in
+    let w : tie.After-best-without Inv-loop μ-loop = search in
+    let b = bounded (high w) in
+    w .best-without .ensures .area-long ∙ b .text-bounds .ensures .held .area-long ∙ top b .loop .inv .area-long
 
 same-length-8 : tie.Need-same-length-8 Inv-loop μ-loop
 same-length-8 c =
-    c .before .before .before .before .before .before .before .best-without .ensures .words-long ∙ c .before .before .before .before .before .before .before .before .before .before .before .before .before .before .before .before .before .before .before .before .before .before .before .text-bounds .ensures .held .words-long ∙ c .before .before .before .before .before .before .before .before .before .before .before .before .before .before .before .before .before .before .before .before .before .before .before .before .before .before .before .before .loop .inv .words-long
+    let out : tie.After-enum-told2 Inv-loop μ-loop = search in
+    let w : tie.After-best-without Inv-loop μ-loop = search in
+    let b = bounded (high w) in
+    w .best-without .ensures .words-long ∙ b .text-bounds .ensures .held .words-long ∙ top b .loop .inv .words-long
 
 same-length-9 : tie.Need-same-length-9 Inv-loop μ-loop
-same-length-9 c = c .before .before .before .before .before .before .before .before .before .before .before .before .put-record .kept .0 ∙ c .before .before .before .before .before .before .before .before .before .before .before .before .before .before .before .before .before .before .before .before .before .before .before .before .before .before .before .before .loop .inv .going .part .long
+same-length-9 c =
+    let out : tie.After-enum-told2 Inv-loop μ-loop = search in
+    let w : tie.After-best-without Inv-loop μ-loop = search in
+    put w .put-record .kept .0 ∙ top (bounded (high w)) .loop .inv .going .part .long
 
 returns-3 : tie.Need-returns-3 Inv-loop μ-loop
 unfolding textIn
 returns-3 c =
-    let i = c .before .before .before .before .before .before .before .before .before .before .before .before .before .before .before .before .before .before .before .before .before .before .before .before .before .before .before .before .loop .inv in
-    let l = c .before .before .before .before .before .before .before .before .before .before .before .before .before .before .before .before .before .before .before .before .before .before .before .before .before .before .before .loop-test .taken in
-    let b = c .before .before .before .before .before .before .before .before .before .before .before .before .before .before .before .before .before .before .before .before .before .before .before .text-bounds .ensures in
-    let o = sym (c .before .before .before .before .before .before .before .before .before .before .before .before .before .before .before .before .before .range .given .1) ∙ b .is in
-    let high = sym (c .before .before .before .before .before .before .before .before .before .before .before .before .before .before .before .below .ensures) ∙ c .before .before .before .before .before .before .before .before .before .before .before .before .before .before .if1 .left in
-    let going = pass-found i _ _ _ (omega (arith, l)) (c .before .before .before .before .before .before .before .before .before .before .before .before .before .before .before .before .before .before .before .before .before .before .before .before .before .before .before .before .before .whole-view .ensures) o high _ (c .before .before .before .before .before .before .before .before .before .before .before .before .put-record .ensures) in
-    pass-out-again i _ _ _ (omega (arith, l)) (c .before .before .before .before .before .before .before .before .before .before .before .before .before .before .before .before .before .before .before .before .before .before .before .before .before .before .before .before .before .whole-view .ensures) o high _ _ _ going _
-    (without-out (c .before .enum-told2 .given .1) (without-held (b .held) (c .before .before .before .before .before .before .before .best-without .ensures))) (c .out-at2 .ensures)
+    let out : tie.After-enum-told2 Inv-loop μ-loop = search in
+    let w : tie.After-best-without Inv-loop μ-loop = search in
+    let h = high w in
+    let b = bounded h in
+    pass-out-again (top b .loop .inv) _ _ _ (omega (arith, turn b .loop-test .taken)) (seen (top b) .whole-view .ensures)
+    (sym (ranged h .range .given .1) ∙ b .text-bounds .ensures .is) (sym (h .before .below .ensures) ∙ h .if1 .left) _ (put w .put-record .ensures) _
+    (without-out (out .enum-told2 .given .1) (without-held (b .text-bounds .ensures .held) (w .best-without .ensures))) (c .out-at2 .ensures)
 
 loop-less : tie.Need-loop-less Inv-loop μ-loop
-loop-less c = omega (arith, c .before .before .before .before .before .before .before .before .before .before .before .before .before .before .before .before .before .before .before .before .before .before .before .before .before .before .before .loop-test .taken)
+loop-less c =
+    let next : tie.After-next Inv-loop μ-loop = search in
+    let w : tie.After-best-without Inv-loop μ-loop = search in
+    let b = bounded (high w) in
+    omega (arith, turn b .loop-test .taken)
 
 loop-again : tie.Need-loop-again Inv-loop μ-loop
 unfolding textIn
 loop-again c =
-    let i = c .before .before .before .before .before .before .before .before .before .before .before .before .before .before .before .before .before .before .before .before .before .before .before .before .before .before .before .before .loop .inv in
-    let l = c .before .before .before .before .before .before .before .before .before .before .before .before .before .before .before .before .before .before .before .before .before .before .before .before .before .before .before .loop-test .taken in
-    let b = c .before .before .before .before .before .before .before .before .before .before .before .before .before .before .before .before .before .before .before .before .before .before .before .text-bounds .ensures in
-    let o = sym (c .before .before .before .before .before .before .before .before .before .before .before .before .before .before .before .before .before .range .given .1) ∙ b .is in
-    let high = sym (c .before .before .before .before .before .before .before .before .before .before .before .before .before .before .before .below .ensures) ∙ c .before .before .before .before .before .before .before .before .before .before .before .before .before .before .if1 .left in
-    let going = pass-found i _ _ _ (omega (arith, l)) (c .before .before .before .before .before .before .before .before .before .before .before .before .before .before .before .before .before .before .before .before .before .before .before .before .before .before .before .before .before .whole-view .ensures) o high _ (c .before .before .before .before .before .before .before .before .before .before .before .before .put-record .ensures) in
-    pass-again i _ _ _ (omega (arith, l)) (c .before .before .before .before .before .before .before .before .before .before .before .before .before .before .before .before .before .before .before .before .before .before .before .before .before .before .before .before .before .whole-view .ensures) o high _ _ _ going _ _
-    (without-out (c .before .next .given .1) (without-held (b .held) (c .before .before .before .before .before .before .before .best-without .ensures)))
+    let next : tie.After-next Inv-loop μ-loop = search in
+    let w : tie.After-best-without Inv-loop μ-loop = search in
+    let h = high w in
+    let b = bounded h in
+    pass-again (top b .loop .inv) _ _ _ (omega (arith, turn b .loop-test .taken)) (seen (top b) .whole-view .ensures)
+    (sym (ranged h .range .given .1) ∙ b .text-bounds .ensures .is) (sym (h .before .below .ensures) ∙ h .if1 .left) _ (put w .put-record .ensures) _ _
+    (without-out (next .next .given .1) (without-held (b .text-bounds .ensures .held) (w .best-without .ensures)))
 
 ended-requires-2 : tie.Need-ended-requires-2 Inv-loop μ-loop
 ended-requires-2 c κs = search needs

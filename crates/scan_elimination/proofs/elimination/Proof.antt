@@ -14,16 +14,38 @@ use Rattle.scan_elimination.proofs.EndLaws.{whole-out, best-stands, who
 use Rattle.scan_elimination.proofs.elimination.Statement.{statement}
 use Rattle.scan_elimination.proofs.elimination.Tie as tie
 
+-- the places that the answers speak of, each found by its type: one statement more in the code moves none
+module _ (x : tie.After-best-text) where
+  abbrev seen : tie.After-whole-view
+  seen = search
+
+  abbrev start : tie.Start
+  start = search
+
+-- the best is paid
+module _ (x : tie.After-best) where
+  abbrev sought : tie.After-best-text
+  sought = search
+
+-- and passes follow
+module _ (x : tie.Else2) where
+  abbrev unstopped : tie.Else1
+  unstopped = search
+
+  abbrev paid : tie.After-best
+  paid = search
+
 whole-view-requires : tie.Need-whole-view-requires
 whole-view-requires c κs = search needs
 
 best-text-requires : tie.Need-best-text-requires
 best-text-requires c κs =
-    let start = c .before .before .before .before .before .before .before .before .before in
-    let s = start .pre .0 in (
+    let whole : tie.After-whole-view = search in
+    let begin : tie.Start = search in
+    let s = begin .pre .0 in (
       (s .classes, s .laid),
       (
-        subst (λ (w : View). (w .start ≤ w .end) × (w .end ≤ start .args .scope .lines)) (sym (c .before .before .whole-view .ensures)) (omega arith, omega arith),
+        subst (λ (w : View). (w .start ≤ w .end) × (w .end ≤ begin .args .scope .lines)) (sym (whole .whole-view .ensures)) (omega arith, omega arith),
         s .counted,
       ),
     )
@@ -48,8 +70,10 @@ same-length-2 c = search needs
 
 returns : tie.Need-returns
 returns c =
-    let pre = c .before .before .before .before .before .before .before .before .before .before .before .before .before .before .before .before .before .before .pre in
-    whole-out (pre .0) _ _ _ _ (pre .1) _ (c .before .before .before .before .before .before .before .before .before .before .before .whole-view .ensures) _ (done-as (c .before .before .enum-told .given .1) (c .before .before .before .before .before .before .before .before .best-text .ensures)) (c .before .no-best .ensures) (c .out-at .ensures)
+    let out : tie.After-enum-told = search in
+    let t : tie.After-best-text = search in
+    let pre = start t .pre in
+    whole-out (pre .0) _ _ _ _ (pre .1) _ (seen t .whole-view .ensures) _ (done-as (out .enum-told .given .1) (t .best-text .ensures)) (c .before .no-best .ensures) (c .out-at .ensures)
 
 stops-requires : tie.Need-stops-requires
 stops-requires c κs = search needs
@@ -66,9 +90,12 @@ same-length-4 c = search needs
 returns-2 : tie.Need-returns-2
 unfolding stops names bestIn
 returns-2 c =
-    let pre = c .before .before .before .before .before .before .before .before .before .before .before .before .before .before .before .before .before .before .before .before .pre in
-    whole-stop (pre .0) _ _ _ _ (pre .1) _ (c .before .before .before .before .before .before .before .before .before .before .before .before .before .whole-view .ensures) _ _ (done-as (c .before .before .before .before .best .given .1) (c .before .before .before .before .before .before .before .before .before .before .best-text .ensures)) _
-    (stop-by-best _ _ (sym (c .before .before .stops .ensures) ∙ c .before .if1 .taken)) refl (c .ended .ensures)
+    let stop : tie.Then1 = search in
+    let b : tie.After-best = search in
+    let t = sought b in
+    let pre = start t .pre in
+    whole-stop (pre .0) _ _ _ _ (pre .1) _ (seen t .whole-view .ensures) _ _ (done-as (b .best .given .1) (t .best-text .ensures)) _
+    (stop-by-best _ _ (sym (stop .before .stops .ensures) ∙ stop .if1 .taken)) refl (c .ended .ensures)
 
 ended-requires-2 : tie.Need-ended-requires-2
 ended-requires-2 c κs = search needs
@@ -81,19 +108,24 @@ same-length-6 c = search needs
 
 returns-3 : tie.Need-returns-3
 returns-3 c =
-    let start = c .before .before .before .before .before .before .before .before .before .before .before .before .before .before .before .before .before .before .before .before .before in
-    let pre = start .pre in
-    whole-stop (pre .0) _ _ _ _ (pre .1) _ (c .before .before .before .before .before .before .before .before .before .before .before .before .before .before .whole-view .ensures) _ _ (done-as (c .before .before .before .before .before .best .given .1) (c .before .before .before .before .before .before .before .before .before .before .before .best-text .ensures)) _
-    (stop-by-setting (stops (start .args .scope .limits) (bestIn (shelf (now (start .args .book)) (now (start .args .second))) (c .before .before .before .before .before .best .given .0 .0))) _ (c .before .if2 .taken)) refl (c .ended2 .ensures)
+    let stop : tie.Then2 = search in
+    let b : tie.After-best = search in
+    let t = sought b in
+    let s = start t in
+    whole-stop (s .pre .0) _ _ _ _ (s .pre .1) _ (seen t .whole-view .ensures) _ _ (done-as (b .best .given .1) (t .best-text .ensures)) _
+    (stop-by-setting (stops (s .args .scope .limits) (bestIn (shelf (now (s .args .book)) (now (s .args .second))) (b .best .given .0 .0))) _ (stop .if2 .taken)) refl (c .ended2 .ensures)
 
 each-pass-requires : tie.Need-each-pass-requires
 unfolding stops names bestIn
 each-pass-requires c κs =
-    let pre = c .before .before .before .before .before .before .before .before .before .before .before .before .before .before .before .before .before .before .before .before .before .before .before .pre in
-    let d = done-as (c .before .before .before .before .before .before .before .best .given .1) (c .before .before .before .before .before .before .before .before .before .before .before .before .before .best-text .ensures) in
-    let on = no-stop _ _ (sym (c .before .before .before .before .before .stops .ensures) ∙ c .before .before .before .before .if1 .left) (c .before .before .before .if2 .left) in (
-      scanning-held (pre .0) (d .held),
-      (best-stands (pre .0) _ _ _ (now (c .before .before .before .before .before .before .before .before .before .before .before .before .before .before .before .before .before .before .before .before .before .before .before .args .results)) (pre .1) _ (c .before .before .before .before .before .before .before .before .before .before .before .before .before .before .before .before .whole-view .ensures) _ _ d, whole-room (pre .0) _ _ _ (now (c .before .before .before .before .before .before .before .before .before .before .before .before .before .before .before .before .before .before .before .before .before .before .before .args .results)) (pre .1) _ (c .before .before .before .before .before .before .before .before .before .before .before .before .before .before .before .before .whole-view .ensures) _ _ d on),
+    let on : tie.Else2 = search in
+    let t = sought (paid on) in
+    let s = start t in
+    let e = seen t .whole-view .ensures in
+    let d = done-as (paid on .best .given .1) (t .best-text .ensures) in
+    let go = no-stop _ _ (sym (unstopped on .before .stops .ensures) ∙ unstopped on .if1 .left) (on .if2 .left) in (
+      scanning-held (s .pre .0) (d .held),
+      (best-stands (s .pre .0) _ _ _ (now (s .args .results)) (s .pre .1) _ e _ _ d, whole-room (s .pre .0) _ _ _ (now (s .args .results)) (s .pre .1) _ e _ _ d go),
     )
 
 same-length-7 : tie.Need-same-length-7
@@ -108,10 +140,13 @@ same-length-9 c = search needs
 returns-4 : tie.Need-returns-4
 unfolding stops names bestIn
 returns-4 c =
-    let pre = c .before .before .before .before .before .before .before .before .before .before .before .before .before .before .before .before .before .before .before .before .before .before .before .before .before .before .before .before .before .before .pre in
-    let d = done-as (c .before .before .before .before .before .before .before .before .before .before .before .before .before .before .best .given .1) (c .before .before .before .before .before .before .before .before .before .before .before .before .before .before .before .before .before .before .before .before .best-text .ensures) in
-    let on = no-stop _ _ (sym (c .before .before .before .before .before .before .before .before .before .before .before .before .stops .ensures) ∙ c .before .before .before .before .before .before .before .before .before .before .before .if1 .left) (c .before .before .before .before .before .before .before .before .before .before .if2 .left) in
-    whole-on (pre .0) _ _ _ _ (pre .1) _ (c .before .before .before .before .before .before .before .before .before .before .before .before .before .before .before .before .before .before .before .before .before .before .before .whole-view .ensures) _ _ d on _ refl (c .before .before .before .before .before .before .each-pass .ensures)
+    let ran : tie.After-each-pass = search in
+    let on : tie.Else2 = search in
+    let t = sought (paid on) in
+    let pre = start t .pre in
+    let d = done-as (paid on .best .given .1) (t .best-text .ensures) in
+    let go = no-stop _ _ (sym (unstopped on .before .stops .ensures) ∙ unstopped on .if1 .left) (on .if2 .left) in
+    whole-on (pre .0) _ _ _ _ (pre .1) _ (seen t .whole-view .ensures) _ _ d go _ refl (ran .each-pass .ensures)
 
 pub elimination-spec : {M : Type 1} → statement M
 elimination-spec =

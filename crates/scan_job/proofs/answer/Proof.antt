@@ -21,9 +21,11 @@ part-of-requires c = search needs
 
 returns : tie.Need-returns
 returns c =
-    let a = c .before .before .before .before .before .before .before .before .before .before .before .args in
+    let told : tie.After-name-of = search in
+    let start : tie.Start = search in
+    let a = start .args in
     let x = a .outcome in
-    let name = c .before .before .before .before .before .before .name-of .ensures in
+    let name = told .name-of .ensures in
     let kind = c .before .before .before .before .kind-of .ensures .is (shelf (now (a .book)) (now (a .second))) in
     let number = c .before .before .before .refusal-of .ensures in
     let part = c .before .before .part-of .ensures in

@@ -10,6 +10,27 @@ use Rattle.scan_job.proofs.AnswerLaws.{scan-refused, scan-done}
 use Rattle.scan_job.proofs.scan_lent.Statement.{statement}
 use Rattle.scan_job.proofs.scan_lent.Tie as tie
 
+-- the places that the answers speak of, each found by its type: one statement more in the code moves none
+module _ (x : tie.Else1) where
+  abbrev admitted : tie.After-admit-scan
+  admitted = search
+
+  abbrev start : tie.Start
+  start = search
+
+module _ (x : tie.After-clear) where
+  abbrev words-back : tie.After-words
+  words-back = search
+
+  abbrev area-back : tie.After-area
+  area-back = search
+
+  abbrev worked : tie.After-scan-laid
+  worked = search
+
+  abbrev passed : tie.Else1
+  passed = search
+
 admit-scan-requires : tie.Need-admit-scan-requires
 admit-scan-requires c κs = search needs
 
@@ -18,17 +39,18 @@ refused-requires c = search needs
 
 returns : tie.Need-returns
 returns c =
-    let a = c .before .before .before .before .before .before .before .before .before .args in
+    let refused : tie.Then1 = search in
+    let begin : tie.Start = search in
+    let a = begin .args in
     scan-refused (now (a .text)) (booksOf (shelf (now (a .book)) (now (a .second))) (a .two)) (a .limits) (a .mode) (a .budget) (a .area .now) (a .words .now) (a .results .now) _ _
-    (c .before .before .admit-scan .ensures .number) (c .before .if1 .taken) (c .refused .ensures)
+    (refused .before .admit-scan .ensures .number) (refused .if1 .taken) (c .refused .ensures)
 
 scan-laid-requires : tie.Need-scan-laid-requires
 scan-laid-requires c κs =
-    let passed = c .before .before .before .before in
-    let start = passed .before .before .before .before .before .before .before .before in
-    let admitted = passed .before .admit-scan .ensures in
-    let none = passed .if1 .left in
-    (scan-through _ _ _ (start .pre) _ _ _ _ (sym (admitted .number) ∙ none), admitted .texts none)
+    let on : tie.Else1 = search in
+    let a = admitted on .admit-scan .ensures in
+    let none = on .if1 .left in
+    (scan-through _ _ _ (start on .pre) _ _ _ _ (sym (a .number) ∙ none), a .texts none)
 
 clear-requires : tie.Need-clear-requires
 clear-requires c κs = search needs
@@ -44,17 +66,13 @@ same-length-3 c = search needs
 
 returns-2 : tie.Need-returns-2
 returns-2 c =
-    let cleared = c .before .before .before .before in
-    let worked = cleared .before .before .before .before .before .before .before .before .before in
-    let passed = worked .before .before .before .before .before in
-    let start = passed .before .before .before .before .before .before .before .before in
-    let a = start .args in
+    let cleared : tie.After-clear = search in
+    let on = passed cleared in
+    let a = start on .args in
     let books = shelf (now (a .book)) (now (a .second)) in
     scan-done (now (a .text)) (booksOf books (a .two)) (a .limits) (a .mode) (a .budget) (a .area .now) (a .words .now) (a .results .now)
-    books (lent-read books (a .two) (start .pre)) (sym (passed .before .admit-scan .ensures .number) ∙ passed .if1 .left)
-    (worked .scan-laid .last .1 .1 .1 .1 .1 .1 .1 .0) _ (worked .scan-laid .last .1 .1 .1 .1 .1 .1 .1 .1 .0) _ _ _ (worked .scan-laid .ensures)
-    (cleared .before .before .before .before .before .before .before .before .area .given) (cleared .clear .ensures .0)
-    (cleared .before .before .before .before .before .before .words .given) (cleared .clear .ensures .1)
+    books (lent-read books (a .two) (start on .pre)) (sym (admitted on .admit-scan .ensures .number) ∙ on .if1 .left) _ _ _ _ (worked cleared .scan-laid .ensures)
+    (area-back cleared .area .given) (cleared .clear .ensures .0) (words-back cleared .words .given) (cleared .clear .ensures .1)
 
 pub scan-lent-spec : {M : Type 1} → statement M
 scan-lent-spec =

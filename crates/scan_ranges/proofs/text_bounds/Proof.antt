@@ -13,8 +13,8 @@ body-of-requires c κs = search needs
 
 find-bounds-requires : tie.Need-find-bounds-requires
 find-bounds-requires c κs =
-    let lent = c .before .before in
-    let start = lent .before .before .before .before .before in
+    let lent : tie.After-body-of = search in
+    let start : tie.Start = search in
     let s = start .pre .0 in
     let v = start .pre .1 .0 in (
       record { laid = s .laid; classes = s .classes; sound = rw (lent .body-of .ensures) (start .pre .1 .1 .found .is .sound) },
@@ -30,10 +30,12 @@ same-length-2 c = search needs
 returns : tie.Need-returns
 unfolding textIn tableOfBody
 returns c =
-    let b = c .before .before .before .before .find-bounds .ensures in
+    let sought : tie.After-find-bounds = search in
+    let lent : tie.After-body-of = search in
+    let b = sought .find-bounds .ensures in
     let k = b .kept in
     record {
-      is = b .found _ (ap tableOfBody (sym (c .before .before .before .before .before .before .before .body-of .ensures)));
+      is = b .found _ (ap tableOfBody (sym (lent .body-of .ensures)));
       held = record { laid = k .working .laid; area-long = k .area-long; words-long = k .words-long; same = k .same };
     }
 

@@ -7,6 +7,20 @@ use Rattle.scan_top_down.proofs.DownRunLaws.{range-as, settle-none, set
 use Rattle.scan_top_down.proofs.settle.Statement.{statement}
 use Rattle.scan_top_down.proofs.settle.Tie as tie
 
+-- the places that the answers speak of, each found by its type: one statement more in the code moves none
+module _ (x : tie.After-latest) where
+  abbrev start : tie.Start
+  start = search
+
+module _ (x : tie.After-text-bounds) where
+  abbrev pair : tie.After-latest
+  pair = search
+
+-- the bounds are paid
+module _ (x : tie.After-range) where
+  abbrev bounded : tie.After-text-bounds
+  bounded = search
+
 enum-known-latest : tie.Need-enum-known-latest
 enum-known-latest c = search needs
 
@@ -14,14 +28,17 @@ enum-told : tie.Need-enum-told
 enum-told c = search needs
 
 returns : tie.Need-returns
-returns c = settle-none (c .before .before .before .before .before .before .pre .0) _ _ (c .enum-told .given .1)
+returns c =
+    let begin : tie.Start = search in
+    settle-none (begin .pre .0) _ _ (c .enum-told .given .1)
 
 text-bounds-requires : tie.Need-text-bounds-requires
 unfolding LatestStands
 text-bounds-requires c κs =
-    let start = c .before .before .before .before .before .before .before .before .before in
-    let h = subst (LatestStands _ (start .args .scope .lines)) (c .before .before .before .latest .given .1) (start .pre .1) in
-    (start .pre .0, ((h .1, h .2), h .0))
+    let p : tie.After-latest = search in
+    let s = start p in
+    let h = subst (LatestStands _ (s .args .scope .lines)) (p .latest .given .1) (s .pre .1) in
+    (s .pre .0, ((h .1, h .2), h .0))
 
 enum-known-range : tie.Need-enum-known-range
 enum-known-range c = search needs
@@ -37,7 +54,8 @@ same-length-2 c = search needs
 
 returns-2 : tie.Need-returns-2
 returns-2 c =
-    settle-out (c .before .before .before .before .before .before .before .before .before .before .before .before .before .before .before .before .pre .0) _ _ _ _ (c .before .before .before .before .before .before .before .before .before .before .latest .given .1) (range-as (c .enum-told2 .given .1) (c .before .before .before .before .before .before .text-bounds .ensures))
+    let b : tie.After-text-bounds = search in
+    settle-out (start (pair b) .pre .0) _ _ _ _ (pair b .latest .given .1) (range-as (c .enum-told2 .given .1) (b .text-bounds .ensures))
 
 below-requires : tie.Need-below-requires
 below-requires c κs = search needs
@@ -50,8 +68,9 @@ same-length-4 c = search needs
 
 returns-3 : tie.Need-returns-3
 returns-3 c =
-    settle-below (c .before .before .before .before .before .before .before .before .before .before .before .before .before .before .before .before .before .before .before .pre .0) _ _ _ _ (c .before .before .before .before .before .before .before .before .before .before .before .before .before .latest .given .1) _ _ (range-as (c .before .before .before .range .given .1) (c .before .before .before .before .before .before .before .before .before .text-bounds .ensures))
-    (sym (c .before .below .ensures) ∙ c .if1 .taken)
+    let r : tie.After-range = search in
+    let b = bounded r in
+    settle-below (start (pair b) .pre .0) _ _ _ _ (pair b .latest .given .1) _ _ (range-as (r .range .given .1) (b .text-bounds .ensures)) (sym (c .before .below .ensures) ∙ c .if1 .taken)
 
 same-length-5 : tie.Need-same-length-5
 same-length-5 c = search needs
@@ -61,8 +80,10 @@ same-length-6 c = search needs
 
 returns-4 : tie.Need-returns-4
 returns-4 c =
-    settle-found (c .before .before .before .before .before .before .before .before .before .before .before .before .before .before .before .before .before .before .before .pre .0) _ _ _ _ (c .before .before .before .before .before .before .before .before .before .before .before .before .before .latest .given .1) _ _ (range-as (c .before .before .before .range .given .1) (c .before .before .before .before .before .before .before .before .before .text-bounds .ensures))
-    (sym (c .before .below .ensures) ∙ c .if1 .left) (c .before .before .before .before .before .before .before .before .before .before .before .before .before .before .before .before .before .before .before .pre .1)
+    let r : tie.After-range = search in
+    let b = bounded r in
+    let s = start (pair b) in
+    settle-found (s .pre .0) _ _ _ _ (pair b .latest .given .1) _ _ (range-as (r .range .given .1) (b .text-bounds .ensures)) (sym (c .before .below .ensures) ∙ c .if1 .left) (s .pre .1)
 
 pub settle-spec : {M : Type 1} → statement M
 settle-spec =

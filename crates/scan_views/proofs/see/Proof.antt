@@ -5,11 +5,21 @@ use Rattle.scan_views.proofs.RoundLaws.{above-as, see-out, see-low, see
 use Rattle.scan_views.proofs.see.Statement.{statement}
 use Rattle.scan_views.proofs.see.Tie as tie
 
+-- the places that the answers speak of, each found by its type: one statement more in the code moves none
+module _ (x : tie.After-best-above) where
+  abbrev start : tie.Start
+  start = search
+
+-- the best is paid
+module _ (x : tie.After-best) where
+  abbrev sought : tie.After-best-above
+  sought = search
+
 best-above-requires : tie.Need-best-above-requires
 best-above-requires c κs =
-    let pre = c .before .before .before .before .before .before .before .pre in
-    let s = pre .0 in
-    ((s .classes, s .laid), (pre .1 .0, s .counted))
+    let begin : tie.Start = search in
+    let s = begin .pre .0 in
+    ((s .classes, s .laid), (begin .pre .1 .0, s .counted))
 
 enum-known-best : tie.Need-enum-known-best
 enum-known-best c = search needs
@@ -24,7 +34,9 @@ same-length-2 : tie.Need-same-length-2
 same-length-2 c = search needs
 
 returns : tie.Need-returns
-returns c = see-out _ _ _ _ _ _ _ (above-as (c .enum-told .given .1) (c .before .before .before .before .before .before .best-above .ensures))
+returns c =
+    let b : tie.After-best-above = search in
+    see-out _ _ _ _ _ _ _ (above-as (c .enum-told .given .1) (b .best-above .ensures))
 
 lower-requires : tie.Need-lower-requires
 lower-requires c κs = search needs
@@ -37,8 +49,8 @@ same-length-4 c = search needs
 
 returns-2 : tie.Need-returns-2
 returns-2 c =
-    let pre = c .before .before .before .before .before .before .before .before .before .before .before .before .before .before .before .before .before .before .pre in
-    see-low _ _ _ _ _ _ _ _ _ (above-as (c .before .before .before .before .best .given .1) (c .before .before .before .before .before .before .before .before .before .before .best-above .ensures)) _ (c .before .if1 .taken) (pre .1 .1) (c .lower .ensures)
+    let b : tie.After-best = search in
+    see-low _ _ _ _ _ _ _ _ _ (above-as (b .best .given .1) (sought b .best-above .ensures)) _ (c .before .if1 .taken) (start (sought b) .pre .1 .1) (c .lower .ensures)
 
 same-length-5 : tie.Need-same-length-5
 same-length-5 c = search needs
@@ -48,8 +60,9 @@ same-length-6 c = search needs
 
 returns-3 : tie.Need-returns-3
 returns-3 c =
-    let pre = c .before .before .before .before .before .before .before .before .before .before .before .before .before .before .before .before .before .before .pre in
-    see-high _ _ _ _ _ _ _ _ _ (above-as (c .before .before .before .before .best .given .1) (c .before .before .before .before .before .before .before .before .before .before .best-above .ensures)) (c .before .if1 .left) (pre .1 .0) (pre .0 .some-text)
+    let b : tie.After-best = search in
+    let pre = start (sought b) .pre in
+    see-high _ _ _ _ _ _ _ _ _ (above-as (b .best .given .1) (sought b .best-above .ensures)) (c .before .if1 .left) (pre .1 .0) (pre .0 .some-text)
 
 pub see-spec : {M : Type 1} → statement M
 see-spec =
