@@ -19,30 +19,31 @@ use Rattle.rules.specs.Table.{Table, bigrams, tableOf, viewTable}
 use Rattle.rules.specs.Book.{tableOut, compiled}
 use Rattle.rules.specs.Jobs.{over}
 use Rattle.rules.proofs.RefusalLaws.{lines-count}
+use Rattle.preproc_table.specs.Entries.{tableEnd}
 use Rattle.ngram_table.specs.Tables.{tableAt}
 use Rattle.license_views.specs.declared.Viewed.{Viewed}
-use Rattle.license_views.specs.Tabled.{Tabled, behind, tableOver}
+use Rattle.license_views.specs.Tabled.{Tabled, tableOver}
 use Rattle.license_charge.proofs.ChargeLaws.{chargeable}
 use Rattle.compile.specs.Bodied.{Bodied}
 
 -- ---- the table as it is lent
-module _ (area words : List ℕ) (n : ℕ) (t : Viewed) (h : Tabled n area words t) where
+module _ (area words : List ℕ) (n : ℕ) (t : Viewed) (h : Tabled n area words t) (from : ℕ) (q : from ≡ tableEnd n) where
   abbrev text : List ℕ
   text = take (t .end - t .start) (drop (t .start) area)
 
   abbrev places : List ℕ
-  places = take (length words - behind n) (drop (behind n) words)
+  places = take (length words - from) (drop from words)
 
   pub body-sizes : ((t .distinct ≤ t .total) × (t .total + t .total ≤ length places) × (t .total < 4294967296)) × (length text ≤ 16777216)
   body-sizes =
       let s = chargeable area words n t h .sizes in
-      ((s .0, s .1, omega arith), omega (arith, ap length (part-slice (t .start) (t .end) area), h .short))
+      ((s .0, rw q (s .1), omega arith), omega (arith, ap length (part-slice (t .start) (t .end) area), h .short))
 
   pub body-is : tableOut (tableAt text places (t .total) (t .distinct)) ≡ tableOut (tableOver area t)
   unfolding tableOver
   body-is =
-      ap tableOut
-      (chargeable area words n t h .stands ∙ ap (λ (l : List ℕ). tableOf (bigrams l)) (part-slice (t .start) (t .end) area))
+      let s : tableAt text places (t .total) (t .distinct) ≡ tableOf (bigrams text) = rw q (chargeable area words n t h .stands) in
+      ap tableOut (s ∙ ap (λ (l : List ℕ). tableOf (bigrams l)) (part-slice (t .start) (t .end) area))
 
 -- ---- the output
 module _ (made body out₀ : List ℕ) (len : ℕ) (e : made ≡ body) (l : len ≡ length made) where

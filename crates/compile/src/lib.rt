@@ -18,6 +18,7 @@ use license_views::view_table;
 use ngram_body::body_len;
 use ngram_body::put_body;
 use ngram_table::TableSize;
+use preproc_table::table_end;
 use refusals::admit_compile;
 use rules::Compiled;
 use rules::View;
@@ -36,7 +37,7 @@ fn write_body(area: &[u8], words: &[u32], n: usize, t: Viewed, out: &mut [u8]) -
 {
     let start = t.start;
     let end = t.end;
-    let from = 2 * n + 2;
+    let from = table_end(n);
     let size = TableSize {
         total: t.total,
         distinct: t.distinct,

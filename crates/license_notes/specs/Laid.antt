@@ -6,13 +6,13 @@ use mathlib.Core.List.{List}
 use Prim.Native.Nat.{ℕ, _+_, _*_, _≤_}
 use lib.ListN.{length}
 use Rattle.rules.specs.Sizes.{textMost, byteArea, wordArea}
-use Rattle.preproc_table.specs.Entries.{linesAt, Apart}
+use Rattle.preproc_table.specs.Entries.{viewStart, linesAt, Apart}
 use Rattle.rules.specs.Lines.{size}
 use Rattle.prefix_list.specs.Listing.{plainLines}
 
 -- the lines of a note of n bytes stand in the areas, as `normalise` leaves them
 pub record Laid (n lines : ℕ) (area words : List ℕ) : Type 0 where
-  pub apart : Apart n (4 * n) words lines
+  pub apart : Apart n (viewStart n) words lines
   pub few : lines ≤ n + 1
   pub small : n ≤ textMost
   pub area-room : byteArea n ≤ length area

@@ -13,7 +13,7 @@ use Rattle.rules.specs.Search.{viewed}
 use Rattle.rules.specs.Lines.{size}
 use Rattle.slices.specs.declared.ends.Span.{Span}
 use Rattle.slices.specs.Classes.{classTable}
-use Rattle.preproc_table.specs.Entries.{linesAt, Apart}
+use Rattle.preproc_table.specs.Entries.{tableEnd, viewStart, linesAt, Apart}
 use Rattle.preproc_table.proofs.EntryLaws.{lines-viewed, lines-kept, lines-below, apart-below}
 use Rattle.prefix_list.specs.Listing.{plainLines}
 use Rattle.prefix_choice.specs.Choice.{Strips}
@@ -22,19 +22,19 @@ use Rattle.prefix_choice.specs.declared.Common.the-variants.{Nothing, Prefix}
 use Rattle.preproc_view.specs.Whole as view
 use Rattle.preproc_view.specs.Whole.{viewAt}
 use Rattle.license_notes.specs.Laid.{Laid, Held}
-use Rattle.license_views.specs.Tabled.{Processed, behind}
+use Rattle.license_views.specs.Tabled.{Processed}
 
 -- areas that agree below hold the same lines
 module _ (n lines : ℕ) (area₀ words₀ area words : List ℕ) (laid : Laid n lines area₀ words₀) (area-long : length area ≡ length area₀)
-    (words-long : length words ≡ length words₀) (area-low : take (4 * n) area ≡ take (4 * n) area₀) (words-low : take (behind n) words ≡ take (behind n) words₀) where
-  fits : 2 * lines ≤ behind n
+    (words-long : length words ≡ length words₀) (area-low : take (viewStart n) area ≡ take (viewStart n) area₀) (words-low : take (tableEnd n) words ≡ take (tableEnd n) words₀) where
+  fits : 2 * lines ≤ tableEnd n
   fits = omega (arith, laid .few)
 
-  apart : Apart n (4 * n) words lines
-  apart = apart-below lines (behind n) fits words₀ words (sym words-low) n (4 * n) (laid .apart)
+  apart : Apart n (viewStart n) words lines
+  apart = apart-below lines (tableEnd n) fits words₀ words (sym words-low) n (viewStart n) (laid .apart)
 
   same : linesAt area words lines ≡ linesAt area₀ words₀ lines
-  same = lines-kept lines area area₀ apart (ap (drop n) area-low) ∙ lines-below lines (behind n) fits words words₀ words-low area₀
+  same = lines-kept lines area area₀ apart (ap (drop n) area-low) ∙ lines-below lines (tableEnd n) fits words words₀ words-low area₀
 
   pub held-below : Held n lines area₀ words₀ area words
   held-below =
@@ -110,5 +110,5 @@ pub strips-none : (n : ℕ) (ls : List (List ℕ)) (area : List ℕ) (r : Common
 strips-none n ls area r h e = subst (Strips n ls area) e h
 
 pub strips-span : (n : ℕ) (ls : List (List ℕ)) (area : List ℕ) (r : Common) (s e : ℕ) → Strips n ls area r → r ≡ Prefix s e →
-    (withoutPrefix ls ≡ map (strip (slice s e area)) ls) × (n ≤ s) × (s ≤ e) × (e ≤ 4 * n)
+    (withoutPrefix ls ≡ map (strip (slice s e area)) ls) × (n ≤ s) × (s ≤ e) × (e ≤ viewStart n)
 strips-span n ls area r s e h q = subst (Strips n ls area) q h

@@ -13,14 +13,14 @@ use Rattle.rules.specs.Table.{Table, bigrams, tableOf, viewTable}
 use Rattle.rules.specs.Search.{viewed}
 use Rattle.rules.specs.Lines.{size}
 use Rattle.rules.proofs.GrowthLaws.{bigrams-length, aggressive-length, viewed-size}
-use Rattle.preproc_table.specs.Entries.{linesAt}
+use Rattle.preproc_table.specs.Entries.{tableEnd, viewStart, linesAt}
 use Rattle.preproc_table.proofs.EntryLaws.{lines-below, apart-below}
 use Rattle.ngram_table.specs.Tables.{tableAt}
 use Rattle.license_views.specs.declared.Viewed.{Viewed}
 use Rattle.slices.specs.declared.ends.Span.{Span}
 use Rattle.prefix_list.specs.Listing.{plainLines}
 use Rattle.license_notes.specs.Laid.{Held}
-use Rattle.license_views.specs.Tabled.{Processed, behind, Tabled, tableOver}
+use Rattle.license_views.specs.Tabled.{Processed, Tabled, tableOver}
 
 -- ---- the words behind the line table
 behind-put : (a : ℕ) (xs ys : List ℕ) → a ≤ length xs → drop a (putMid a (length xs - a) xs ys) ≡ ys
@@ -43,65 +43,67 @@ module _ {n lines : ℕ} {v : View} {area₀ words₀ : List ℕ} {r : Span} {ar
         ap size (p .held .same),
       )
 
-  pub table-fits : (length (bigrams (take (r .end - r .start) (drop (r .start) area))) + length (bigrams (take (r .end - r .start) (drop (r .start) area))) ≤
-      length (take (length words - behind n) (drop (behind n) words))) ×
-      (length (take (r .end - r .start) (drop (r .start) area)) < 4294967296)
-  table-fits =
-      let b = bigrams-length (slice (r .start) (r .end) area) in
-      let room = p .held .laid .words-room in
-      let small = p .held .laid .small in
-      let f = text-few in
-      rw (part-slice (r .start) (r .end) area, part-rest (behind n) words) (omega (arith, length-drop (behind n) words), omega arith)
-
-  module _ (total distinct : ℕ) (last : List ℕ) (long : length (putMid (behind n) (length words - behind n) words last) ≡ length words)
-      (is : tableAt (take (r .end - r .start) (drop (r .start) area)) last total distinct ≡ tableOf (bigrams (take (r .end - r .start) (drop (r .start) area))))
-      (few : distinct ≤ total) where
-    abbrev after : List ℕ
-    after = putMid (behind n) (length words - behind n) words last
-
-    abbrev viewed-as : Viewed
-    viewed-as = record { start = r .start; end = r .end; total = total; distinct = distinct }
-
-    total-is : total ≡ length (bigrams (slice (r .start) (r .end) area))
-    unfolding tableAt tableOf
-    total-is = ap (λ (t : Table). t .total) is ∙ ap (λ (l : List ℕ). length (bigrams l)) (part-slice (r .start) (r .end) area)
-
-    fits : behind n ≤ length words
-    fits = omega (arith, p .held .laid .words-room)
-
-    pub tabled : Tabled n area after viewed-as
-    tabled =
+  -- its words stand from `from` on
+  module _ (from : ℕ) (q : from ≡ tableEnd n) where
+    pub table-fits : (length (bigrams (take (r .end - r .start) (drop (r .start) area))) + length (bigrams (take (r .end - r .start) (drop (r .start) area))) ≤
+        length (take (length words - from) (drop from words))) ×
+        (length (take (r .end - r .start) (drop (r .start) area)) < 4294967296)
+    table-fits =
         let b = bigrams-length (slice (r .start) (r .end) area) in
+        let room = p .held .laid .words-room in
+        let small = p .held .laid .small in
         let f = text-few in
-        record {
-          order = p .order;
-          high = p .high;
-          short = omega (arith, p .held .laid .small);
-          few = few;
-          room = omega (arith, total-is, p .held .laid .words-room, p .held .laid .small);
-          most = omega (arith, total-is, p .held .laid .small);
-          stands = rw (behind-put (behind n) words last fits, ← part-slice (r .start) (r .end) area) is;
-        }
+        rw (part-slice (r .start) (r .end) area, part-rest from words) (omega (arith, length-drop from words), omega arith)
 
-    pub table-is : tableOver area viewed-as ≡ viewTable (viewed (linesAt area₀ words₀ lines) v)
-    unfolding tableOver viewTable
-    table-is = ap (λ (l : List ℕ). tableOf (bigrams l)) (p .bytes)
+    module _ (total distinct : ℕ) (last : List ℕ) (long : length (putMid from (length words - from) words last) ≡ length words)
+        (is : tableAt (take (r .end - r .start) (drop (r .start) area)) last total distinct ≡ tableOf (bigrams (take (r .end - r .start) (drop (r .start) area))))
+        (few : distinct ≤ total) where
+      abbrev after : List ℕ
+      after = putMid from (length words - from) words last
 
-    pub table-held : Held n lines area₀ words₀ area after
-    table-held =
-        let below : take (behind n) words ≡ take (behind n) after = sym (take-put (behind n) (length words - behind n) words last fits) in
-        let few-lines : 2 * lines ≤ behind n = omega (arith, p .held .laid .few) in
-        record {
-          laid = record {
-            apart = apart-below lines (behind n) few-lines words after below n (4 * n) (p .held .laid .apart);
-            few = p .held .laid .few;
-            small = p .held .laid .small;
-            area-room = p .held .laid .area-room;
-            words-room = omega (arith, long, p .held .laid .words-room);
-            plain = ap plainLines (sym (lines-below lines (behind n) few-lines words after below area)) ∙ p .held .laid .plain;
-            bytes = omega (arith, ap size (lines-below lines (behind n) few-lines words after below area), p .held .laid .bytes);
-          };
-          area-long = p .held .area-long;
-          words-long = long ∙ p .held .words-long;
-          same = sym (lines-below lines (behind n) few-lines words after below area) ∙ p .held .same;
-        }
+      abbrev viewed-as : Viewed
+      viewed-as = record { start = r .start; end = r .end; total = total; distinct = distinct }
+
+      total-is : total ≡ length (bigrams (slice (r .start) (r .end) area))
+      unfolding tableAt tableOf
+      total-is = ap (λ (t : Table). t .total) is ∙ ap (λ (l : List ℕ). length (bigrams l)) (part-slice (r .start) (r .end) area)
+
+      fits : from ≤ length words
+      fits = omega (arith, p .held .laid .words-room)
+
+      pub tabled : Tabled n area after viewed-as
+      tabled =
+          let b = bigrams-length (slice (r .start) (r .end) area) in
+          let f = text-few in
+          record {
+            order = p .order;
+            high = p .high;
+            short = omega (arith, p .held .laid .small);
+            few = few;
+            room = omega (arith, total-is, p .held .laid .words-room, p .held .laid .small);
+            most = omega (arith, total-is, p .held .laid .small);
+            stands = rw (← q, behind-put from words last fits, ← part-slice (r .start) (r .end) area) is;
+          }
+
+      pub table-is : tableOver area viewed-as ≡ viewTable (viewed (linesAt area₀ words₀ lines) v)
+      unfolding tableOver viewTable
+      table-is = ap (λ (l : List ℕ). tableOf (bigrams l)) (p .bytes)
+
+      pub table-held : Held n lines area₀ words₀ area after
+      table-held =
+          let below : take from words ≡ take from after = sym (take-put from (length words - from) words last fits) in
+          let few-lines : 2 * lines ≤ from = omega (arith, p .held .laid .few) in
+          record {
+            laid = record {
+              apart = apart-below lines from few-lines words after below n (viewStart n) (p .held .laid .apart);
+              few = p .held .laid .few;
+              small = p .held .laid .small;
+              area-room = p .held .laid .area-room;
+              words-room = omega (arith, long, p .held .laid .words-room);
+              plain = ap plainLines (sym (lines-below lines from few-lines words after below area)) ∙ p .held .laid .plain;
+              bytes = omega (arith, ap size (lines-below lines from few-lines words after below area), p .held .laid .bytes);
+            };
+            area-long = p .held .area-long;
+            words-long = long ∙ p .held .words-long;
+            same = sym (lines-below lines from few-lines words after below area) ∙ p .held .same;
+          }

@@ -9,7 +9,7 @@ use Rattle.rules.specs.declared.View.{View}
 use Rattle.rules.specs.Search.{view, viewed}
 use Rattle.rules.specs.Table.{Table, bigrams, tableOf}
 use Rattle.rules.specs.Sizes.{textMost, totalMost}
-use Rattle.preproc_table.specs.Entries.{linesAt}
+use Rattle.preproc_table.specs.Entries.{tableEnd, linesAt}
 use Rattle.ngram_table.specs.Tables.{tableAt}
 use Rattle.rules.specs.Passes.{aggressive}
 use Rattle.license_views.specs.declared.Viewed.{Viewed}
@@ -25,7 +25,7 @@ pub record Processed (n lines : ℕ) (v : View) (area₀ words₀ : List ℕ) (r
 
 -- where the words of a view's bigrams stand: behind the line table
 abbrev pub behind : ℕ → ℕ
-behind n = 2 * n + 2
+behind n = tableEnd n
 
 -- the processed text of a view is area[start..end], and its table stands over it in the words behind the line table
 pub record Tabled (n : ℕ) (area words : List ℕ) (t : Viewed) : Type 0 where
@@ -33,9 +33,9 @@ pub record Tabled (n : ℕ) (area words : List ℕ) (t : Viewed) : Type 0 where
   pub high : t .end ≤ length area
   pub short : length (slice (t .start) (t .end) area) ≤ 3 * textMost + 3
   pub few : t .distinct ≤ t .total
-  pub room : behind n + (t .total + t .total) ≤ length words
+  pub room : tableEnd n + (t .total + t .total) ≤ length words
   pub most : t .total ≤ totalMost
-  pub stands : tableAt (slice (t .start) (t .end) area) (drop (behind n) words) (t .total) (t .distinct) ≡ tableOf (bigrams (slice (t .start) (t .end) area))
+  pub stands : tableAt (slice (t .start) (t .end) area) (drop (tableEnd n) words) (t .total) (t .distinct) ≡ tableOf (bigrams (slice (t .start) (t .end) area))
 
 -- the table itself
 unfoldable pub tableOver : List ℕ → Viewed → Table

@@ -12,6 +12,7 @@ ghost use Rattle.license_views.specs.Tabled.{Tabled, Processed, tableOve
 use ngram_table::table;
 use prefix::common_prefix;
 use prefix_choice::Common;
+use preproc_table::table_end;
 use preproc_view::process::process_plain;
 use preproc_view::process::process_stripped;
 use rules::View;
@@ -63,7 +64,7 @@ pub fn view_table(
     let p = process(class, area, words, n, lines, v);
     let start = p.start;
     let end = p.end;
-    let from = 2 * n + 2;
+    let from = table_end(n);
     let size = table(&area[start..end], &mut words[from..]);
     Viewed {
         start,

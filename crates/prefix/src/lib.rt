@@ -8,13 +8,14 @@ ghost use lib.ListN.{length, take};
 ghost use Rattle.rules.specs.Sizes.{textMost, byteArea, wordArea};
 ghost use Rattle.rules.specs.Search.{viewed};
 ghost use Rattle.slices.specs.Classes.{classTable};
-ghost use Rattle.preproc_table.specs.Entries.{linesAt, Apart};
+ghost use Rattle.preproc_table.specs.Entries.{tableEnd, viewStart, linesAt, Apart};
 ghost use Rattle.prefix_list.specs.Listing.{plainLines};
 ghost use Rattle.prefix_choice.specs.Choice.{Strips};
 use prefix_choice::Common;
 use prefix_choice::choose;
 use prefix_list::home;
 use prefix_list::list_prefixes;
+use preproc_table::table_end;
 use rules::View;
 
 // What pass 1 strips from the view's lines, as bytes of the lines' region [n, 4n): the list of prefixes at 4n is written over later.
@@ -27,12 +28,12 @@ pub fn common_prefix(
     count: usize,
     v: View,
 ) -> Common
-    requires { ⌜ (now class ≡ classTable) × Apart n (4 * n) (now table) count × (v .start ≤ v .end) × (v .end ≤ count) × (count ≤ n + 1) ⌝ }
+    requires { ⌜ (now class ≡ classTable) × Apart n (viewStart n) (now table) count × (v .start ≤ v .end) × (v .end ≤ count) × (count ≤ n + 1) ⌝ }
     requires { ⌜ (n ≤ textMost) × (byteArea n ≤ length (now area)) × (wordArea n ≤ length (now table)) ⌝ }
     requires { ⌜ plainLines (linesAt (now area) (now table) count) ≡ true ⌝ }
     ensures strips { λ r. ⌜ Strips n (viewed (linesAt (now (area .entry)) (now (table .entry)) count) v) (now (area .exit)) r ⌝ }
-    ensures area { λ r. ⌜ take (4 * n) (now (area .exit)) ≡ take (4 * n) (now (area .entry)) ⌝ }
-    ensures table { λ r. ⌜ take (2 * n + 2) (now (table .exit)) ≡ take (2 * n + 2) (now (table .entry)) ⌝ }
+    ensures area { λ r. ⌜ take (viewStart n) (now (area .exit)) ≡ take (viewStart n) (now (area .entry)) ⌝ }
+    ensures table { λ r. ⌜ take (tableEnd n) (now (table .exit)) ≡ take (tableEnd n) (now (table .entry)) ⌝ }
 {
     let x = list_prefixes(class, area, table, n, count, v);
     let k = x.k;
@@ -41,7 +42,8 @@ pub fn common_prefix(
         return Common::Nothing;
     }
     let lines = v.end - v.start;
-    let found = choose(&area[..end], table, 2 * n + 2, k, lines);
+    let at = table_end(n);
+    let found = choose(&area[..end], table, at, k, lines);
     let Common::Prefix(start, stop) = found else {
         return Common::Nothing;
     };

@@ -2,11 +2,12 @@
 -- Assumes nothing.
 use mathlib.Core.Path.{_≡_}
 use mathlib.Core.List.{List, map}
-use Prim.Native.Nat.{ℕ, _+_, _*_, _≤_, _<_}
+use Prim.Native.Nat.{ℕ, _+_, _≤_, _<_}
 use lib.ListN.{length, getD}
 use lib.Seq.{slice}
 use Rattle.rules.specs.Prefix.{prefixes, strip, withoutPrefix}
 use Rattle.rules.specs.Table.{occurs}
+use Rattle.preproc_table.specs.Entries.{viewStart}
 use Rattle.sort_spread.specs.Sort.{partLater, msorted}
 use Rattle.sort_tally.specs.Group.{groups, Grouped, partsAt}
 use Rattle.sort_tally.proofs.StableLaws.{Climbing}
@@ -38,4 +39,4 @@ Decided ls text (Prefix s e) =
 -- what pass 1 strips from the lines ls, by bytes of the lines' region [n, 4n)
 abbrev pub Strips : ℕ → List (List ℕ) → List ℕ → Common → Type 0
 Strips n ls area Nothing = withoutPrefix ls ≡ ls
-Strips n ls area (Prefix s e) = (withoutPrefix ls ≡ map (strip (slice s e area)) ls) × (n ≤ s) × (s ≤ e) × (e ≤ 4 * n)
+Strips n ls area (Prefix s e) = (withoutPrefix ls ≡ map (strip (slice s e area)) ls) × (n ≤ s) × (s ≤ e) × (e ≤ viewStart n)

@@ -1,4 +1,4 @@
--- What is chosen among the common prefixes, and what pass 1 strips.
+-- The list of common prefixes as it stands in the areas, and where in the lines a prefix was taken from.
 -- Assumes nothing.
 use mathlib.Core.Path.{_≡_}
 use mathlib.Core.Bool.{true, Bool, not, _&&_}
@@ -9,14 +9,14 @@ use lib.Seq.{slice}
 use Rattle.slices.specs.declared.ends.Span.{Span}
 use Rattle.rules.specs.Bytes.{newline, every, trim}
 use Rattle.rules.specs.Prefix.{common}
-use Rattle.preproc_table.specs.Entries.{startAt, endAt, lineAt}
+use Rattle.preproc_table.specs.Entries.{tableEnd, viewStart, startAt, endAt, lineAt}
 use Rattle.prefix_list.specs.declared.Listed.{Listed}
 
 -- the span r, in the lines' region, holds the bytes w
 pub record Home (n : ℕ) (area w : List ℕ) (r : Span) : Type 0 where
   pub low : n ≤ r .start
   pub order : r .start ≤ r .end
-  pub high : r .end ≤ 4 * n
+  pub high : r .end ≤ viewStart n
   pub bytes : slice (r .start) (r .end) area ≡ w
 
 -- a line holds no newline
@@ -52,10 +52,10 @@ pub record Shared (area table : List ℕ) (i : ℕ) (r : Span) : Type 0 where
 
 -- the list qs stands in the areas of a text of n bytes, and what is below it is as it was
 pub record Stands (n : ℕ) (qs : List (List ℕ)) (area₀ table₀ : List ℕ) (r : Listed) (area table : List ℕ) : Type 0 where
-  pub low : 4 * n ≤ r .end
+  pub low : viewStart n ≤ r .end
   pub high : r .end ≤ 7 * n
   pub few : r .k ≤ n + 1
-  pub bytes : slice (4 * n) (r .end) area ≡ listed qs
-  pub starts : slice (2 * n + 2) (2 * n + 2 + r .k) table ≡ startsFrom (4 * n) qs
-  pub area-low : take (4 * n) area ≡ take (4 * n) area₀
-  pub table-low : take (2 * n + 2) table ≡ take (2 * n + 2) table₀
+  pub bytes : slice (viewStart n) (r .end) area ≡ listed qs
+  pub starts : slice (tableEnd n) (tableEnd n + r .k) table ≡ startsFrom (viewStart n) qs
+  pub area-low : take (viewStart n) area ≡ take (viewStart n) area₀
+  pub table-low : take (tableEnd n) table ≡ take (tableEnd n) table₀

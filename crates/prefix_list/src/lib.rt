@@ -1,6 +1,6 @@
-// Which of the listed prefixes is stripped: the one that was seen most often, first seen on ties, where enough lines have it.
+// The common prefixes of a view's adjacent lines, listed behind all lines; and where in the lines one was taken from.
 // From detection/preproc.rs of spdx 0.13.6 (Copyright 2018-2019 Amazon.com, Inc. or its affiliates. All Rights Reserved.
-// SPDX-License-Identifier: Apache-2.0), changed: its map is a sorted table, and ties go to the first seen. Assumes nothing.
+// SPDX-License-Identifier: Apache-2.0), changed: its strings are places in lent areas. Assumes nothing.
 ghost use mathlib.Core.Path.{_≡_};
 ghost use Prim.Native.Nat.{_+_, _*_, _-_, _≤_, _<_};
 ghost use lib.ListN.{length, take};
@@ -8,12 +8,14 @@ ghost use lib.Seq.{slice};
 ghost use Rattle.rules.specs.Prefix.{prefixes};
 ghost use Rattle.rules.specs.Table.{occurs};
 ghost use Rattle.slices.specs.Classes.{classTable};
-ghost use Rattle.preproc_table.specs.Entries.{linesFrom, Apart};
+ghost use Rattle.preproc_table.specs.Entries.{viewStart, linesFrom, Apart};
 ghost use Rattle.prefix_list.specs.Listing.{Home, Lies, Shared, Stands};
 ghost use mathlib.Core.List.{[], _∷_, _++_};
 ghost use Rattle.rules.specs.Sizes.{textMost, byteArea, wordArea};
 use preproc_table::line_end;
 use preproc_table::line_start;
+use preproc_table::table_end;
+use preproc_table::view_start;
 use rules::View;
 use slices::class::SPACE_HIGH;
 use slices::class::SPACE_LOW;
@@ -35,7 +37,7 @@ pub fn home(
     a: usize,
     b: usize,
 ) -> Span
-    requires { ⌜ (now class ≡ classTable) × Apart n (4 * n) (now table) count × (v .start ≤ v .end) × (v .end ≤ count) × (2 * count ≤ length (now table)) × (4 * n ≤ length (now area)) ⌝ }
+    requires { ⌜ (now class ≡ classTable) × Apart n (viewStart n) (now table) count × (v .start ≤ v .end) × (v .end ≤ count) × (2 * count ≤ length (now table)) × (viewStart n ≤ length (now area)) ⌝ }
     requires { ⌜ (a ≤ b) × (b ≤ length (now area)) × (0 < occurs (slice a b (now area)) (prefixes (linesFrom (now area) (now table) (v .start) (v .end - v .start)))) ⌝ }
     ensures { λ r. ⌜ Home n (now (area .entry)) (slice a b (now (area .entry))) r ⌝ }
 {
@@ -88,7 +90,7 @@ fn put_prefix(area: &mut [u8], from: usize, k: usize, to: usize)
     area[end] = 10;
 }
 
-// The prefixes longer than 3 bytes of the view's adjacent lines, at 4n in the area; their starts at 2n + 2 in the table. Linear in the
+// The prefixes longer than 3 bytes of the view's adjacent lines, where a view begins in the area; their starts behind the line table. Linear in the
 // view's lines: each is compared with its neighbours alone.
 pub fn list_prefixes(
     class: &[u8; 256],
@@ -98,14 +100,14 @@ pub fn list_prefixes(
     count: usize,
     v: View,
 ) -> Listed
-    requires { ⌜ (now class ≡ classTable) × Apart n (4 * n) (now table) count × (v .start ≤ v .end) × (v .end ≤ count) × (count ≤ n + 1) ⌝ }
+    requires { ⌜ (now class ≡ classTable) × Apart n (viewStart n) (now table) count × (v .start ≤ v .end) × (v .end ≤ count) × (count ≤ n + 1) ⌝ }
     requires { ⌜ (n ≤ textMost) × (byteArea n ≤ length (now area)) × (wordArea n ≤ length (now table)) ⌝ }
     ensures { λ r. ⌜ Stands n (prefixes (linesFrom (now (area .entry)) (now (table .entry)) (v .start) (v .end - v .start))) (now (area .entry)) (now (table .entry)) r (now (area .exit)) (now (table .exit)) ⌝ }
 {
-    let at = 2 * n + 2;
+    let at = table_end(n);
     let stop = v.end;
     let mut k = 0;
-    let mut w = 4 * n;
+    let mut w = view_start(n);
     let mut i = v.start;
     while i + 1 < stop {
         let s = shared(class, area, table, i);

@@ -2,13 +2,13 @@
 -- Assumes nothing.
 use mathlib.Core.Path.{_≡_}
 use mathlib.Core.List.{List}
-use Prim.Native.Nat.{ℕ, _*_}
+use Prim.Native.Nat.{ℕ}
 use lib.ListN.{length}
 use Rattle.rules.specs.Lines.{lines, lineCount}
-use Rattle.preproc_table.specs.Entries.{linesAt, Apart}
+use Rattle.preproc_table.specs.Entries.{viewStart, linesAt, Apart}
 
 -- all lines are there, in A = [n, 4n), one byte or more apart
 pub record Normalised (text area table : List ℕ) (r : ℕ) : Type 0 where
   pub count : r ≡ lineCount text
   pub lines : linesAt area table r ≡ lines text
-  pub apart : Apart (length text) (4 * length text) table r
+  pub apart : Apart (length text) (viewStart (length text)) table r

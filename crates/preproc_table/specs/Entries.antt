@@ -7,6 +7,13 @@ use lib.ListN.{getD, set}
 use lib.Seq.{slice}
 use Rattle.rules.specs.Search.{blank}
 
+-- where the line table of a text of n bytes ends in the words, and where a view begins in its byte area, behind all lines
+abbrev pub tableEnd : ℕ → ℕ
+tableEnd n = 2 * n + 2
+
+abbrev pub viewStart : ℕ → ℕ
+viewStart n = 4 * n
+
 abbrev pub startAt : List ℕ → ℕ → ℕ
 startAt table i = getD table (2 * i) 0
 

@@ -4,7 +4,23 @@
 ghost use mathlib.Core.Path.{_≡_};
 ghost use Prim.Native.Nat.{_+_, _*_, _<_, _≤_, _^_};
 ghost use lib.ListN.{length};
-ghost use Rattle.preproc_table.specs.Entries.{startAt, endAt, written, blanked, Blanked};
+ghost use Rattle.preproc_table.specs.Entries.{tableEnd, viewStart, startAt, endAt, written, blanked, Blanked};
+
+// Where the line table of a text of n bytes ends in the words: a text has n + 1 lines at most, each two numbers.
+pub fn table_end(n: usize) -> usize
+    requires { ⌜ tableEnd n < 2 ^ 64 ⌝ }
+    ensures { λ r. ⌜ r ≡ tableEnd n ⌝ }
+{
+    2 * n + 2
+}
+
+// Where a view begins in the byte area of a text of n bytes: its lines lie in [n, 4n).
+pub fn view_start(n: usize) -> usize
+    requires { ⌜ viewStart n < 2 ^ 64 ⌝ }
+    ensures { λ r. ⌜ r ≡ viewStart n ⌝ }
+{
+    4 * n
+}
 
 // Where line i starts.
 pub fn line_start(table: &[u32], i: usize) -> usize

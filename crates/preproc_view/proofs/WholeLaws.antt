@@ -3,7 +3,7 @@
 use mathlib.Core.Path.{_≡_, refl, sym, ap, _∙_}
 use mathlib.Core.Bool.{true, false, cond}
 use mathlib.Core.List.{List, [], _∷_, _++_, map}
-use Prim.Native.Nat.{ℕ, zero, suc, _+_, _-_, _*_, _≤_, _<_, zero-le}
+use Prim.Native.Nat.{ℕ, zero, suc, _+_, _-_, _≤_, _<_, zero-le}
 use native.Mathlib.Omega.{arith}
 use lib.ListN.{length, take, drop, length-append, length-take, length-drop}
 use lib.Seq.{slice, take-at, length-take-le}
@@ -15,7 +15,7 @@ use Rattle.rules.specs.Passes.{passes, aggressive}
 use Rattle.rules.proofs.BoolLaws.{cond-of}
 use Rattle.rules.proofs.GrowthLaws.{trim-length}
 use Rattle.slices.specs.declared.ends.Span.{Span}
-use Rattle.preproc_table.specs.Entries.{startAt, endAt, lineAt, linesFrom, Apart}
+use Rattle.preproc_table.specs.Entries.{viewStart, startAt, endAt, lineAt, linesFrom, Apart}
 use Rattle.preproc_join.specs.declared.Prefix.{Prefix}
 use Rattle.preproc_join.specs.Joins.{bytesOf, left, viewLines, Below, Joined}
 use Rattle.preproc_view.specs.Rows.{Stands}
@@ -66,26 +66,27 @@ module _ (area table : List ℕ) (p : Prefix) {first last end : ℕ} (a : Apart 
 
 -- ---- a view of the lines of a text
 module _ {class area table : List ℕ} {n : ℕ} {v : View} {p : Prefix} (q : Ready class area table n v) (c : Chosen area n (viewAt area table v) p) where
-  pub ready-below : Below class table (v .end) p (4 * n)
+  pub ready-below : Below class table (v .end) p (viewStart n)
   ready-below =
       record { classes = q .classes; entries = q .entries; order = q .apart .order; below = q .apart .high; prefix = c .below }
 
-  pub ready-room : 4 * n + length (join (viewLines area table (v .start) (v .end) p)) ≤ length area
+  pub ready-room : viewStart n + length (join (viewLines area table (v .start) (v .end) p)) ≤ length area
   unfolding viewLines
   ready-room = omega (arith, q .room, q .order, join-fits area table p (q .apart) (v .start) (v .end - v .start) (omega (arith, q .order)))
 
-  -- joined from 4n on, and then the passes on the part that is lent from there on
-  pub all-passes : {len : ℕ} (b d e : List ℕ) {r : Span} → Joined (join (viewLines area table (v .start) (v .end) p)) area (4 * n) len b →
-      4 * n ≤ length b → Stands (passes (take len (take (length b - 4 * n) (drop (4 * n) b)))) d r →
-      Processed (viewAt area table v) n area (record { start = 4 * n + r .start; end = 4 * n + r .end }) (take (4 * n) b ++ (d ++ e))
+  -- joined from where a view begins, and then the passes on the part that is lent from there on
+  pub all-passes : {to : ℕ} → to ≡ viewStart n → {len : ℕ} (b d e : List ℕ) {r : Span} →
+      Joined (join (viewLines area table (v .start) (v .end) p)) area to len b → to ≤ length b →
+      Stands (passes (take len (take (length b - to) (drop to b)))) d r →
+      Processed (viewAt area table v) n area (record { start = to + r .start; end = to + r .end }) (take to b ++ (d ++ e))
   unfolding viewLines aggressive
-  all-passes {len} b d e {r} j h s =
-      let o : passes (take len (take (length b - 4 * n) (drop (4 * n) b))) ≡ passes (join (withoutPrefix (viewAt area table v))) =
-      ap (λ (l : List ℕ). passes (take len l)) (part-rest (4 * n) b) ∙ ap passes (j .there .bytes ∙ ap join (sym (c .lines))) in
+  all-passes {to} t {len} b d e {r} j h s =
+      let o : passes (take len (take (length b - to) (drop to b))) ≡ passes (join (withoutPrefix (viewAt area table v))) =
+      ap (λ (l : List ℕ). passes (take len l)) (part-rest to b) ∙ ap passes (j .there .bytes ∙ ap join (sym (c .lines))) in
       record {
-        stands = stands-lent (4 * n) b d e h (rw o at s);
+        stands = stands-lent to b d e h (rw o at s);
         behind = omega arith;
-        below = take-at (take (4 * n) b) (d ++ e) (4 * n) (length-take-le (4 * n) b h) ∙ j .below;
+        below = rw (← t) (take-at (take to b) (d ++ e) to (length-take-le to b h) ∙ j .below);
       }
 
 -- ---- what pass 1 chose: nothing, or the bytes from s up to e
@@ -98,7 +99,7 @@ module _ (area : List ℕ) (n : ℕ) (ls : List (List ℕ)) where
       each [] = refl
       each (m ∷ ms) = ap (λ (r : List (List ℕ)). m ∷ r) (each ms)
 
-  pub chosen-span : (s e : ℕ) → s ≤ e → e ≤ 4 * n → withoutPrefix ls ≡ map (strip (slice s e area)) ls →
+  pub chosen-span : (s e : ℕ) → s ≤ e → e ≤ viewStart n → withoutPrefix ls ≡ map (strip (slice s e area)) ls →
       Chosen area n ls (record { strip = true; at = s; len = e - s })
   unfolding left
   chosen-span s e k h f =

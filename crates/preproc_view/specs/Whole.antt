@@ -10,7 +10,7 @@ use Rattle.rules.specs.Prefix.{withoutPrefix}
 use Rattle.rules.specs.Passes.{aggressive}
 use Rattle.slices.specs.declared.ends.Span.{Span}
 use Rattle.slices.specs.Classes.{classTable}
-use Rattle.preproc_table.specs.Entries.{linesFrom, Apart}
+use Rattle.preproc_table.specs.Entries.{viewStart, linesFrom, Apart}
 use Rattle.preproc_join.specs.declared.Prefix.{Prefix}
 use Rattle.preproc_join.specs.Joins.{left}
 use Rattle.preproc_view.specs.Rows.{Stands}
@@ -24,16 +24,16 @@ pub record Ready (class area table : List ℕ) (n : ℕ) (v : View) : Type 0 whe
   pub classes : class ≡ classTable
   pub room : byteArea n ≤ length area
   pub entries : 2 * v .end ≤ length table
-  pub apart : Apart n (4 * n) table (v .end)
+  pub apart : Apart n (viewStart n) table (v .end)
   pub order : v .start ≤ v .end
 
 -- pass 1 leaves of each line what p leaves of it
 pub record Chosen (area : List ℕ) (n : ℕ) (ls : List (List ℕ)) (p : Prefix) : Type 0 where
-  pub below : p .at + p .len ≤ 4 * n
+  pub below : p .at + p .len ≤ viewStart n
   pub lines : withoutPrefix ls ≡ map (left area p) ls
 
 -- the processed text stands in r, behind the lines, and what stands below 4n is as it was
 pub record Processed (ls : List (List ℕ)) (n : ℕ) (d₀ : List ℕ) (r : Span) (d : List ℕ) : Type 0 where
   pub stands : Stands (aggressive ls) d r
-  pub behind : 4 * n ≤ r .start
-  pub below : take (4 * n) d ≡ take (4 * n) d₀
+  pub behind : viewStart n ≤ r .start
+  pub below : take (viewStart n) d ≡ take (viewStart n) d₀

@@ -4,13 +4,15 @@
 // classes, and that the lines of a text of n bytes lie in [n, 4n).
 ghost use mathlib.Core.Path.{_≡_};
 ghost use mathlib.Core.List.{map};
-ghost use Prim.Native.Nat.{_*_, _≤_};
+ghost use Prim.Native.Nat.{_≤_};
 ghost use lib.Seq.{slice};
 ghost use Rattle.rules.specs.Prefix.{strip, withoutPrefix};
+ghost use Rattle.preproc_table.specs.Entries.{viewStart};
 ghost use Rattle.preproc_view.specs.Whole.{Ready, Chosen, Processed, viewAt};
 use crate::passes::passes;
 use preproc_join::Prefix;
 use preproc_join::join_lines;
+use preproc_table::view_start;
 use rules::View;
 use slices::ends::Span;
 
@@ -26,7 +28,7 @@ fn process_with(
     requires { ⌜ Ready (now class) (now area) (now table) n v × Chosen (now area) n (viewAt (now area) (now table) v) p ⌝ }
     ensures { λ r. ⌜ Processed (viewAt (now (area .entry)) (now (table .entry)) v) n (now (area .entry)) r (now (area .exit)) ⌝ }
 {
-    let to = 4 * n;
+    let to = view_start(n);
     let len = join_lines(class, area, table, v.start, v.end, p, to);
     let s = passes(class, &mut area[to..], len);
     Span {
@@ -58,7 +60,7 @@ pub fn process_stripped(
     s: usize,
     e: usize,
 ) -> Span
-    requires { ⌜ Ready (now class) (now area) (now table) n v × (s ≤ e) × (e ≤ 4 * n) × (withoutPrefix (viewAt (now area) (now table) v) ≡ map (strip (slice s e (now area))) (viewAt (now area) (now table) v)) ⌝ }
+    requires { ⌜ Ready (now class) (now area) (now table) n v × (s ≤ e) × (e ≤ viewStart n) × (withoutPrefix (viewAt (now area) (now table) v) ≡ map (strip (slice s e (now area))) (viewAt (now area) (now table) v)) ⌝ }
     ensures { λ r. ⌜ Processed (viewAt (now (area .entry)) (now (table .entry)) v) n (now (area .entry)) r (now (area .exit)) ⌝ }
 {
     let p = Prefix {

@@ -10,11 +10,15 @@ use Rattle.compile.proofs.BodyLaws.{body-sizes, body-is, body-over, bod
 use Rattle.compile.proofs.write_body.Statement.{statement}
 use Rattle.compile.proofs.write_body.Tie as tie
 
-mul-from : tie.Need-mul-from
-mul-from c = search needs
+-- the places that the answers speak of
+abbrev start : tie.After-table-end → tie.Start
+start e = e .before .before .before .before
 
-add-from : tie.Need-add-from
-add-from c = search needs
+abbrev ended : tie.After-body-len → tie.After-table-end
+ended m = m .before .before .before
+
+table-end-requires : tie.Need-table-end-requires
+table-end-requires c κs = search needs
 
 sub-body-len : tie.Need-sub-body-len
 sub-body-len c = search needs
@@ -38,15 +42,21 @@ part-body-len-end-2 : tie.Need-part-body-len-end-2
 part-body-len-end-2 c = search needs
 
 body-len-requires : tie.Need-body-len-requires
-body-len-requires c κs = body-sizes _ _ _ _ (c .before .before .before .before .before .pre)
+body-len-requires c κs =
+    let e = c .before .before in
+    body-sizes _ _ _ _ (start e .pre) _ (e .table-end .ensures)
 
 too-short-requires : tie.Need-too-short-requires
 too-short-requires c κs = search needs
 
 returns : tie.Need-returns
 returns c =
-    let s = c .before .before .before .before .before .before .before .before in
-    body-over _ _ _ _ (body-is _ _ _ (s .args .t) (s .pre)) (c .before .before .body-len .ensures) (ltb-true _ _ (sym (c .before .too-short .ensures) ∙ c .if1 .taken))
+    let short = c .before in
+    let m = short .before in
+    let e = ended m in
+    let s = start e in
+    body-over _ _ _ _ (body-is _ _ _ (s .args .t) (s .pre) _ (e .table-end .ensures)) (m .body-len .ensures)
+    (ltb-true _ _ (sym (short .too-short .ensures) ∙ c .if1 .taken))
 
 sub-put-body : tie.Need-sub-put-body
 sub-put-body c = search needs
@@ -71,25 +81,34 @@ part-put-body-end-2 c = search needs
 
 put-body-requires : tie.Need-put-body-requires
 put-body-requires c κs =
-    let s = c .before .before .before .before .before .before .before .before .before .before .before in
-    let z = body-sizes _ _ _ _ (s .pre) in
-    let fits = sym (c .before .before .before .before .too-short .ensures) ∙ c .before .before .before .if1 .left in
-    (z .0, (z .1, subst (λ (n : ℕ). n ≤ length (now (s .args .out))) (c .before .before .before .before .before .body-len .ensures) (ltb-false (length (now (s .args .out))) _ fits)))
+    let fits = c .before .before .before in
+    let short = fits .before in
+    let m = short .before in
+    let e = ended m in
+    let s = start e in
+    let z = body-sizes _ _ _ _ (s .pre) _ (e .table-end .ensures) in
+    let enough = sym (short .too-short .ensures) ∙ fits .if1 .left in
+    (z .0, (z .1, subst (λ (n : ℕ). n ≤ length (now (s .args .out))) (m .body-len .ensures) (ltb-false (length (now (s .args .out))) _ enough)))
 
 same-length : tie.Need-same-length
 same-length c = search needs
 
 returns-2 : tie.Need-returns-2
 returns-2 c =
-    let s = c .before .before .before .before .before .before .before .before .before .before .before .before .before .before in
-    body-put _ _ _ _ (body-is _ _ _ (s .args .t) (s .pre)) (c .before .before .before .before .before .before .before .before .body-len .ensures) _ _ (ltb-false _ _ (sym (c .before .before .before .before .before .before .before .too-short .ensures) ∙ c .before .before .before .before .before .before .if1 .left)) (c .before .before .put-body .ensures)
+    let put = c .before .before in
+    let fits = put .before .before .before .before in
+    let short = fits .before in
+    let m = short .before in
+    let e = ended m in
+    let s = start e in
+    body-put _ _ _ _ (body-is _ _ _ (s .args .t) (s .pre) _ (e .table-end .ensures)) (m .body-len .ensures) _ _
+    (ltb-false _ _ (sym (short .too-short .ensures) ∙ fits .if1 .left)) (put .put-body .ensures)
 
 pub write-body-spec : {M : Type 1} → statement M
 write-body-spec =
     tie.close
     (tie.spec
-    mul-from
-    add-from
+    table-end-requires
     sub-body-len
     part-body-len-start
     part-body-len-end

@@ -1,16 +1,19 @@
+-- `license_views::view_table` meets its contract: the passes' text, and its bigrams behind the line table.
+-- Assumes nothing.
 use borrow.Author.Needs.{needs}
 use Rattle.license_views.proofs.ViewLaws.{table-fits, tabled, table-is, table-held}
 use Rattle.license_views.proofs.view_table.Statement.{statement}
 use Rattle.license_views.proofs.view_table.Tie as tie
 
+-- the processed text, from behind where the table's words begin
+abbrev processed : tie.After-table-end → tie.After-process
+processed e = e .before .before .before .before .before
+
 process-requires : tie.Need-process-requires
 process-requires c κs = search needs
 
-mul-from : tie.Need-mul-from
-mul-from c = search needs
-
-add-from : tie.Need-add-from
-add-from c = search needs
+table-end-requires : tie.Need-table-end-requires
+table-end-requires c κs = search needs
 
 sub-table : tie.Need-sub-table
 sub-table c = search needs
@@ -34,7 +37,9 @@ part-table-end-2 : tie.Need-part-table-end-2
 part-table-end-2 c = search needs
 
 table-requires : tie.Need-table-requires
-table-requires c κs = table-fits (c .before .before .before .before .before .before .before .process .ensures)
+table-requires c κs =
+    let e = c .before .before .before in
+    table-fits (processed e .process .ensures) _ (e .table-end .ensures)
 
 same-length : tie.Need-same-length
 same-length c = search needs
@@ -44,12 +49,15 @@ same-length-2 c = search needs
 
 returns : tie.Need-returns
 returns c =
-    let p = c .before .before .before .before .before .before .before .before .before .before .process .ensures in
-    let t = c .before .before .table in (
-      tabled p (t .result .total) (t .result .distinct) (t .last .1 .0) (search needs) (t .ensures .0) (t .ensures .1 .0),
+    let made = c .before .before in
+    let t = made .table in
+    let e = made .before .before .before .before in
+    let p = processed e .process .ensures in
+    let q = e .table-end .ensures in (
+      tabled p _ q (t .result .total) (t .result .distinct) (t .last .1 .0) (search needs) (t .ensures .0) (t .ensures .1 .0),
       (
-        table-is p (t .result .total) (t .result .distinct) (t .last .1 .0) (search needs) (t .ensures .0) (t .ensures .1 .0),
-        table-held p (t .result .total) (t .result .distinct) (t .last .1 .0) (search needs) (t .ensures .0) (t .ensures .1 .0),
+        table-is p _ q (t .result .total) (t .result .distinct) (t .last .1 .0) (search needs) (t .ensures .0) (t .ensures .1 .0),
+        table-held p _ q (t .result .total) (t .result .distinct) (t .last .1 .0) (search needs) (t .ensures .0) (t .ensures .1 .0),
       ),
     )
 
@@ -58,8 +66,7 @@ view-table-spec =
     tie.close
     (tie.spec
     process-requires
-    mul-from
-    add-from
+    table-end-requires
     sub-table
     part-table-start
     part-table-end

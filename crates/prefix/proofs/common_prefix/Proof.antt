@@ -14,7 +14,7 @@ use Rattle.rules.specs.Prefix.{prefixes, strip, withoutPrefix}
 use Rattle.rules.specs.Table.{occurs}
 use Rattle.rules.specs.Search.{viewed}
 use Rattle.rules.proofs.PrefixLaws.{without-none}
-use Rattle.preproc_table.specs.Entries.{linesFrom, linesAt}
+use Rattle.preproc_table.specs.Entries.{tableEnd, viewStart, linesFrom, linesAt}
 use Rattle.preproc_table.proofs.EntryLaws.{lines-viewed, lines-length, apart-below}
 use Rattle.prefix_list.specs.declared.Listed.{Listed}
 use Rattle.prefix_list.specs.Listing.{plainLines, Stands}
@@ -80,22 +80,35 @@ module _ (x : tie.After-list-prefixes) where
   text-long : length (take (found .end) area) ≡ found .end
   text-long = length-take-le (found .end) area end-within
 
+-- and where there are some
+module _ (e : tie.After-table-end) where
+  abbrev some : tie.Else1
+  some = e .before .before
+
+  abbrev listed-at : tie.After-list-prefixes
+  listed-at = some .before .before .before .before .before
+
 -- and once one is chosen
 module _ (q : tie.After-choose) where
+  abbrev ended : tie.After-table-end
+  ended = q .before .before .before
+
   abbrev at-list : tie.After-list-prefixes
-  at-list = q .before .before .before .before .before .before .before .before .before
+  at-list = listed-at ended
 
   decided : Decided (lines at-list) (take (found at-list .end) (area at-list)) (q .choose .result)
   decided =
-      q .choose .ensures .1 (lines at-list)
+      (rw (ended .table-end .ensures) at (q .choose .ensures .1)) (lines at-list)
       (stands-listed (n at-list) (lines at-list) (area₀ at-list) (table₀ at-list) (found at-list) (area at-list) (table at-list) (stands at-list) (smooth at-list) (area-room at-list) (table-room at-list))
       (lines-many at-list)
 
   abbrev last : List ℕ
   last = q .choose .last .1 .0
 
-  last-low : take (2 * n at-list + 2) last ≡ take (2 * n at-list + 2) (table₀ at-list)
-  last-low = q .choose .ensures .0 ∙ stands at-list .table-low
+  last-low : take (tableEnd (n at-list)) last ≡ take (tableEnd (n at-list)) (table₀ at-list)
+  last-low =
+      let front = rw (ended .table-end .ensures) at (q .choose .ensures .0) in
+      front ∙ stands at-list .table-low
 
   same-lines : lines at-list ≡ linesFrom (area at-list) last (v at-list .start) (v at-list .end - v at-list .start)
   same-lines =
@@ -140,25 +153,24 @@ returns c =
 sub-lines : tie.Need-sub-lines
 sub-lines c = search needs
 
+table-end-requires : tie.Need-table-end-requires
+table-end-requires c κs = search needs
+
 slice-reshare-prefix-choose : tie.Need-slice-reshare-prefix-choose
 slice-reshare-prefix-choose c = search needs
 
 slice-aggregate-choose : tie.Need-slice-aggregate-choose
-slice-aggregate-choose c = sym (length-take-le _ _ (end-within (c .before .before .before .before .before .before .before)))
-
-mul-choose : tie.Need-mul-choose
-mul-choose c = search needs
-
-add-choose : tie.Need-add-choose
-add-choose c = search needs
+slice-aggregate-choose c = sym (length-take-le _ _ (end-within (listed-at (c .before))))
 
 choose-requires : tie.Need-choose-requires
 choose-requires c κs =
-    let x = c .before .before .before .before .before .before .before .before in
+    let e = c .before .before in
+    let x = listed-at e in
     let few = stands x .few in
     let s = start x in (
-      (omega arith, omega (arith, table-room x), omega (arith, s .pre .1 .0 .0), omega (arith, s .pre .0 .3, s .pre .0 .4, s .pre .1 .0 .0)),
-      stands-fits (n x) (lines x) (area₀ x) (table₀ x) (found x) (area x) (table x) (stands x) (smooth x) (area-room x) (table-room x),
+      (omega arith, omega (arith, e .table-end .ensures, table-room x), omega (arith, s .pre .1 .0 .0), omega (arith, s .pre .0 .3, s .pre .0 .4, s .pre .1 .0 .0)),
+      rw (e .table-end .ensures)
+          (stands-fits (n x) (lines x) (area₀ x) (table₀ x) (found x) (area x) (table x) (stands x) (smooth x) (area-room x) (table-room x)),
     )
 
 enum-known-found : tie.Need-enum-known-found
@@ -176,8 +188,8 @@ same-length-4 c = search needs
 returns-2 : tie.Need-returns-2
 returns-2 c =
     let q = c .before .before .before .before in
-    let x = q .before .before .before .before .before .before .before .before .before in
-    (subst (Decided (lines x) (take (found x .end) (area x))) (c .enum-told .given .1) (decided q), (stands x .area-low, q .choose .ensures .0 ∙ stands x .table-low))
+    let x = at-list q in
+    (subst (Decided (lines x) (take (found x .end) (area x))) (c .enum-told .given .1) (decided q), (stands x .area-low, last-low q))
 
 home-requires : tie.Need-home-requires
 home-requires c κs =
@@ -188,7 +200,7 @@ home-requires c κs =
     let d = taken f in (
       (
         s .pre .0 .0,
-        apart-below (s .args .count) (2 * n x + 2) (omega (arith, s .pre .0 .4)) (table₀ x) (last q) (sym (last-low q)) (n x) (4 * n x) (s .pre .0 .1),
+        apart-below (s .args .count) (tableEnd (n x)) (omega (arith, s .pre .0 .4)) (table₀ x) (last q) (sym (last-low q)) (n x) (viewStart (n x)) (s .pre .0 .1),
         s .pre .0 .2,
         s .pre .0 .3,
         omega (arith, q .choose .kept .1 .0, table-room x, s .pre .0 .4),
@@ -231,10 +243,9 @@ common-prefix-spec =
     same-length-2
     returns
     sub-lines
+    table-end-requires
     slice-reshare-prefix-choose
     slice-aggregate-choose
-    mul-choose
-    add-choose
     choose-requires
     enum-known-found
     enum-told

@@ -23,8 +23,11 @@ module _ (c : tie.In-loop Inv-loop μ-loop) where
   abbrev head : tie.At-loop Inv-loop μ-loop
   head = c .before
 
+  abbrev ended : tie.After-table-end Inv-loop μ-loop
+  ended = head .before .before
+
   abbrev start : tie.Start Inv-loop μ-loop
-  start = head .before .before .before
+  start = ended .before .before .before
 
   abbrev area₀ : List ℕ
   area₀ = now (start .args .area)
@@ -50,20 +53,18 @@ module _ (s : tie.After-shared Inv-loop μ-loop) where
       listing-room (start inside .args .n) (start inside .args .count) (stop inside) (area₀ inside) (table₀ inside) (start inside .pre .0 .1) (start inside .pre .0 .3) (start inside .pre .0 .4) (start inside .pre .1 .1) (start inside .pre .1 .2)
       (start inside .args .v .start) (head inside .loop .area) (head inside .loop .table) (head inside .loop .k) (head inside .loop .w) (head inside .loop .i) (head inside .loop .inv) (inside .loop-test .taken) span (s .shared .ensures)
 
-mul-at : tie.Need-mul-at Inv-loop μ-loop
-mul-at c = search needs
+table-end-requires : tie.Need-table-end-requires Inv-loop μ-loop
+table-end-requires c κs = search needs
 
-add-at : tie.Need-add-at Inv-loop μ-loop
-add-at c = search needs
-
-mul-w : tie.Need-mul-w Inv-loop μ-loop
-mul-w c = search needs
+view-start-requires : tie.Need-view-start-requires Inv-loop μ-loop
+view-start-requires c κs = search needs
 
 loop-holds : tie.Need-loop-holds Inv-loop μ-loop
 loop-holds c =
-    let s = c .before .before in
-    listing-start (s .args .n) (s .args .count) (s .args .v .end) (now (s .args .area)) (now (s .args .table)) (s .pre .0 .1) (s .pre .0 .3) (s .pre .0 .4) (s .pre .1 .1) (s .pre .1 .2)
-    (s .args .v .start) (s .pre .0 .2)
+    let s = c .before .before .before .before in
+    rw (c .view-start .ensures)
+    (listing-start (s .args .n) (s .args .count) (s .args .v .end) (now (s .args .area)) (now (s .args .table)) (s .pre .0 .1) (s .pre .0 .3) (s .pre .0 .4) (s .pre .1 .1) (s .pre .1 .2)
+    (s .args .v .start) (s .pre .0 .2))
 
 add-loop : tie.Need-add-loop Inv-loop μ-loop
 add-loop c = search needs
@@ -92,7 +93,10 @@ put-prefix-requires c κs =
     (omega arith, omega (arith, head d .loop .inv .area-long, start d .pre .1 .1))
 
 add-j : tie.Need-add-j Inv-loop μ-loop
-add-j c = omega (arith, head (inside (c .before .before .before .before .before .before)) .loop .inv .few, head (inside (c .before .before .before .before .before .before)) .loop .inv .within, start (inside (c .before .before .before .before .before .before)) .pre)
+add-j c =
+    let d = inside (c .before .before .before .before .before .before) in
+    let l = head d .loop .inv in
+    omega (arith, ended d .table-end .ensures, l .few, l .within, start d .pre)
 
 cast-table : tie.Need-cast-table Inv-loop μ-loop
 cast-table c = omega (arith, head (inside (c .before .before .before .before .before .before)) .loop .inv .high, start (inside (c .before .before .before .before .before .before)) .pre .1 .0)
@@ -104,7 +108,7 @@ slice-write-table : tie.Need-slice-write-table Inv-loop μ-loop
 slice-write-table c =
     let d = inside (c .before .before .before .before .before .before) in
     let l = head d .loop .inv in
-    omega (arith, l .few, l .within, l .table-long, start d .pre .0 .3, start d .pre .0 .4, start d .pre .1 .2)
+    omega (arith, ended d .table-end .ensures, l .few, l .within, l .table-long, start d .pre .0 .3, start d .pre .0 .4, start d .pre .1 .2)
 
 add-k : tie.Need-add-k Inv-loop μ-loop
 add-k c = search needs
@@ -123,9 +127,10 @@ loop-again c =
     let p = c .before .before in
     let s = c .before .before .before .before .before .before in
     let d = inside s in
-    listing-put (start d .args .n) (start d .args .count) (stop d) (area₀ d) (table₀ d) (start d .pre .0 .1) (start d .pre .0 .3) (start d .pre .0 .4) (start d .pre .1 .1) (start d .pre .1 .2)
+    rw (ended d .table-end .ensures)
+    (listing-put (start d .args .n) (start d .args .count) (stop d) (area₀ d) (table₀ d) (start d .pre .0 .1) (start d .pre .0 .3) (start d .pre .0 .4) (start d .pre .1 .1) (start d .pre .1 .2)
     (start d .args .v .start) (head d .loop .area) (head d .loop .table) (head d .loop .k) (head d .loop .w) (head d .loop .i) (head d .loop .inv) (d .loop-test .taken) (span s) (s .shared .ensures)
-    (span s .end - span s .start) refl (c .before .before .before .before .if1 .taken) _ (p .put-prefix .kept .0) (p .put-prefix .ensures)
+    (span s .end - span s .start) refl (c .before .before .before .before .if1 .taken) _ (p .put-prefix .kept .0) (p .put-prefix .ensures))
 
 loop-less-2 : tie.Need-loop-less-2 Inv-loop μ-loop
 loop-less-2 c = search needs
@@ -145,7 +150,7 @@ same-length-2 c = c .before .loop .inv .table-long
 
 returns : tie.Need-returns Inv-loop μ-loop
 returns c =
-    let s = c .before .before .before .before in
+    let s = c .before .before .before .before .before .before in
     listing-end (c .before .loop .inv) (c .loop-test .left) (omega (arith, s .pre .0 .3, s .pre .0 .4))
 
 pub list-prefixes-spec : {M : Type 1} → statement M
@@ -154,9 +159,8 @@ list-prefixes-spec =
     (tie.spec
     Inv-loop
     μ-loop
-    mul-at
-    add-at
-    mul-w
+    table-end-requires
+    view-start-requires
     loop-holds
     add-loop
     shared-requires
