@@ -74,7 +74,16 @@ pub fn bounds_laid<'a>(
     let lines = lay(&class, text, area, words);
     let found = stored_on(book, second, counts, k);
     let body = body_of(book, second, found);
-    let ranged = find_bounds(&class, area, words, n, lines, v, body, scorings_of(BOUNDS_MOST));
+    let ranged = find_bounds(
+        &class,
+        area,
+        words,
+        n,
+        lines,
+        v,
+        body,
+        scorings_of(BOUNDS_MOST),
+    );
     answer(ranged, BOUNDS_MOST)
 }
 

@@ -18,7 +18,7 @@ use Rattle.rules.specs.Sizes.{recordWidth}
 use Rattle.rules.specs.Search as rules
 use Rattle.rules.specs.Search.{Made, view, whole, noBest}
 use Rattle.rules.specs.Jobs.{namePart}
-use Rattle.rules.specs.Scan.{Event, overall, after, afford, verdict, names, stops, eachPass, elimination}
+use Rattle.rules.specs.Scan.{Event, overall, after, afford, verdict, stops, eachPass, elimination}
 use Rattle.rules.proofs.BudgetLaws.{afford-whole, afford-part}
 use Rattle.rules.proofs.VerdictLaws.{verdict-after}
 use Rattle.preproc_table.specs.Entries.{linesAt}

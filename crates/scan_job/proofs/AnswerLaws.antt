@@ -4,7 +4,7 @@
 --     answer-is, results-are            where nothing is refused before any work
 --     scan-refused, scan-done           the two ends of the job
 -- Assumes nothing.
-use mathlib.Core.Path.{_≡_, refl, sym, ap, ap₂, _∙_, subst}
+use mathlib.Core.Path.{_≡_, refl, sym, ap, ap₂, _∙_}
 use mathlib.Core.Bool.{Bool, true, false, cond}
 use mathlib.Core.List.{List, [], _++_}
 use mathlib.Core.Option.{none, some}

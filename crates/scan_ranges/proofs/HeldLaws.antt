@@ -11,7 +11,7 @@ use Prim.Native.Nat.{ℕ, _≤_}
 use native.Mathlib.Omega.{arith}
 use Rattle.rules.specs.declared.Bounds.{Bounds}
 use Rattle.rules.specs.declared.View.{View}
-use Rattle.rules.specs.Search.{bounds, view}
+use Rattle.rules.specs.Search.{bounds}
 use Rattle.rules.proofs.DownLaws.{bounds-in}
 use Rattle.preproc_table.specs.Entries.{linesAt}
 use Rattle.license_bounds.specs.declared.Ranged.the-variants as ranged

@@ -36,7 +36,8 @@ returns : tie.Need-returns
 returns c =
     let start : tie.Start = search in
     let a = start .args in
-    bounds-refused (now (a .text)) (booksOf (shelf (now (a .book)) (now (a .second))) (a .two)) (a .v) (a .k) (a .area .now) (a .words .now) _ _ (c .before .before .admit-view .ensures .number) (c .before .if1 .taken) (c .refused .ensures)
+    bounds-refused (now (a .text)) (booksOf (shelf (now (a .book)) (now (a .second))) (a .two)) (a .v) (a .k) (a .area .now) (a .words .now) _ _
+    (c .before .before .admit-view .ensures .number) (c .before .if1 .taken) (c .refused .ensures)
 
 bounds-laid-requires : tie.Need-bounds-laid-requires
 bounds-laid-requires c κs =

@@ -38,7 +38,8 @@ unfolding ofBits ofFields
 returns c =
     let start : tie.Start = search in
     let a = start .args in
-    score-refused (now (a .text)) (booksOf (shelf (now (a .book)) (now (a .second))) (a .two)) (a .v) (a .k) (a .area .now) (a .words .now) _ (c .before .admit-view .ensures .number) (c .if1 .taken)
+    score-refused (now (a .text)) (booksOf (shelf (now (a .book)) (now (a .second))) (a .two)) (a .v) (a .k) (a .area .now) (a .words .now) _
+    (c .before .admit-view .ensures .number) (c .if1 .taken)
 
 score-laid-requires : tie.Need-score-laid-requires
 score-laid-requires c κs =
