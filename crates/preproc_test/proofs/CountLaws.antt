@@ -14,7 +14,7 @@ use Rattle.rules.specs.Lines.{lineCount}
 use Rattle.rules.specs.Sizes.{textMost, linesMost}
 use Rattle.rules.specs.Refusal.{refusal, ofText}
 use Rattle.rules.proofs.RefusalLaws.{text-too-long, byte-too-high, too-many-lines, text-passes}
-use Rattle.preproc_test.specs.Counts.{plainLines}
+use Rattle.preproc_test.specs.Counts.{plainCount}
 
 pub first-length : (x : ℕ) (ls : List (List ℕ)) → 1 ≤ length ls → length (onFirst x ls) ≡ length ls
 unfolding onFirst
@@ -62,8 +62,8 @@ module _ (t : List ℕ) (i : ℕ) where
 abbrev plain : List ℕ → Bool
 plain t = every (λ x. ltb x 128) t
 
-pub plain-zero : (t : List ℕ) → plainLines t ≡ 0 → plain t ≡ false
-unfolding plainLines lineCount
+pub plain-zero : (t : List ℕ) → plainCount t ≡ 0 → plain t ≡ false
+unfolding plainCount lineCount
 plain-zero t e = at (plain t) e
   where
     at : (b : Bool) → cond b (length (split 10 t)) 0 ≡ 0 → b ≡ false
@@ -73,8 +73,8 @@ plain-zero t e = at (plain t) e
         none e = omega (arith, split-some t)
     at false e = refl
 
-pub plain-some : (t : List ℕ) → 0 < plainLines t → (plain t ≡ true) × (plainLines t ≡ lineCount t)
-unfolding plainLines
+pub plain-some : (t : List ℕ) → 0 < plainCount t → (plain t ≡ true) × (plainCount t ≡ lineCount t)
+unfolding plainCount
 plain-some t h = at (plain t) h
   where
     at : (b : Bool) → 0 < cond b (lineCount t) 0 → (b ≡ true) × (cond b (lineCount t) 0 ≡ lineCount t)

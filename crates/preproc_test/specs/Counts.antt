@@ -11,8 +11,8 @@ use Rattle.rules.specs.Refusal.{refusal, ofText}
 use Rattle.preproc_test.specs.declared.Tested.{Tested}
 
 -- the lines of a text, and 0 where a byte is 128 or more
-unfoldable pub plainLines : List ℕ → ℕ
-plainLines t = cond (every (λ x. ltb x 128) t) (lineCount t) 0
+unfoldable pub plainCount : List ℕ → ℕ
+plainCount t = cond (every (λ x. ltb x 128) t) (lineCount t) 0
 
 -- refusals 1 to 3, and L where there is none
 pub record AsTested (t : List ℕ) (r : Tested) : Type 0 where

@@ -2,7 +2,7 @@
 // From detection/preproc.rs of spdx 0.13.6 (Copyright 2018-2019 Amazon.com, Inc. or its affiliates. All Rights Reserved.
 // SPDX-License-Identifier: Apache-2.0), changed: its passes take any text. Assumes nothing.
 ghost use mathlib.Core.Path.{_≡_};
-ghost use Rattle.preproc_test.specs.Counts.{plainLines, AsTested};
+ghost use Rattle.preproc_test.specs.Counts.{plainCount, AsTested};
 
 // The refusal that comes first, 0 for none; and the number of lines, 0 where the text is refused.
 pub struct Tested {
@@ -12,7 +12,7 @@ pub struct Tested {
 
 // How many lines there are, and 0 where a byte is 128 or more. One walk.
 pub fn plain_lines(text: &[u8]) -> usize
-    ensures { λ r. ⌜ r ≡ plainLines (now (text .entry)) ⌝ }
+    ensures { λ r. ⌜ r ≡ plainCount (now (text .entry)) ⌝ }
 {
     let mut lines = 1;
     let mut i = 0;

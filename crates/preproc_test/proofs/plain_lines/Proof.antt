@@ -9,7 +9,7 @@ use lib.Dec.{ltb}
 use lib.ListN.{length, drop}
 use Rattle.rules.specs.Bytes.{every, split}
 use Rattle.rules.specs.Lines.{lineCount}
-use Rattle.preproc_test.specs.Counts.{plainLines}
+use Rattle.preproc_test.specs.Counts.{plainCount}
 use Rattle.preproc_test.proofs.CountLaws.{lines-newline, lines-other, lines-end, plain-next, plain-not, plain-end}
 use borrow.Author.Needs.{needs}
 use Rattle.preproc_test.proofs.plain_lines.Statement.{statement}
@@ -22,7 +22,7 @@ abbrev μ-loop : tie.MeasureT-loop
 μ-loop text lines₀ i₀ lines i = length text - i
 
 returns : tie.Need-returns Inv-loop μ-loop
-unfolding plainLines
+unfolding plainCount
 returns c =
     let t = c .before .before in
     let l = t .before .loop in
@@ -47,7 +47,7 @@ loop-again-2 c =
     (omega arith, omega arith, omega arith, sym (plain-next s (l .i) (t .loop-test .taken) (omega arith)) ∙ l .inv .3)
 
 returns-2 : tie.Need-returns-2 Inv-loop μ-loop
-unfolding plainLines lineCount
+unfolding plainCount lineCount
 returns-2 c =
     let l = c .before .loop in
     let s = now (c .before .before .args .text) in

@@ -1,14 +1,14 @@
 -- `sort_parts::sort_parts` meets its contract: before the merge both halves are sorted (`Halves`); they are merged, or laid in turn. The measure
 -- is how many are sorted.
 -- Assumes nothing.
-use mathlib.Core.Path.{_≡_, refl, sym, _∙_}
+use mathlib.Core.Path.{_≡_, refl, sym, ap, _∙_}
 use mathlib.Core.Logic.{inl, inr}
 use mathlib.Core.List.{_++_}
 use native.Mathlib.Omega.{arith}
 use borrow.Author.Needs.{needs}
 use Prim.Native.Nat.{ℕ, _+_, _-_, _/_, _≤_, _<_}
 use lib.ListN.{length, take, drop, length-take, length-drop}
-use lib.Seq.{take-take, length-take-le}
+use lib.Seq.{paste, take-take, length-take-le}
 use Rattle.sort_spread.specs.Sort.{partLater}
 use Rattle.sort_parts.proofs.PartLaws.{later-one, later-chain}
 use Rattle.sort_spread.proofs.OrderLaws.{inorder-msorted, runs-apart}
@@ -35,389 +35,119 @@ abbrev sort-parts-below : ℕ → In 2 sort-parts-kinds.ps
 sort-parts-below t =
     and 2 sort-parts-kinds.ps (falls 2 sort-parts-kinds.ps _<_ μ-sort-parts t) sort-parts.Pre
 
-sort-parts-returns : (t : ℕ) → sort-parts-lts.Need-returns (
-  sort-parts-below t,
-  sort-parts.Post,
-  copy-nums-reads.Asked,
-  copy-nums-reads.Learnt,
-  last-after-reads.Asked,
-  last-after-reads.Learnt,
-  merge-reads.Asked,
-  merge-reads.Learnt,
-) (sort-parts-at t) sort-parts.Post
-sort-parts-returns t c =
-    let a = c .before .before .before .args in
-    (sym (msorted-few _ (a .k) (take (a .k) (a .p .now)) (simp length-take (omega arith))), refl)
+module _ (t : ℕ) where
+  -- what is known of the functions that it calls
+  abbrev claims : sort-parts-lts.Claims
+  claims = (
+    sort-parts-below t,
+    sort-parts.Post,
+    copy-nums-reads.Asked,
+    copy-nums-reads.Learnt,
+    last-after-reads.Asked,
+    last-after-reads.Learnt,
+    merge-reads.Asked,
+    merge-reads.Learnt,
+  )
 
-sort-parts-sub-r : (t : ℕ) → sort-parts-lts.Need-sub-r (
-  sort-parts-below t,
-  sort-parts.Post,
-  copy-nums-reads.Asked,
-  copy-nums-reads.Learnt,
-  last-after-reads.Asked,
-  last-after-reads.Learnt,
-  merge-reads.Asked,
-  merge-reads.Learnt,
-) (sort-parts-at t) sort-parts.Post
-sort-parts-sub-r t c = search needs
+  sort-parts-returns : sort-parts-lts.Need-returns claims (sort-parts-at t) sort-parts.Post
+  sort-parts-returns c =
+      let a = c .before .before .before .args in
+      (sym (msorted-few _ (a .k) (take (a .k) (a .p .now)) (simp length-take (omega arith))), refl)
 
-sort-parts-add-e : (t : ℕ) → sort-parts-lts.Need-add-e (
-  sort-parts-below t,
-  sort-parts.Post,
-  copy-nums-reads.Asked,
-  copy-nums-reads.Learnt,
-  last-after-reads.Asked,
-  last-after-reads.Learnt,
-  merge-reads.Asked,
-  merge-reads.Learnt,
-) (sort-parts-at t) sort-parts.Post
-sort-parts-add-e t c = search needs
+  sort-parts-copy-nums-requires : sort-parts-lts.Need-copy-nums-requires claims (sort-parts-at t) sort-parts.Post
+  sort-parts-copy-nums-requires c κs = (inl (omega arith), search needs)
 
-sort-parts-add-e-2 : (t : ℕ) → sort-parts-lts.Need-add-e-2 (
-  sort-parts-below t,
-  sort-parts.Post,
-  copy-nums-reads.Asked,
-  copy-nums-reads.Learnt,
-  last-after-reads.Asked,
-  last-after-reads.Learnt,
-  merge-reads.Asked,
-  merge-reads.Learnt,
-) (sort-parts-at t) sort-parts.Post
-sort-parts-add-e-2 t c = search needs
+  sort-parts-copy-nums-requires-2 : sort-parts-lts.Need-copy-nums-requires-2 claims (sort-parts-at t) sort-parts.Post
+  sort-parts-copy-nums-requires-2 c κs = (inr (omega arith), search needs)
 
-sort-parts-mul-sort-parts : (t : ℕ) → sort-parts-lts.Need-mul-sort-parts (
-  sort-parts-below t,
-  sort-parts.Post,
-  copy-nums-reads.Asked,
-  copy-nums-reads.Learnt,
-  last-after-reads.Asked,
-  last-after-reads.Learnt,
-  merge-reads.Asked,
-  merge-reads.Learnt,
-) (sort-parts-at t) sort-parts.Post
-sort-parts-mul-sort-parts t c = search needs
+  -- the places that the answers speak of, once the halves are compared
+  module _ (l : sort-parts-lts.After-last-after claims (sort-parts-at t) sort-parts.Post) where
+    abbrev left : sort-parts-lts.After-sort-parts2 claims (sort-parts-at t) sort-parts.Post
+    left = l .before .before .before .before
 
-sort-parts-sub-sort-parts : (t : ℕ) → sort-parts-lts.Need-sub-sort-parts (
-  sort-parts-below t,
-  sort-parts.Post,
-  copy-nums-reads.Asked,
-  copy-nums-reads.Learnt,
-  last-after-reads.Asked,
-  last-after-reads.Learnt,
-  merge-reads.Asked,
-  merge-reads.Learnt,
-) (sort-parts-at t) sort-parts.Post
-sort-parts-sub-sort-parts t c = search needs
+    abbrev copied : sort-parts-lts.After-copy-nums claims (sort-parts-at t) sort-parts.Post
+    copied = left .before .before .before .before
 
-sort-parts-part-sort-parts-start : (t : ℕ) → sort-parts-lts.Need-part-sort-parts-start (
-  sort-parts-below t,
-  sort-parts.Post,
-  copy-nums-reads.Asked,
-  copy-nums-reads.Learnt,
-  last-after-reads.Asked,
-  last-after-reads.Learnt,
-  merge-reads.Asked,
-  merge-reads.Learnt,
-) (sort-parts-at t) sort-parts.Post
-sort-parts-part-sort-parts-start t c = search needs
+    abbrev right : sort-parts-lts.After-sort-parts claims (sort-parts-at t) sort-parts.Post
+    right = copied .before .before .before .before
 
-sort-parts-part-sort-parts-end : (t : ℕ) → sort-parts-lts.Need-part-sort-parts-end (
-  sort-parts-below t,
-  sort-parts.Post,
-  copy-nums-reads.Asked,
-  copy-nums-reads.Learnt,
-  last-after-reads.Asked,
-  last-after-reads.Learnt,
-  merge-reads.Asked,
-  merge-reads.Learnt,
-) (sort-parts-at t) sort-parts.Post
-sort-parts-part-sort-parts-end t c = search needs
+    abbrev many : sort-parts-lts.Else1 claims (sort-parts-at t) sort-parts.Post
+    many = right .before .before
 
-sort-parts-sort-parts-requires : (t : ℕ) → sort-parts-lts.Need-sort-parts-requires (
-  sort-parts-below t,
-  sort-parts.Post,
-  copy-nums-reads.Asked,
-  copy-nums-reads.Learnt,
-  last-after-reads.Asked,
-  last-after-reads.Learnt,
-  merge-reads.Asked,
-  merge-reads.Learnt,
-) (sort-parts-at t) sort-parts.Post
-sort-parts-sort-parts-requires t c κs = search needs
+    abbrev start : sort-parts-lts.Start claims (sort-parts-at t) sort-parts.Post
+    start = many .before .before .before
 
-sort-parts-copy-nums-requires : (t : ℕ) → sort-parts-lts.Need-copy-nums-requires (
-  sort-parts-below t,
-  sort-parts.Post,
-  copy-nums-reads.Asked,
-  copy-nums-reads.Learnt,
-  last-after-reads.Asked,
-  last-after-reads.Learnt,
-  merge-reads.Asked,
-  merge-reads.Learnt,
-) (sort-parts-at t) sort-parts.Post
-sort-parts-copy-nums-requires t c κs = (inl (omega arith), search needs)
+    -- both halves are sorted, each where `Halves` says
+    ready : let a = start .args in
+        let k = a .k in
+        let h = k / 2 in
+        let p₂ = copied .copy-nums .last .0 in
+        let zs = left .sort-parts2 .last .1 .0 in
+        Halves (partLater (a .mark) (a .c) (a .text .now)) k h (k - h) (a .p .now) (take k p₂ ++ (zs ++ drop (k + h + h - k) (drop k p₂)))
+    ready =
+        let a = start .args in
+        let p = a .p .now in
+        let k = a .k in
+        let h = k / 2 in
+        let r = k - h in
+        let p₂ = copied .copy-nums .last .0 in
+        let ys = right .sort-parts .last .1 .0 in
+        let zs = left .sort-parts2 .last .1 .0 in
+        let x : h + r + r - h ≡ r + r = omega arith in
+        let y : k + h + h - k ≡ h + h = omega arith in
+        rw y
+        (halves _ k h r p ys p₂ zs (many .if1 .left) refl refl (omega arith)
+        (right .sort-parts .kept .1 .0 ∙ rw x (length-take-le (r + r) (drop h p) (simp length-drop (omega arith))))
+        (right .sort-parts .ensures .0 ∙ rw (take-take r (h + r + r - h) (drop h p) (omega arith)))
+        (copied .copy-nums .ensures ∙ ap (λ (m : ℕ). paste (take h p ++ (ys ++ drop m (drop h p))) k (take h p ++ (ys ++ drop m (drop h p))) h) x)
+        (left .sort-parts2 .kept .1 .0 ∙ rw y (length-take-le (h + h) (drop k p₂) (simp length-drop (omega (arith, copied .copy-nums .kept .0)))))
+        (left .sort-parts2 .ensures .0 ∙ rw (take-take h (k + h + h - k) (drop k p₂) (omega arith))))
 
-sort-parts-add-f : (t : ℕ) → sort-parts-lts.Need-add-f (
-  sort-parts-below t,
-  sort-parts.Post,
-  copy-nums-reads.Asked,
-  copy-nums-reads.Learnt,
-  last-after-reads.Asked,
-  last-after-reads.Learnt,
-  merge-reads.Asked,
-  merge-reads.Learnt,
-) (sort-parts-at t) sort-parts.Post
-sort-parts-add-f t c = search needs
+  sort-parts-returns-2 : sort-parts-lts.Need-returns-2 claims (sort-parts-at t) sort-parts.Post
+  sort-parts-returns-2 c = by-merge _ (ready (c .before .before .before .before .before)) _ (c .before .before .merge .ensures)
 
-sort-parts-add-f-2 : (t : ℕ) → sort-parts-lts.Need-add-f-2 (
-  sort-parts-below t,
-  sort-parts.Post,
-  copy-nums-reads.Asked,
-  copy-nums-reads.Learnt,
-  last-after-reads.Asked,
-  last-after-reads.Learnt,
-  merge-reads.Asked,
-  merge-reads.Learnt,
-) (sort-parts-at t) sort-parts.Post
-sort-parts-add-f-2 t c = search needs
-
-sort-parts-mul-sort-parts-2 : (t : ℕ) → sort-parts-lts.Need-mul-sort-parts-2 (
-  sort-parts-below t,
-  sort-parts.Post,
-  copy-nums-reads.Asked,
-  copy-nums-reads.Learnt,
-  last-after-reads.Asked,
-  last-after-reads.Learnt,
-  merge-reads.Asked,
-  merge-reads.Learnt,
-) (sort-parts-at t) sort-parts.Post
-sort-parts-mul-sort-parts-2 t c = search needs
-
-sort-parts-sub-sort-parts-2 : (t : ℕ) → sort-parts-lts.Need-sub-sort-parts-2 (
-  sort-parts-below t,
-  sort-parts.Post,
-  copy-nums-reads.Asked,
-  copy-nums-reads.Learnt,
-  last-after-reads.Asked,
-  last-after-reads.Learnt,
-  merge-reads.Asked,
-  merge-reads.Learnt,
-) (sort-parts-at t) sort-parts.Post
-sort-parts-sub-sort-parts-2 t c = search needs
-
-sort-parts-part-sort-parts-start-2 : (t : ℕ) → sort-parts-lts.Need-part-sort-parts-start-2 (
-  sort-parts-below t,
-  sort-parts.Post,
-  copy-nums-reads.Asked,
-  copy-nums-reads.Learnt,
-  last-after-reads.Asked,
-  last-after-reads.Learnt,
-  merge-reads.Asked,
-  merge-reads.Learnt,
-) (sort-parts-at t) sort-parts.Post
-sort-parts-part-sort-parts-start-2 t c = search needs
-
-sort-parts-part-sort-parts-end-2 : (t : ℕ) → sort-parts-lts.Need-part-sort-parts-end-2 (
-  sort-parts-below t,
-  sort-parts.Post,
-  copy-nums-reads.Asked,
-  copy-nums-reads.Learnt,
-  last-after-reads.Asked,
-  last-after-reads.Learnt,
-  merge-reads.Asked,
-  merge-reads.Learnt,
-) (sort-parts-at t) sort-parts.Post
-sort-parts-part-sort-parts-end-2 t c = search needs
-
-sort-parts-sort-parts-requires-2 : (t : ℕ) → sort-parts-lts.Need-sort-parts-requires-2 (
-  sort-parts-below t,
-  sort-parts.Post,
-  copy-nums-reads.Asked,
-  copy-nums-reads.Learnt,
-  last-after-reads.Asked,
-  last-after-reads.Learnt,
-  merge-reads.Asked,
-  merge-reads.Learnt,
-) (sort-parts-at t) sort-parts.Post
-sort-parts-sort-parts-requires-2 t c κs = search needs
-
-sort-parts-add-last-after : (t : ℕ) → sort-parts-lts.Need-add-last-after (
-  sort-parts-below t,
-  sort-parts.Post,
-  copy-nums-reads.Asked,
-  copy-nums-reads.Learnt,
-  last-after-reads.Asked,
-  last-after-reads.Learnt,
-  merge-reads.Asked,
-  merge-reads.Learnt,
-) (sort-parts-at t) sort-parts.Post
-sort-parts-add-last-after t c = search needs
-
-sort-parts-last-after-requires : (t : ℕ) → sort-parts-lts.Need-last-after-requires (
-  sort-parts-below t,
-  sort-parts.Post,
-  copy-nums-reads.Asked,
-  copy-nums-reads.Learnt,
-  last-after-reads.Asked,
-  last-after-reads.Learnt,
-  merge-reads.Asked,
-  merge-reads.Learnt,
-) (sort-parts-at t) sort-parts.Post
-sort-parts-last-after-requires t c κs = search needs
-
-sort-parts-merge-requires : (t : ℕ) → sort-parts-lts.Need-merge-requires (
-  sort-parts-below t,
-  sort-parts.Post,
-  copy-nums-reads.Asked,
-  copy-nums-reads.Learnt,
-  last-after-reads.Asked,
-  last-after-reads.Learnt,
-  merge-reads.Asked,
-  merge-reads.Learnt,
-) (sort-parts-at t) sort-parts.Post
-sort-parts-merge-requires t c κs = search needs
-
-sort-parts-copy-nums-requires-2 : (t : ℕ) → sort-parts-lts.Need-copy-nums-requires-2 (
-  sort-parts-below t,
-  sort-parts.Post,
-  copy-nums-reads.Asked,
-  copy-nums-reads.Learnt,
-  last-after-reads.Asked,
-  last-after-reads.Learnt,
-  merge-reads.Asked,
-  merge-reads.Learnt,
-) (sort-parts-at t) sort-parts.Post
-sort-parts-copy-nums-requires-2 t c κs = (inr (omega arith), search needs)
-
-sort-parts-same-length : (t : ℕ) → sort-parts-lts.Need-same-length (
-  sort-parts-below t,
-  sort-parts.Post,
-  copy-nums-reads.Asked,
-  copy-nums-reads.Learnt,
-  last-after-reads.Asked,
-  last-after-reads.Learnt,
-  merge-reads.Asked,
-  merge-reads.Learnt,
-) (sort-parts-at t) sort-parts.Post
-sort-parts-same-length t c = search needs
-
--- both halves are sorted, each where `Halves` says
-ready : (t : ℕ) (c : sort-parts-lts.After-last-after (
-  sort-parts-below t,
-  sort-parts.Post,
-  copy-nums-reads.Asked,
-  copy-nums-reads.Learnt,
-  last-after-reads.Asked,
-  last-after-reads.Learnt,
-  merge-reads.Asked,
-  merge-reads.Learnt,
-) (sort-parts-at t) sort-parts.Post) →
-    let a = c .before .before .before .before .before .before .before .before .before .before .before .before .before .before .before .before .before .args in
-    let k = a .k in
-    let h = k / 2 in
-    let p₂ = c .before .before .before .before .before .before .before .before .copy-nums .last .0 in
-    let zs = c .before .before .before .before .sort-parts2 .last .1 .0 in
-    Halves (partLater (a .mark) (a .c) (a .text .now)) k h (k - h) (a .p .now) (take k p₂ ++ (zs ++ drop (k + h + h - k) (drop k p₂)))
-ready t c =
-    let a = c .before .before .before .before .before .before .before .before .before .before .before .before .before .before .before .before .before .args in
-    let p = a .p .now in
-    let k = a .k in
-    let h = k / 2 in
-    let r = k - h in
-    let p₂ = c .before .before .before .before .before .before .before .before .copy-nums .last .0 in
-    let ys = c .before .before .before .before .before .before .before .before .before .before .before .before .sort-parts .last .1 .0 in
-    let zs = c .before .before .before .before .sort-parts2 .last .1 .0 in
-    let x : h + r + r - h ≡ r + r = omega arith in
-    let y : k + h + h - k ≡ h + h = omega arith in
-    rw y
-    (halves _ k h r p ys p₂ zs (c .before .before .before .before .before .before .before .before .before .before .before .before .before .before .if1 .left) refl refl (omega arith)
-    (c .before .before .before .before .before .before .before .before .before .before .before .before .sort-parts .kept .1 .0 ∙ rw x (length-take-le (r + r) (drop h p) (simp length-drop (omega arith))))
-    (c .before .before .before .before .before .before .before .before .before .before .before .before .sort-parts .ensures .0 ∙ rw (take-take r (h + r + r - h) (drop h p) (omega arith)))
-    (rw x at (c .before .before .before .before .before .before .before .before .copy-nums .ensures))
-    (c .before .before .before .before .sort-parts2 .kept .1 .0 ∙ rw y (length-take-le (h + h) (drop k p₂) (simp length-drop (omega (arith, c .before .before .before .before .before .before .before .before .copy-nums .kept .0)))))
-    (c .before .before .before .before .sort-parts2 .ensures .0 ∙ rw (take-take h (k + h + h - k) (drop k p₂) (omega arith))))
-
-sort-parts-returns-2 : (t : ℕ) → sort-parts-lts.Need-returns-2 (
-  sort-parts-below t,
-  sort-parts.Post,
-  copy-nums-reads.Asked,
-  copy-nums-reads.Learnt,
-  last-after-reads.Asked,
-  last-after-reads.Learnt,
-  merge-reads.Asked,
-  merge-reads.Learnt,
-) (sort-parts-at t) sort-parts.Post
-sort-parts-returns-2 t c = by-merge _ (ready t (c .before .before .before .before .before)) _ (c .before .before .merge .ensures)
-
-sort-parts-same-length-2 : (t : ℕ) → sort-parts-lts.Need-same-length-2 (
-  sort-parts-below t,
-  sort-parts.Post,
-  copy-nums-reads.Asked,
-  copy-nums-reads.Learnt,
-  last-after-reads.Asked,
-  last-after-reads.Learnt,
-  merge-reads.Asked,
-  merge-reads.Learnt,
-) (sort-parts-at t) sort-parts.Post
-sort-parts-same-length-2 t c = search needs
-
-sort-parts-returns-3 : (t : ℕ) → sort-parts-lts.Need-returns-3 (
-  sort-parts-below t,
-  sort-parts.Post,
-  copy-nums-reads.Asked,
-  copy-nums-reads.Learnt,
-  last-after-reads.Asked,
-  last-after-reads.Learnt,
-  merge-reads.Asked,
-  merge-reads.Learnt,
-) (sort-parts-at t) sort-parts.Post
-sort-parts-returns-3 t c =
-    let a = c .before .before .before .before .before .before .before .before .before .before .before .before .before .before .before .before .before .before .before .before .before .before .args in
-    let k = a .k in
-    let h = k / 2 in
-    let s = ready t (c .before .before .before .before .before) in
-    let one = later-one (a .mark) (a .c) (a .text .now) in
-    let few : length (take h (a .p .now)) ≤ h = simp length-take (omega arith) in
-    let many : 2 ≤ k = c .before .before .before .before .before .before .before .before .before .before .before .before .before .before .before .before .before .before .before .if1 .left in
-    by-copy _ s _ (c .before .before .copy-nums2 .ensures)
-    (runs-apart _ one (later-chain (a .mark) (a .c) (a .text .now)) _ k h (omega arith) (omega arith) (omega (arith, s .long))
-    (rw (s .left) (inorder-msorted _ one h (take h (a .p .now)) few)) (sym (c .before .before .before .before .before .last-after .ensures) ∙ c .before .before .before .before .if2 .left))
+  sort-parts-returns-3 : sort-parts-lts.Need-returns-3 claims (sort-parts-at t) sort-parts.Post
+  sort-parts-returns-3 c =
+      let compared = c .before .before .before .before .before in
+      let a = start compared .args in
+      let k = a .k in
+      let h = k / 2 in
+      let s = ready compared in
+      let one = later-one (a .mark) (a .c) (a .text .now) in
+      let few : length (take h (a .p .now)) ≤ h = simp length-take (omega arith) in
+      let two : 2 ≤ k = many compared .if1 .left in
+      by-copy _ s _ (c .before .before .copy-nums2 .ensures)
+      (runs-apart _ one (later-chain (a .mark) (a .c) (a .text .now)) _ k h (omega arith) (omega arith) (omega (arith, s .long))
+      (rw (s .left) (inorder-msorted _ one h (take h (a .p .now)) few)) (sym (compared .last-after .ensures) ∙ c .before .before .before .before .if2 .left))
 
 pub +sort-parts-spec : {M : Type 1} → statement M
-+sort-parts-spec = close μ-sort-parts λ t. sort-parts-lts.spec (
-  sort-parts-below t,
-  sort-parts.Post,
-  copy-nums-reads.Asked,
-  copy-nums-reads.Learnt,
-  last-after-reads.Asked,
-  last-after-reads.Learnt,
-  merge-reads.Asked,
-  merge-reads.Learnt,
-)
++sort-parts-spec =
+    close μ-sort-parts λ t. sort-parts-lts.spec
+    (claims t)
     (sort-parts-at t)
     sort-parts.Post
     (sort-parts-returns t)
-    (sort-parts-sub-r t)
-    (sort-parts-add-e t)
-    (sort-parts-add-e-2 t)
-    (sort-parts-mul-sort-parts t)
-    (sort-parts-sub-sort-parts t)
-    (sort-parts-part-sort-parts-start t)
-    (sort-parts-part-sort-parts-end t)
-    (sort-parts-sort-parts-requires t)
+    (λ c. search needs)
+    (λ c. search needs)
+    (λ c. search needs)
+    (λ c. search needs)
+    (λ c. search needs)
+    (λ c. search needs)
+    (λ c. search needs)
+    (λ c κs. search needs)
     (sort-parts-copy-nums-requires t)
-    (sort-parts-add-f t)
-    (sort-parts-add-f-2 t)
-    (sort-parts-mul-sort-parts-2 t)
-    (sort-parts-sub-sort-parts-2 t)
-    (sort-parts-part-sort-parts-start-2 t)
-    (sort-parts-part-sort-parts-end-2 t)
-    (sort-parts-sort-parts-requires-2 t)
-    (sort-parts-add-last-after t)
-    (sort-parts-last-after-requires t)
-    (sort-parts-merge-requires t)
+    (λ c. search needs)
+    (λ c. search needs)
+    (λ c. search needs)
+    (λ c. search needs)
+    (λ c. search needs)
+    (λ c. search needs)
+    (λ c κs. search needs)
+    (λ c. search needs)
+    (λ c κs. search needs)
+    (λ c κs. search needs)
     (sort-parts-copy-nums-requires-2 t)
-    (sort-parts-same-length t)
+    (λ c. search needs)
     (sort-parts-returns-2 t)
-    (sort-parts-same-length-2 t)
+    (λ c. search needs)
     (sort-parts-returns-3 t)

@@ -12,6 +12,10 @@ use Rattle.sort_parts.proofs.takes_right.Tie as tie
 no : false ≡ true → ⊥
 no e = let z : _≡_ {A = ℕ} 0 1 = cc in omega arith
 
+-- the start, from behind the first number
+abbrev start : tie.After-wide → tie.Start
+start w = w .before .before .before .before .before .before
+
 mul-wide : tie.Need-mul-wide
 mul-wide c = search needs
 
@@ -35,8 +39,9 @@ part-after-requires c κs = search needs
 
 returns : tie.Need-returns
 returns c =
-    let a = c .before .before .before .before .before .before .before .before .before .args in
-    (c .part-after .ensures ∙ rw (c .before .before .before .wide .ensures, c .before .wide2 .ensures) (sym (from-both _ (a .p .now) (a .i) (a .m) (a .j) (a .n) (omega arith) (omega arith) (omega arith) (omega arith))), ((λ _. omega arith), (λ _. omega arith)))
+    let w = c .before .before .before in
+    let a = start w .args in
+    (c .part-after .ensures ∙ rw (w .wide .ensures, c .before .wide2 .ensures) (sym (from-both _ (a .p .now) (a .i) (a .m) (a .j) (a .n) (omega arith) (omega arith) (omega arith) (omega arith))), ((λ _. omega arith), (λ _. omega arith)))
 
 returns-2 : tie.Need-returns-2
 returns-2 c =

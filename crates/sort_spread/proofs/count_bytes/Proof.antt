@@ -17,6 +17,17 @@ Inv-loop text p from k d c₀ i₀ c i = Counting (byteFrom d text) (slice from 
 abbrev μ-loop : tie.MeasureT-loop
 μ-loop text p from k d c₀ i₀ c i = k - i
 
+-- the places that the answers speak of, once a byte is read
+module _ (r : tie.After-byte-from Inv-loop μ-loop) where
+  abbrev turn : tie.In-loop Inv-loop μ-loop
+  turn = r .before .before
+
+  abbrev top : tie.At-loop Inv-loop μ-loop
+  top = turn .before
+
+  abbrev start : tie.Start Inv-loop μ-loop
+  start = top .before .before .before
+
 loop-holds : tie.Need-loop-holds Inv-loop μ-loop
 loop-holds c = counting-start _ _ _ (c .before .before .pre .1)
 
@@ -40,9 +51,9 @@ element-copy-out-c c = search needs
 
 add-c : tie.Need-add-c Inv-loop μ-loop
 add-c c =
-    let l = c .before .before .before .before .loop in
-    let b = c .before .byte-from in
-    omega (arith, c .before .before .before .loop-test .taken, c .before .before .before .before .before .before .before .pre .0, counting-most (l .inv) (b .result) (b .ensures .1))
+    let r = c .before in
+    let b = r .byte-from in
+    omega (arith, turn r .loop-test .taken, start r .pre .0, counting-most (top r .loop .inv) (b .result) (b .ensures .1))
 
 mul-c-2 : tie.Need-mul-c-2 Inv-loop μ-loop
 mul-c-2 c = search needs
@@ -58,13 +69,12 @@ loop-less c = search needs
 
 loop-again : tie.Need-loop-again Inv-loop μ-loop
 loop-again c =
-    let a = c .before .before .before .before .before .before .before .args in
-    let l = c .before .before .before .before .loop in
-    let t = c .before .before .before .loop-test .taken in
-    let b = c .before .byte-from in
-    let q = c .before .before .before .before .before .before .before .pre .0 in
-    counting-next (l .inv) (b .result) (omega (arith, length-part (a .from) (a .k) (a .p .now) (q .0)))
-    (b .ensures .0 ∙ ap (byteFrom (a .d) (a .text .now)) (sym (part-read (a .from) (a .k) (a .p .now) (l .i) t))) (b .ensures .1)
+    let r = c .before in
+    let a = start r .args in
+    let l = top r .loop in
+    let b = r .byte-from in
+    counting-next (l .inv) (b .result) (omega (arith, length-part (a .from) (a .k) (a .p .now) (start r .pre .0 .0)))
+    (b .ensures .0 ∙ ap (byteFrom (a .d) (a .text .now)) (sym (part-read (a .from) (a .k) (a .p .now) (l .i) (turn r .loop-test .taken)))) (b .ensures .1)
 
 returns : tie.Need-returns Inv-loop μ-loop
 returns c =

@@ -14,6 +14,26 @@ Inv-loop text p₀ from to k d c₀ i₀ p c i = Placing (byteFrom d text) p₀ 
 abbrev μ-loop : tie.MeasureT-loop
 μ-loop text p₀ from to k d c₀ i₀ p c i = k - i
 
+-- the places that the answers speak of, once the counter is read
+module _ (x : tie.After-wide Inv-loop μ-loop) where
+  abbrev read : tie.After-byte-from Inv-loop μ-loop
+  read = x .before .before
+
+  abbrev turn : tie.In-loop Inv-loop μ-loop
+  turn = read .before .before
+
+  abbrev top : tie.At-loop Inv-loop μ-loop
+  top = turn .before
+
+  abbrev start : tie.Start Inv-loop μ-loop
+  start = top .before .before .before
+
+  -- the counter's place is one of the k
+  place : x .wide .result < start .args .k
+  place =
+      let b = read .byte-from in
+      omega (arith, x .wide .ensures, placing-place (top .loop .inv) (turn .loop-test .taken) (b .result) (b .ensures .1) (b .ensures .0))
+
 loop-holds : tie.Need-loop-holds Inv-loop μ-loop
 loop-holds c =
     let q = c .before .before .pre in
@@ -40,30 +60,19 @@ element-copy-out-w c = search needs
 wide-requires : tie.Need-wide-requires Inv-loop μ-loop
 wide-requires c κs = search needs
 
--- the counter's place is one of the k
-place : (c : tie.After-wide Inv-loop μ-loop) → c .wide .result < c .before .before .before .before .before .before .before .before .args .k
-place c =
-    let l = c .before .before .before .before .before .loop in
-    let b = c .before .before .byte-from in
-    omega (arith, c .wide .ensures, placing-place (l .inv) (c .before .before .before .before .loop-test .taken) (b .result) (b .ensures .1) (b .ensures .0))
-
 add-p : tie.Need-add-p Inv-loop μ-loop
-add-p c =
-    let l = c .before .before .before .before .before .loop in
-    omega (arith, place c, l .inv .room, c .before .before .before .before .before .before .before .before .good)
+add-p c = omega (arith, place c, top c .loop .inv .room, start c .good)
 
 mul-p : tie.Need-mul-p Inv-loop μ-loop
-mul-p c =
-    let l = c .before .before .before .before .before .loop in
-    omega (arith, place c, l .inv .room, c .before .before .before .before .before .before .before .before .good)
+mul-p c = omega (arith, place c, top c .loop .inv .room, start c .good)
 
 slice-write-p : tie.Need-slice-write-p Inv-loop μ-loop
 slice-write-p c =
-    let l = c .before .before .before .before .before .loop in
-    omega (arith, place c, l .inv .room, l .inv .long)
+    let v = top c .loop .inv in
+    omega (arith, place c, v .room, v .long)
 
 add-c : tie.Need-add-c Inv-loop μ-loop
-add-c c = omega (arith, place c, c .wide .ensures, c .before .before .before .before .before .before .before .before .pre .0)
+add-c c = omega (arith, place c, c .wide .ensures, start c .pre .0)
 
 mul-c : tie.Need-mul-c Inv-loop μ-loop
 mul-c c = search needs
@@ -79,10 +88,8 @@ loop-less c = search needs
 
 loop-again : tie.Need-loop-again Inv-loop μ-loop
 loop-again c =
-    let l = c .before .before .before .before .before .loop in
-    let t = c .before .before .before .before .loop-test .taken in
-    let b = c .before .before .byte-from in
-    placing-next (l .inv) t (b .result) (c .wide .result) (b .ensures .0) (b .ensures .1) (c .wide .ensures)
+    let b = read c .byte-from in
+    placing-next (top c .loop .inv) (turn c .loop-test .taken) (b .result) (c .wide .result) (b .ensures .0) (b .ensures .1) (c .wide .ensures)
 
 same-length : tie.Need-same-length Inv-loop μ-loop
 same-length c = c .before .loop .inv .long

@@ -14,6 +14,10 @@ Inv-loop text p₀ k d₀ p d = Passing p₀ p k d
 abbrev μ-loop : tie.MeasureT-loop
 μ-loop text p₀ k d₀ p d = d
 
+-- the loop's head, from behind the first pass of a turn
+abbrev top : tie.After-spread-by Inv-loop μ-loop → tie.At-loop Inv-loop μ-loop
+top there = there .before .before .before
+
 returns : tie.Need-returns Inv-loop μ-loop
 returns c = (λ q. refl, refl)
 
@@ -33,8 +37,9 @@ sub-spread-by-2 c = search needs
 
 spread-by-requires-2 : tie.Need-spread-by-requires-2 Inv-loop μ-loop
 spread-by-requires-2 c κs =
-    let l = c .before .before .before .before .before .before .loop in
-    (omega (arith, l .inv .few, l .inv .long, c .before .before .before .spread-by .kept), inr (omega arith))
+    let there = c .before .before .before in
+    let v = top there .loop .inv in
+    (omega (arith, v .few, v .long, there .spread-by .kept), inr (omega arith))
 
 sub-d : tie.Need-sub-d Inv-loop μ-loop
 sub-d c = search needs
@@ -44,10 +49,9 @@ loop-less c = search needs
 
 loop-again : tie.Need-loop-again Inv-loop μ-loop
 loop-again c =
-    let l = c .before .before .before .before .before .before .before .before .before .loop in
-    let there = c .before .before .before .before .before .before .spread-by in
-    let back = c .before .before .spread-by2 in
-    passing-next (l .inv) _ _ (there .kept .1 .0) (back .kept .1 .0) (there .ensures) (back .ensures)
+    let back = c .before .before in
+    let there = back .before .before .before .before in
+    passing-next (top there .loop .inv) _ _ (there .spread-by .kept .1 .0) (back .spread-by2 .kept .1 .0) (there .spread-by .ensures) (back .spread-by2 .ensures)
 
 same-length : tie.Need-same-length Inv-loop μ-loop
 same-length c = c .before .loop .inv .long

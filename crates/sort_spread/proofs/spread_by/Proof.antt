@@ -10,21 +10,28 @@ use Rattle.sort_spread.proofs.CountLaws.{counters-none, added-most, cou
 use Rattle.sort_spread.proofs.spread_by.Statement.{statement}
 use Rattle.sort_spread.proofs.spread_by.Tie as tie
 
+-- the start, from behind the count
+abbrev start : tie.After-count-bytes → tie.Start
+start counted = counted .before .before .before .before .before
+
 count-bytes-requires : tie.Need-count-bytes-requires
 count-bytes-requires c κs = (omega arith, counters-none)
 
 sum-counts-requires : tie.Need-sum-counts-requires
 sum-counts-requires c κs =
     let h = c .before .count-bytes .ensures in
-    let a = c .before .before .before .before .before .before .args in
-    let q = c .before .before .before .before .before .before .pre in
+    let s = start (c .before) in
+    let a = s .args in
+    let q = s .pre in
     (h .all, omega (arith, q .0, added-most (byteFrom (a .d) (a .text .now)) (slice (a .from) (a .from + a .k) (a .p .now)) _ h, length-part (a .from) (a .k) (a .p .now) (q .0 .0)))
 
 place-starts-requires : tie.Need-place-starts-requires
 place-starts-requires c κs =
-    let a = c .before .before .before .before .before .before .before .before .before .args in
-    let q = c .before .before .before .before .before .before .before .before .before .pre in
-    let h = c .before .before .before .before .count-bytes .ensures in
+    let counted = c .before .before .before .before in
+    let s = start counted in
+    let a = s .args in
+    let q = s .pre in
+    let h = counted .count-bytes .ensures in
     (q .0, (q .1, counters-lower (byteFrom (a .d) (a .text .now)) (slice (a .from) (a .from + a .k) (a .p .now)) _ h _ (c .before .before .sum-counts .ensures)))
 
 same-length : tie.Need-same-length

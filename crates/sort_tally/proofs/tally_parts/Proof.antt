@@ -11,6 +11,14 @@ use borrow.Author.Needs.{needs}
 use Rattle.sort_tally.proofs.tally_parts.Statement.{statement}
 use Rattle.sort_tally.proofs.tally_parts.Tie as tie
 
+-- the places that the answers speak of, from behind the sort
+module _ (s : tie.After-sort-parts) where
+  abbrev spread : tie.After-spread-all
+  spread = s .before .before .before .before
+
+  abbrev start : tie.Start
+  start = spread .before .before .before .before
+
 spread-all-requires : tie.Need-spread-all-requires
 spread-all-requires c κs = search needs
 
@@ -26,9 +34,10 @@ same-length c = search needs
 returns : tie.Need-returns
 returns c =
     let g = c .before .before .group-parts in
-    let s = c .before .before .before .before .before .before .sort-parts in
-    let d = c .before .before .before .before .before .before .before .before .before .before .spread-all in
-    let a = c .before .before .before .before .before .before .before .before .before .before .before .before .before .before .args in
+    let sorted = c .before .before .before .before .before .before in
+    let s = sorted .sort-parts in
+    let d = spread sorted .spread-all in
+    let a = start sorted .args in
     let p₁ = d .last .1 .0 in
     let p₂ = s .last .1 .0 in (
       table-there (a .mark) (a .c) (a .text .now) (a .k) (g .result) p₁ p₂ (g .last .1 .0) (omega (arith, d .kept)) (s .ensures .0) (g .ensures .0)
