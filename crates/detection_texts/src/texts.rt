@@ -5,6 +5,7 @@ ghost use mathlib.Core.Path.{_≡_};
 ghost use mathlib.Core.Bool.{true, false};
 ghost use Prim.Native.Nat.{_<_, _^_};
 ghost use lib.ListN.{length};
+ghost use Rattle.rules.specs.Sizes.{storedMost};
 ghost use Rattle.rules.specs.Book.{stored, sound, nextPlace};
 ghost use Rattle.records.specs.Places.{atOf};
 ghost use Rattle.detection_texts.specs.Texts.{Before, Found, firstPlace, afterText, passedBy, Under, noneYet, setOut, stoppedAt, atRecord, pastRecord};
@@ -52,7 +53,7 @@ pub fn first_place() -> Place
 
 // Before the text after t.
 pub fn after_text(t: Text) -> Place
-    requires { ⌜ t .number < 1024 ⌝ }
+    requires { ⌜ t .number < storedMost ⌝ }
     ensures { λ r. ⌜ r ≡ afterText t ⌝ }
 {
     Place {
