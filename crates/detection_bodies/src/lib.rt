@@ -12,6 +12,8 @@ ghost use Rattle.detection_bodies.specs.Terms.{termByte};
 use records::numbers::read_u32;
 use records::pieces::EntryAt;
 use records::pieces::entry_at;
+use rules::NAME_MOST;
+use rules::TOTAL_MOST;
 use slices::two::above;
 
 pub fn within(lo: u16, hi: u16, x: u16) -> bool
@@ -30,7 +32,7 @@ pub fn name_sound(s: &[u8]) -> bool
     if s.len() < 1 {
         return false;
     }
-    if 64 < s.len() {
+    if NAME_MOST < s.len() {
         return false;
     }
     let mut i = 0;
@@ -138,7 +140,7 @@ pub fn table_sound(body: &[u8]) -> bool
                     return false;
                 }
                 sum += count as u64;
-                if 8388608 < sum {
+                if TOTAL_MOST < sum {
                     return false;
                 }
                 entries += 1;

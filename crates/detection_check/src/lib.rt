@@ -6,6 +6,7 @@ ghost use mathlib.Core.Bool.{not, cond};
 ghost use Prim.Native.Nat.{_+_, _≤_, _<_};
 ghost use lib.Dec.{eqb};
 ghost use lib.ListN.{length, take, drop};
+ghost use Rattle.rules.specs.Sizes.{storedMost};
 ghost use Rattle.rules.specs.Book.{storedKind as isStored, follows as mayFollow, soundBody};
 ghost use Rattle.rules.specs.Jobs.{CheckDone};
 ghost use Rattle.detection_check.specs.Walks.{refused, found, Within, recordSound, verdictAt, verdictBefore, Stepped};
@@ -14,7 +15,9 @@ use detection_bodies::table_sound;
 use detection_bodies::within;
 use records::pieces::RecordAt;
 use records::reader::read;
+use rules::BOOK_MOST;
 use rules::Checked;
+use rules::STORED_MOST;
 use slices::two::above;
 
 // Before the record at `at`: the kind of the record before (0 at the start), the name that it stands under, book[name..past],
@@ -91,7 +94,7 @@ fn record_sound(before: u16, name: &[u8], kind: u16, body: &[u8]) -> bool
 }
 
 fn texts_after(texts: u32, kind: u16) -> u32
-    requires { ⌜ texts ≤ 1024 ⌝ }
+    requires { ⌜ texts ≤ storedMost ⌝ }
     ensures { λ r. ⌜ r ≡ cond (isStored kind) (texts + 1) texts ⌝ }
 {
     if stored_kind(kind) { texts + 1 } else { texts }
@@ -119,7 +122,7 @@ fn check_record(book: &[u8], walk: Walk, kind: u16, start: usize, len: usize) ->
         return Step::Done(unsound());
     }
     let texts = texts_after(walk.texts, kind);
-    if 1024 < texts {
+    if STORED_MOST < texts {
         return Step::Done(unsound());
     }
     if kind == 1 {
@@ -156,7 +159,7 @@ fn check_next(book: &[u8], walk: Walk) -> Step
 pub fn check_book(book: &[u8]) -> Checked
     ensures { λ r. ⌜ CheckDone (now (book .entry)) r ⌝ }
 {
-    if 16777216 < book.len() {
+    if BOOK_MOST < book.len() {
         return unsound();
     }
     let mut walk = Walk {

@@ -3,9 +3,10 @@
 // SPDX-License-Identifier: Apache-2.0), changed: the store is two books of records. Assumes nothing.
 ghost use mathlib.Core.Path.{_≡_};
 ghost use mathlib.Core.Bool.{cond};
-ghost use Prim.Native.Nat.{_+_, _≤_, _<_};
+ghost use Prim.Native.Nat.{_+_, _*_, _≤_, _<_};
 ghost use lib.Dec.{leb};
 ghost use lib.ListN.{length, take, drop};
+ghost use Rattle.rules.specs.Sizes.{storedMost};
 ghost use Rattle.rules.specs.Book.{partIn};
 ghost use Rattle.detection_shelf.specs.Shelves.{shelf, Counted, BeforeOn, Stands, bodyIn, firstSpot, afterOn, fitting, placeIn};
 use detection_texts::texts::Place;
@@ -48,7 +49,7 @@ pub fn first_spot() -> Spot
 
 // Before the text after t.
 pub fn after_on(t: Shelved) -> Spot
-    requires { ⌜ (t .text .number < 1024) × (t .number < 2048) ⌝ }
+    requires { ⌜ (t .text .number < storedMost) × (t .number < 2 * storedMost) ⌝ }
     ensures { λ r. ⌜ r ≡ afterOn t ⌝ }
 {
     Spot {

@@ -20,15 +20,16 @@ use Rattle.rules.specs.Sizes.{bookMost, storedMost, nameMost}
 use Rattle.rules.specs.Prefix.{Counted}
 use Rattle.rules.specs.Search.{Stored, noText}
 use Rattle.rules.specs.Bytes.{within, rises}
-use Rattle.rules.specs.Book.{number, Record, recordsOf, also, entriesOf, sum, soundEntries, soundTable, soundBody, storedKind, follows, soundRecords, tableIn, storedIn, storedOf, storedFrom as numberedFrom, stored, namesIn, noPart, namesOf, filled, sound}
+use Rattle.rules.specs.Book.{number, Record, recordsOf, also, entriesOf, sum, soundEntries, soundTable, soundBody, storedKind, follows, soundRecords, tableIn, storedIn, storedOf, storedFrom as numberedFrom, stored, namesIn, noPart, namesOf, filled, sound, At, recordAt, nextPlace}
 use Rattle.rules.specs.declared.Named.{Named}
 use Rattle.rules.proofs.BoolLaws.{and-left, and-right}
 use Rattle.rules.proofs.DownLaws.{each-at}
 use Rattle.rules.proofs.SoundLaws.{StoredSound, sound-stored}
-use Rattle.records.proofs.StepLaws.{RecordHere}
-use Rattle.detection_texts.specs.Texts.{part, storedFrom, nameAt, namesFrom, allSound, soundBodies, Before, firstPlace, passedBy, Found}
+use Rattle.records.proofs.StepLaws.{RecordHere, record-here, record-end, record-broken}
+use Rattle.detection_texts.specs.Texts.{part, storedFrom, nameAt, namesFrom, allSound, soundBodies, Before, firstPlace, passedBy, setOut, atRecord, pastRecord, Found, Under}
 use Rattle.detection_texts.specs.declared.texts.Place.{Place}
 use Rattle.detection_texts.specs.declared.texts.Text.{Text}
+use Rattle.detection_texts.specs.declared.texts.Way.{Way}
 
 -- ---- a sound book's records have sound bodies
 all-sound : (rs : List Record) (a : ℕ) (name : List ℕ) → soundRecords a name rs ≡ true → allSound rs ≡ true
@@ -272,6 +273,56 @@ module _ (p : Place) (kind start end : ℕ) where
   pub passed-at : passedBy p kind start end .at ≡ end
   unfolding passedBy
   passed-at = either (eqb kind 1) named moved (λ (x : Place). x .at) end refl refl
+
+-- ---- the way to the next text, record after record
+-- what is left of the book, one more while it goes on
+unfoldable pub ahead : List ℕ → Way → ℕ
+ahead book w = cond (w .going) (suc (length book - w .place .at)) 0
+
+pub under-first : (book : List ℕ) (p : Place) → Before book p → p .number < length (stored book) → Under book (p .number) (setOut p)
+under-first book p b l = record { on = λ _. (b, refl, l); off = λ e. absurd (false≢true (sym e)) }
+
+pub ahead-on : (book : List ℕ) (w : Way) → w .going ≡ true → ahead book w ≡ suc (length book - w .place .at)
+unfolding ahead
+ahead-on book w e = rw e
+
+-- one more record: it can be passed, the way stands as it should, and less is ahead
+pub record On (book : List ℕ) (n : ℕ) (p : Place) (a : At) : Type 0 where
+  pub fits : nextPlace (p .at) a ≤ length book
+  pub under : Under book n (pastRecord p a)
+  pub less : ahead book (pastRecord p a) < suc (length book - p .at)
+
+module _ (book : List ℕ) (n : ℕ) (p : Place) (b : Before book p) (same : p .number ≡ n) (l : n < length (stored book)) where
+  short : p .number < length (stored book)
+  short = omega (arith, same, l)
+
+  on-whole : (kind start len : ℕ) → RecordHere book (p .at) kind start len → (t : Bool) → storedKind kind ≡ t → On book n p (At.whole kind start len)
+  unfolding nextPlace pastRecord atRecord ahead
+  on-whole kind start len h true e =
+      record {
+        fits = h .fits;
+        under = rw e (record { on = λ z. absurd (false≢true z); off = λ _. found-as book p b kind start len h e short n same });
+        less = rw e (omega arith);
+      }
+  on-whole kind start len h false e =
+      let q = passed-at p kind start (start + len) in
+      record {
+        fits = h .fits;
+        under = rw e
+            (record {
+              on = λ _. (before-next book p b kind start len h e, passed-number p kind start (start + len) ∙ same, l);
+              off = λ z. absurd (false≢true (sym z));
+            });
+        less = rw e (omega (arith, h .later, h .fits, q));
+      }
+
+  pub on-record : On book n p (recordAt book (p .at))
+  on-record = at (recordAt book (p .at)) refl
+    where
+      at : (a : At) → recordAt book (p .at) ≡ a → On book n p a
+      at At.end e = absurd (not-done book p b short (record-end book (p .at) e))
+      at (At.whole kind start len) e = on-whole kind start len (record-here book (p .at) kind start len e) (storedKind kind) refl
+      at At.broken e = absurd (not-broken book p b (record-broken book (p .at) e))
 
 -- ---- a text that is found, by another name of its number
 pub found-at : {book : List ℕ} {k n : ℕ} {r : Text} → k ≡ n → Found book k r → Found book n r

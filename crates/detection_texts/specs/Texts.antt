@@ -9,10 +9,11 @@ use lib.Dec.{eqb}
 use lib.ListN.{length, getD, take, drop}
 use Rattle.rules.specs.Sizes.{storedMost}
 use Rattle.rules.specs.Search.{Stored, noText}
-use Rattle.rules.specs.Book.{number, Record, recordsOf, entriesOf, soundTable, soundBody, storedIn, stored, namesIn, noPart, namesOf}
+use Rattle.rules.specs.Book.{number, Record, recordsOf, entriesOf, soundTable, soundBody, storedIn, storedKind, stored, At, namesIn, noPart, namesOf}
 use Rattle.rules.specs.declared.Named.{Named}
 use Rattle.detection_texts.specs.declared.texts.Place.{Place}
 use Rattle.detection_texts.specs.declared.texts.Text.{Text}
+use Rattle.detection_texts.specs.declared.texts.Way.{Way}
 
 -- the part book[from..to]
 abbrev pub part : List ℕ → ℕ → ℕ → List ℕ
@@ -74,6 +75,27 @@ passedBy p kind start end =
     cond (eqb kind 1) (record { number = p .number; at = end; name = start; past = end })
     (record { number = p .number; at = end; name = p .name; past = p .past })
 
+-- the way to the next text: at a place, stopped there with no text, and what becomes of it at a record
+abbrev pub noneYet : Text
+noneYet = record { number = 0; kind = 0; name = 0; past = 0; body = 0; end = 0 }
+
+abbrev pub setOut : Place → Way
+setOut p = record { going = true; place = p; text = noneYet }
+
+abbrev pub stoppedAt : Place → Way
+stoppedAt p = record { going = false; place = p; text = noneYet }
+
+abbrev pub textAt : Place → ℕ → ℕ → ℕ → Text
+textAt p kind start end = record { number = p .number; kind = kind; name = p .name; past = p .past; body = start; end = end }
+
+unfoldable pub atRecord : Place → ℕ → ℕ → ℕ → Way
+atRecord p kind start end = cond (storedKind kind) (record { going = false; place = p; text = textAt p kind start end }) (setOut (passedBy p kind start end))
+
+unfoldable pub pastRecord : Place → At → Way
+pastRecord p At.end = stoppedAt p
+pastRecord p (At.whole kind start len) = atRecord p kind start (start + len)
+pastRecord p At.broken = stoppedAt p
+
 -- r is stored text k, its name stands where the definition has it, and the walk goes on after it
 pub record Found (book : List ℕ) (k : ℕ) (r : Text) : Type 0 where
   pub is : TextIs book (getD (stored book) k noText) r
@@ -81,3 +103,8 @@ pub record Found (book : List ℕ) (k : ℕ) (r : Text) : Type 0 where
   pub below : k < storedMost
   pub named : (second : Bool) → getD (namesOf second (recordsOf book)) k noPart ≡ nameAt second (r .name) (r .past)
   pub on : Before book (afterText r)
+
+-- while the way goes on it stands before text n, and once it has stopped it has text n
+pub record Under (book : List ℕ) (n : ℕ) (w : Way) : Type 0 where
+  pub on : w .going ≡ true → Before book (w .place) × (w .place .number ≡ n) × (n < length (stored book))
+  pub off : w .going ≡ false → Found book n (w .text)

@@ -7,26 +7,27 @@ ghost use lib.ListN.{length, replicate};
 ghost use Rattle.rules.specs.Sizes.{nameMost};
 ghost use Rattle.rules.specs.Jobs.{over};
 ghost use Rattle.detection_texts.specs.Texts.{part};
+use rules::NAME_MOST;
 use slices::copy::put;
 
-// 64 bytes, zero-filled, and the length.
+// NAME_MOST bytes, zero-filled, and the length.
 pub struct Name {
-    pub bytes: [u8; 64],
+    pub bytes: [u8; NAME_MOST],
     pub len: u32,
 }
 
-fn padded(s: &[u8]) -> [u8; 64]
-    requires { ⌜ length (now s) ≤ 64 ⌝ }
+fn padded(s: &[u8]) -> [u8; NAME_MOST]
+    requires { ⌜ length (now s) ≤ nameMost ⌝ }
     ensures { λ r. ⌜ r ≡ over (now (s .entry)) (replicate nameMost 0) ⌝ }
 {
-    let mut bytes: [u8; 64] = [0; 64];
+    let mut bytes: [u8; NAME_MOST] = [0; NAME_MOST];
     put(s, &mut bytes, 0);
     bytes
 }
 
 // The name book[name..past].
 pub fn name_in(book: &[u8], name: usize, past: usize) -> Name
-    requires { ⌜ (name ≤ past) × (past ≤ length (now book)) × (past - name ≤ 64) ⌝ }
+    requires { ⌜ (name ≤ past) × (past ≤ length (now book)) × (past - name ≤ nameMost) ⌝ }
     ensures { λ r. ⌜ (r .bytes ≡ over (part (now (book .entry)) name past) (replicate nameMost 0)) × (r .len ≡ past - name) ⌝ }
 {
     Name {

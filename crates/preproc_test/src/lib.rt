@@ -3,6 +3,8 @@
 // SPDX-License-Identifier: Apache-2.0), changed: its passes take any text. Assumes nothing.
 ghost use mathlib.Core.Path.{_≡_};
 ghost use Rattle.preproc_test.specs.Counts.{plainCount, AsTested};
+use rules::LINES_MOST;
+use rules::TEXT_MOST;
 
 // The refusal that comes first, 0 for none; and the number of lines, 0 where the text is refused.
 pub struct Tested {
@@ -33,7 +35,7 @@ pub fn plain_lines(text: &[u8]) -> usize
 pub fn test_text(text: &[u8]) -> Tested
     ensures { λ r. ⌜ AsTested (now (text .entry)) r ⌝ }
 {
-    if 1048576 < text.len() {
+    if TEXT_MOST < text.len() {
         return Tested {
             refusal: 1,
             lines: 0,
@@ -46,7 +48,7 @@ pub fn test_text(text: &[u8]) -> Tested
             lines: 0,
         };
     }
-    if 65536 < lines {
+    if LINES_MOST < lines {
         return Tested {
             refusal: 3,
             lines: 0,

@@ -6,7 +6,7 @@ ghost use mathlib.Core.Bool.{false, _&&_, _||_};
 ghost use mathlib.Core.List.{[]};
 ghost use Prim.Native.Nat.{_≤_};
 ghost use lib.Dec.{ltb, leb};
-ghost use Rattle.rules.specs.Sizes.{byteArea, wordArea};
+ghost use Rattle.rules.specs.Sizes.{textMost, linesMost, byteArea, wordArea};
 ghost use Rattle.rules.specs.Jobs.{CheckDone};
 ghost use Rattle.rules.specs.Refusal.{refusal, beforeCompile, unit, stepZero, resultsNeed};
 ghost use Rattle.detection_shelf.specs.Shelves.{shelf, Lends};
@@ -14,10 +14,14 @@ ghost use Rattle.refusals.specs.Admits.{AdmitsBooks, AdmitsView, AdmitsS
 use detection_check::check_book;
 use detection_shelf::Counts;
 use preproc_test::test_text;
+use rules::AREA_SPARE;
+use rules::BYTES_EACH;
 use rules::Checked;
 use rules::Limits;
 use rules::Mode;
+use rules::RECORD_WIDTH;
 use rules::View;
+use rules::WORDS_EACH;
 
 // What is refused, 0 for nothing; and where nothing is, L and N, with the first book's.
 pub struct Admitted {
@@ -86,13 +90,13 @@ fn admit_text_books(text: &[u8], book: &[u8], second: &[u8], two: bool) -> Admit
 }
 
 fn small_areas(n: usize, bytes: usize, words: usize) -> bool
-    requires { ⌜ n ≤ 1048576 ⌝ }
+    requires { ⌜ n ≤ textMost ⌝ }
     ensures { λ r. ⌜ r ≡ (ltb bytes (byteArea n) || ltb words (wordArea n)) ⌝ }
 {
-    if bytes < 8 * n + 64 {
+    if bytes < BYTES_EACH * n + AREA_SPARE {
         return true;
     }
-    words < 12 * n + 64
+    words < WORDS_EACH * n + AREA_SPARE
 }
 
 // Before compile, with work areas of so many bytes and words: refusals 1 to 3 and 10.
@@ -129,7 +133,7 @@ fn refuse_view(
     bytes: usize,
     words: usize,
 ) -> u32
-    requires { ⌜ n ≤ 1048576 ⌝ }
+    requires { ⌜ n ≤ textMost ⌝ }
     ensures { λ r. ⌜ r ≡ refusal (viewRows n lines texts v k (record { bytes = bytes; words = words })) ⌝ }
 {
     if !view_inside(v, lines) {
@@ -198,7 +202,7 @@ fn step_zero(mode: Mode) -> bool
     }
 }
 
-fn wide(passes: u16) -> usize
+fn passes_wide(passes: u16) -> usize
     ensures { λ r. ⌜ r ≡ passes ⌝ }
 {
     passes as usize
@@ -206,12 +210,12 @@ fn wide(passes: u16) -> usize
 
 // The numbers that the records of a scan can take.
 fn results_need(lines: usize, mode: Mode) -> usize
-    requires { ⌜ lines ≤ 65536 ⌝ }
+    requires { ⌜ lines ≤ linesMost ⌝ }
     ensures { λ r. ⌜ r ≡ resultsNeed lines mode ⌝ }
 {
     match mode {
-        Mode::Elimination(optimize, passes) => if optimize { 4 * wide(passes) } else { 0 },
-        Mode::TopDown(_) => 4 * lines,
+        Mode::Elimination(optimize, passes) => if optimize { RECORD_WIDTH * passes_wide(passes) } else { 0 },
+        Mode::TopDown(_) => RECORD_WIDTH * lines,
     }
 }
 
@@ -225,7 +229,7 @@ fn refuse_scan(
     words: usize,
     results: usize,
 ) -> u32
-    requires { ⌜ (n ≤ 1048576) × (lines ≤ 65536) ⌝ }
+    requires { ⌜ (n ≤ textMost) × (lines ≤ linesMost) ⌝ }
     ensures { λ r. ⌜ r ≡ refusal (scanRows n lines lim mode (record { bytes = bytes; words = words }) results) ⌝ }
 {
     if !limits_in_unit(lim) {

@@ -2,6 +2,24 @@
 // From detection/scan.rs of spdx 0.13.6 (Copyright 2018 Amazon.com, Inc. or its affiliates. All Rights Reserved.
 // SPDX-License-Identifier: Apache-2.0), changed. Assumes nothing.
 
+// Document 01's numbers, as specs/Sizes.antt has them. A text: its bytes and its lines.
+pub const TEXT_MOST: usize = 1048576;
+pub const LINES_MOST: usize = 65536;
+
+// A book: its bytes, its stored texts, a table's total, a name's bytes.
+pub const BOOK_MOST: usize = 16777216;
+pub const STORED_MOST: u32 = 1024;
+pub const TOTAL_MOST: u64 = 8388608;
+pub const NAME_MOST: usize = 64;
+
+// The work areas: bytes and words for each byte of the text, and what both have to spare.
+pub const BYTES_EACH: usize = 8;
+pub const WORDS_EACH: usize = 12;
+pub const AREA_SPARE: usize = 64;
+
+// A record of a scan: its numbers in the results area.
+pub const RECORD_WIDTH: usize = 4;
+
 // The two limits of a scan. They travel together, by value.
 pub struct Limits {
     pub threshold: f32,
@@ -78,7 +96,7 @@ pub struct Named {
 // the overall score, the count of scorings and the number of records; and where the name stands in the lent books.
 pub struct Scanned {
     pub refusal: u32,
-    pub name: [u8; 64],
+    pub name: [u8; NAME_MOST],
     pub len: u32,
     pub kind: u32,
     pub score: f32,

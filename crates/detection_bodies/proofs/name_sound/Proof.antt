@@ -6,9 +6,10 @@ use Rattle.rules.specs.Book.{soundName}
 use Rattle.rules.specs.Bytes.{within, every}
 use native.Mathlib.Omega.{arith}
 use lib.ListN.{length, getD, drop}
-use Prim.Native.Nat.{_-_, _≤_}
+use Prim.Native.Nat.{ℕ, _-_, _≤_}
 use denote.Ref.{now}
 use mathlib.Core.Bool.{true, false}
+use mathlib.Core.List.{List}
 use mathlib.Core.Path.{_≡_, refl, sym, _∙_}
 use borrow.Author.Needs.{needs}
 use Rattle.detection_bodies.proofs.name_sound.Statement.{statement}
@@ -19,6 +20,10 @@ Inv-loop s i₀ i = (i ≤ length s) × (every (within 33 126) (drop i s) ≡ ev
 
 abbrev μ-loop : tie.MeasureT-loop
 μ-loop s i₀ i = length s - i
+
+-- the bytes, from the loop's head
+abbrev bytes : tie.At-loop Inv-loop μ-loop → List ℕ
+bytes top = top .before .before .before .before .args .s .now
 
 returns : tie.Need-returns Inv-loop μ-loop
 unfolding soundName within
@@ -40,8 +45,9 @@ printed-requires c κs = search needs
 returns-3 : tie.Need-returns-3 Inv-loop μ-loop
 unfolding soundName
 returns-3 c =
-    let at = c .before .before .before .before .loop in
-    let s = c .before .before .before .before .before .before .before .before .args .s .now in
+    let top = c .before .before .before .before in
+    let at = top .loop in
+    let s = bytes top in
     let e : within 33 126 (getD s (at .i) 0) ≡ false = sym (c .before .printed .ensures) ∙ not-true _ (c .if3 .taken) in
     let f : every (within 33 126) s ≡ false = sym (at .inv .1) ∙ every-stop (within 33 126) s (at .i) (omega arith) e in
     simp (f, and-false)
@@ -54,16 +60,18 @@ loop-less c = search needs
 
 loop-again : tie.Need-loop-again Inv-loop μ-loop
 loop-again c =
-    let at = c .before .before .before .before .loop in
-    let s = c .before .before .before .before .before .before .before .before .args .s .now in
+    let top = c .before .before .before .before in
+    let at = top .loop in
+    let s = bytes top in
     let e : within 33 126 (getD s (at .i) 0) ≡ true = sym (c .before .printed .ensures) ∙ not-false _ (c .if3 .left) in
     (omega arith, sym (every-go (within 33 126) s (at .i) (omega arith) e) ∙ at .inv .1)
 
 returns-4 : tie.Need-returns-4 Inv-loop μ-loop
 unfolding soundName within
 returns-4 c =
-    let at = c .before .loop in
-    let s = c .before .before .before .before .before .args .s .now in
+    let top = c .before in
+    let at = top .loop in
+    let s = bytes top in
     let f : every (within 33 126) s ≡ true = sym (at .inv .1) ∙ every-end (within 33 126) s (at .i) (omega arith) in
     simp (f, le-leb 1 (length s) (omega arith), le-leb (length s) 64 (omega arith))
 

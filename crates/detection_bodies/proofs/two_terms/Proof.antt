@@ -32,16 +32,18 @@ add-i c = search needs
 
 returns : tie.Need-returns Inv-loop μ-loop
 returns c =
-    let at = c .before .before .before .before .loop in
-    let s = c .before .before .before .before .before .before .args .s .now in
+    let top = c .before .before .before .before in
+    let at = top .loop in
+    let s = top .before .before .args .s .now in
     let e : at .second ≡ true = c .if2 .taken in
     let t : termsFrom (at .second) (at .some) (drop (at .i) s) ≡ false = terms-space (at .second) (at .some) s (at .i) (omega arith) (c .before .if1 .taken) ∙ rw e in
     sym t ∙ at .inv .1
 
 returns-2 : tie.Need-returns-2 Inv-loop μ-loop
 returns-2 c =
-    let at = c .before .before .before .before .before .loop in
-    let s = c .before .before .before .before .before .before .before .args .s .now in
+    let top = c .before .before .before .before .before in
+    let at = top .loop in
+    let s = top .before .before .args .s .now in
     let e : at .some ≡ false = not-true _ (c .if3 .taken) in
     let d : at .second ≡ false = c .before .if2 .left in
     let t : termsFrom (at .second) (at .some) (drop (at .i) s) ≡ false = terms-space (at .second) (at .some) s (at .i) (omega arith) (c .before .before .if1 .taken) ∙ rw (d, e) in
@@ -52,8 +54,9 @@ loop-less c = search needs
 
 loop-again : tie.Need-loop-again Inv-loop μ-loop
 loop-again c =
-    let at = c .before .before .before .before .before .loop in
-    let s = c .before .before .before .before .before .before .before .args .s .now in
+    let top = c .before .before .before .before .before in
+    let at = top .loop in
+    let s = top .before .before .args .s .now in
     let e : at .some ≡ true = not-false _ (c .if3 .left) in
     let d : at .second ≡ false = c .before .if2 .left in
     let t : termsFrom (at .second) (at .some) (drop (at .i) s) ≡ termsFrom true false (drop (at .i + 1) s) = terms-space (at .second) (at .some) s (at .i) (omega arith) (c .before .before .if1 .taken) ∙ rw (d, e) in
@@ -64,8 +67,9 @@ is-term-requires c κs = search needs
 
 returns-3 : tie.Need-returns-3 Inv-loop μ-loop
 returns-3 c =
-    let at = c .before .before .before .before .before .loop in
-    let s = c .before .before .before .before .before .before .before .args .s .now in
+    let top = c .before .before .before .before .before in
+    let at = top .loop in
+    let s = top .before .before .args .s .now in
     let e : termByte (getD s (at .i) 0) ≡ false = sym (c .before .is-term .ensures) ∙ not-true _ (c .if4 .taken) in
     let t : termsFrom (at .second) (at .some) (drop (at .i) s) ≡ false = terms-byte (at .second) (at .some) s (at .i) (omega arith) (c .before .before .if1 .left) ∙ rw e in
     sym t ∙ at .inv .1
@@ -75,24 +79,27 @@ loop-less-2 c = search needs
 
 loop-again-2 : tie.Need-loop-again-2 Inv-loop μ-loop
 loop-again-2 c =
-    let at = c .before .before .before .before .before .loop in
-    let s = c .before .before .before .before .before .before .before .args .s .now in
+    let top = c .before .before .before .before .before in
+    let at = top .loop in
+    let s = top .before .before .args .s .now in
     let e : termByte (getD s (at .i) 0) ≡ true = sym (c .before .is-term .ensures) ∙ not-false _ (c .if4 .left) in
     let t : termsFrom (at .second) (at .some) (drop (at .i) s) ≡ termsFrom (at .second) true (drop (at .i + 1) s) = terms-byte (at .second) (at .some) s (at .i) (omega arith) (c .before .before .if1 .left) ∙ rw e in
     (omega arith, sym t ∙ at .inv .1)
 
 returns-4 : tie.Need-returns-4 Inv-loop μ-loop
 returns-4 c =
-    let at = c .before .before .loop in
-    let s = c .before .before .before .before .args .s .now in
+    let top = c .before .before in
+    let at = top .loop in
+    let s = top .before .before .args .s .now in
     let e : at .second ≡ true = c .if5 .taken in
     let t : termsFrom (at .second) (at .some) (drop (at .i) s) ≡ at .some = terms-end (at .second) (at .some) s (at .i) (omega arith) ∙ rw e in
     sym t ∙ at .inv .1
 
 returns-5 : tie.Need-returns-5 Inv-loop μ-loop
 returns-5 c =
-    let at = c .before .before .loop in
-    let s = c .before .before .before .before .args .s .now in
+    let top = c .before .before in
+    let at = top .loop in
+    let s = top .before .before .args .s .now in
     let e : at .second ≡ false = c .if5 .left in
     let t : termsFrom (at .second) (at .some) (drop (at .i) s) ≡ false = terms-end (at .second) (at .some) s (at .i) (omega arith) ∙ rw e in
     sym t ∙ at .inv .1

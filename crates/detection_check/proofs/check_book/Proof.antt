@@ -3,8 +3,8 @@
 use Rattle.detection_check.proofs.CheckLaws.{verdict-long, Walked, walked-start, walked-on, walked-next, walked-done}
 use lib.ListN.{length}
 use native.Mathlib.Omega.{arith}
-use Prim.Native.Nat.{_-_}
-use denote.Ref.{now}
+use Prim.Native.Nat.{ℕ, _-_}
+use mathlib.Core.List.{List}
 use mathlib.Core.Path.{sym, _∙_}
 use borrow.Author.Needs.{needs}
 use Rattle.detection_check.proofs.check_book.Statement.{statement}
@@ -15,6 +15,14 @@ Inv-loop book walk₀ walk = Walked book walk
 
 abbrev μ-loop : tie.MeasureT-loop
 μ-loop book walk₀ walk = length book - walk .at
+
+-- where the next record was judged
+module _ (x : tie.After-check-next Inv-loop μ-loop) where
+  abbrev top : tie.At-loop Inv-loop μ-loop
+  top = x .before
+
+  abbrev bytes : List ℕ
+  bytes = top .before .before .before .args .book .now
 
 unsound-requires : tie.Need-unsound-requires Inv-loop μ-loop
 unsound-requires c κs = search needs
@@ -33,21 +41,22 @@ enum-known-w c = search needs
 
 loop-less : tie.Need-loop-less Inv-loop μ-loop
 loop-less c =
-    let a = c .before .before .before .before .before .before .before .args in
-    omega (arith, walked-on (now (a .book)) (c .before .before .before .before .loop .walk) (c .before .before .before .check-next .result) (c .before .before .before .before .loop .inv) (c .before .before .before .check-next .ensures) _ (c .before .w .given .1), walked-next (now (a .book)) (c .before .before .before .before .loop .walk) (c .before .before .before .check-next .result) (c .before .before .before .before .loop .inv) (c .before .before .before .check-next .ensures) _ (c .before .w .given .1) .within)
+    let x = c .before .before .before in
+    let g = c .before .w .given .1 in
+    omega (arith, walked-on (bytes x) (top x .loop .walk) (x .check-next .result) (top x .loop .inv) (x .check-next .ensures) _ g, walked-next (bytes x) (top x .loop .walk) (x .check-next .result) (top x .loop .inv) (x .check-next .ensures) _ g .within)
 
 loop-again : tie.Need-loop-again Inv-loop μ-loop
 loop-again c =
-    let a = c .before .before .before .before .before .before .before .args in
-    walked-next (now (a .book)) (c .before .before .before .before .loop .walk) (c .before .before .before .check-next .result) (c .before .before .before .before .loop .inv) (c .before .before .before .check-next .ensures) _ (c .before .w .given .1)
+    let x = c .before .before .before in
+    walked-next (bytes x) (top x .loop .walk) (x .check-next .result) (top x .loop .inv) (x .check-next .ensures) _ (c .before .w .given .1)
 
 enum-known-checked : tie.Need-enum-known-checked Inv-loop μ-loop
 enum-known-checked c = search needs
 
 returns-2 : tie.Need-returns-2 Inv-loop μ-loop
 returns-2 c =
-    let a = c .before .before .before .before .before .before .before .args in
-    record { answer = walked-done (now (a .book)) (c .before .before .before .before .loop .walk) (c .before .before .before .check-next .result) (c .before .before .before .before .loop .inv) (c .before .before .before .check-next .ensures) _ (c .before .checked .given .1) }
+    let x = c .before .before .before in
+    record { answer = walked-done (bytes x) (top x .loop .walk) (x .check-next .result) (top x .loop .inv) (x .check-next .ensures) _ (c .before .checked .given .1) }
 
 pub check-book-spec : {M : Type 1} → statement M
 check-book-spec =

@@ -9,6 +9,11 @@ use borrow.Author.Needs.{needs}
 use Rattle.detection_check.proofs.check_record.Statement.{statement}
 use Rattle.detection_check.proofs.check_record.Tie as tie
 
+-- where the record is sound, and its text counted
+module _ (x : tie.After-texts-after) where
+  abbrev start : tie.Start
+  start = x .before .before .before .before .before .before
+
 add-end : tie.Need-add-end
 add-end c = search needs
 
@@ -49,22 +54,25 @@ unsound-requires-2 c κs = search needs
 
 returns-2 : tie.Need-returns-2
 returns-2 c =
-    let a = c .before .before .before .before .before .before .before .before .args in
-    step-over (now (a .book)) (a .walk) (a .kind) (a .start) (a .len) (c .unsound2 .result) (c .before .before .texts-after .result) (c .unsound2 .ensures) (c .before .before .texts-after .ensures) (omega arith)
+    let x = c .before .before in
+    let a = start x .args in
+    step-over (now (a .book)) (a .walk) (a .kind) (a .start) (a .len) (c .unsound2 .result) (x .texts-after .result) (c .unsound2 .ensures) (x .texts-after .ensures) (omega arith)
 
 returns-3 : tie.Need-returns-3
 returns-3 c =
-    let a = c .before .before .before .before .before .before .before .before .args in
-    let p = c .before .before .before .before .before .before .before .before .pre in
-    step-name (now (a .book)) (a .walk) (a .kind) (a .start) (a .len) (c .before .before .texts-after .result) (c .before .before .texts-after .ensures) (omega arith)
-    (sym (c .before .before .before .before .record-sound .ensures) ∙ not-false _ (c .before .before .before .if1 .left)) (p .0) (p .1) (p .2) (c .if3 .taken)
+    let x = c .before .before in
+    let a = start x .args in
+    let p = start x .pre in
+    step-name (now (a .book)) (a .walk) (a .kind) (a .start) (a .len) (x .texts-after .result) (x .texts-after .ensures) (omega arith)
+    (sym (x .before .before .record-sound .ensures) ∙ not-false _ (x .before .if1 .left)) (p .0) (p .1) (p .2) (c .if3 .taken)
 
 returns-4 : tie.Need-returns-4
 returns-4 c =
-    let a = c .before .before .before .before .before .before .before .before .args in
-    let p = c .before .before .before .before .before .before .before .before .pre in
-    step-other (now (a .book)) (a .walk) (a .kind) (a .start) (a .len) (c .before .before .texts-after .result) (c .before .before .texts-after .ensures) (omega arith)
-    (sym (c .before .before .before .before .record-sound .ensures) ∙ not-false _ (c .before .before .before .if1 .left)) (p .0) (p .1) (p .2) (c .if3 .left)
+    let x = c .before .before in
+    let a = start x .args in
+    let p = start x .pre in
+    step-other (now (a .book)) (a .walk) (a .kind) (a .start) (a .len) (x .texts-after .result) (x .texts-after .ensures) (omega arith)
+    (sym (x .before .before .record-sound .ensures) ∙ not-false _ (x .before .if1 .left)) (p .0) (p .1) (p .2) (c .if3 .left)
 
 pub check-record-spec : {M : Type 1} → statement M
 check-record-spec =

@@ -11,6 +11,14 @@ use borrow.Author.Needs.{needs}
 use Rattle.detection_check.proofs.record_sound.Statement.{statement}
 use Rattle.detection_check.proofs.record_sound.Tie as tie
 
+-- where the body was judged: what is asked, and that the kind may follow
+module _ (x : tie.After-body-sound) where
+  abbrev start : tie.Start
+  start = x .before .before .before .before .before
+
+  may : follows (start .args .before) (start .args .kind) ≡ true
+  may = sym (x .before .before .follows .ensures) ∙ not-false _ (x .before .if1 .left)
+
 follows-requires : tie.Need-follows-requires
 follows-requires c κs = search needs
 
@@ -27,17 +35,17 @@ body-sound-requires c κs = search needs
 returns-2 : tie.Need-returns-2
 unfolding recordSound
 returns-2 c =
-    let a = c .before .before .before .before .before .before .args in
+    let a = start (c .before) .args in
     let e : soundBody (record { kind = a .kind; body = now (a .body) }) ≡ false = sym (c .before .body-sound .ensures) ∙ not-true _ (c .if2 .taken) in
     simp (e, and-false)
 
 returns-3 : tie.Need-returns-3
 unfolding recordSound
 returns-3 c =
-    let a = c .before .before .before .before .before .before .before .args in
-    let d : follows (a .before) (a .kind) ≡ true = sym (c .before .before .before .before .follows .ensures) ∙ not-false _ (c .before .before .before .if1 .left) in
-    let e : soundBody (record { kind = a .kind; body = now (a .body) }) ≡ true = sym (c .before .before .body-sound .ensures) ∙ not-false _ (c .before .if2 .left) in
-    simp (d, e, ne-eqb (a .kind) 1 (c .if3 .taken))
+    let x = c .before .before in
+    let a = start x .args in
+    let e : soundBody (record { kind = a .kind; body = now (a .body) }) ≡ true = sym (x .body-sound .ensures) ∙ not-false _ (c .before .if2 .left) in
+    simp (may x, e, ne-eqb (a .kind) 1 (c .if3 .taken))
 
 above-requires : tie.Need-above-requires
 above-requires c κs = search needs
@@ -45,10 +53,10 @@ above-requires c κs = search needs
 returns-4 : tie.Need-returns-4
 unfolding recordSound
 returns-4 c =
-    let a = c .before .before .before .before .before .before .before .before .args in
-    let d : follows (a .before) (a .kind) ≡ true = sym (c .before .before .before .before .before .follows .ensures) ∙ not-false _ (c .before .before .before .before .if1 .left) in
-    let e : soundBody (record { kind = a .kind; body = now (a .body) }) ≡ true = sym (c .before .before .before .body-sound .ensures) ∙ not-false _ (c .before .before .if2 .left) in
-    c .above .ensures ∙ simp (d, e, eq-eqb (a .kind) 1 (c .before .if3 .left))
+    let x = c .before .before .before in
+    let a = start x .args in
+    let e : soundBody (record { kind = a .kind; body = now (a .body) }) ≡ true = sym (x .body-sound .ensures) ∙ not-false _ (c .before .before .if2 .left) in
+    c .above .ensures ∙ simp (may x, e, eq-eqb (a .kind) 1 (c .before .if3 .left))
 
 pub record-sound-spec : {M : Type 1} → statement M
 record-sound-spec =

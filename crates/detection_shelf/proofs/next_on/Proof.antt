@@ -12,6 +12,10 @@ use borrow.Author.Needs.{needs}
 use Rattle.detection_shelf.proofs.next_on.Statement.{statement}
 use Rattle.detection_shelf.proofs.next_on.Tie as tie
 
+-- the start, from where the spot is of the first book
+abbrev begun : tie.Else1 → tie.Start
+begun x = x .before .before .before .before
+
 next-text-requires : tie.Need-next-text-requires
 next-text-requires c κs =
     let start = c .before .before .before .before in
@@ -28,14 +32,14 @@ returns c =
 
 next-text-requires-2 : tie.Need-next-text-requires-2
 next-text-requires-2 c κs =
-    let start = c .before .before .before .before .before .before .before in
+    let start = begun (c .before .before .before) in
     let s = shelf (now (start .args .first)) (now (start .args .second)) in
     let p = spot-in s (start .args .spot) false (start .pre .1 .0) (c .before .before .before .if1 .left) in
     (p .0, omega (arith, c .if2 .taken, start .pre .0 .first))
 
 returns-2 : tie.Need-returns-2
 returns-2 c =
-    let start = c .before .before .before .before .before .before .before .before in
+    let start = begun (c .before .before .before .before) in
     let s = shelf (now (start .args .first)) (now (start .args .second)) in
     let p = spot-in s (start .args .spot) false (start .pre .1 .0) (c .before .before .before .before .if1 .left) in
     (stands-of s false _ _ _ (c .next-text2 .ensures) (omega (arith, c .before .if2 .taken, start .pre .0 .first)) (p .2), refl)
@@ -45,7 +49,7 @@ first-place-requires c κs = search needs
 
 next-text-requires-3 : tie.Need-next-text-requires-3
 next-text-requires-3 c κs =
-    let start = c .before .before .before .before .before .before .before .before in
+    let start = begun (c .before .before .before .before) in
     let s = shelf (now (start .args .first)) (now (start .args .second)) in
     let p = spot-in s (start .args .spot) false (start .pre .1 .0) (c .before .before .before .before .if1 .left) in
     rw (c .first-place .ensures) (
@@ -55,7 +59,7 @@ next-text-requires-3 c κs =
 
 returns-3 : tie.Need-returns-3
 returns-3 c =
-    let start = c .before .before .before .before .before .before .before .before .before in
+    let start = begun (c .before .before .before .before .before) in
     let s = shelf (now (start .args .first)) (now (start .args .second)) in
     let p = spot-in s (start .args .spot) false (start .pre .1 .0) (c .before .before .before .before .before .if1 .left) in
     let f = found-at (ap (λ (x : Place). x .number) (c .before .first-place .ensures)) (c .next-text3 .ensures) in

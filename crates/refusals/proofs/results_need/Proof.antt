@@ -21,7 +21,7 @@ not-optimized lines mode o p e t = rw (e, t)
 returns : tie.Need-returns
 returns c =
     let k = c .before .before .before in
-    optimized _ _ _ _ _ (k .mode .given .1) (c .before .if1 .taken) (c .wide .ensures)
+    optimized _ _ _ _ _ (k .mode .given .1) (c .before .if1 .taken) (c .passes-wide .ensures)
 
 returns-2 : tie.Need-returns-2
 returns-2 c =

@@ -16,6 +16,10 @@ Inv-loop book k text₀ text = Found book (text .number) text × (text .number �
 abbrev μ-loop : tie.MeasureT-loop
 μ-loop book k text₀ text = k - text .number
 
+-- the start, from the loop's head
+abbrev start : tie.At-loop Inv-loop μ-loop → tie.Start Inv-loop μ-loop
+start top = top .before .before .before .before
+
 first-place-requires : tie.Need-first-place-requires Inv-loop μ-loop
 first-place-requires c κs = search needs
 
@@ -36,8 +40,8 @@ after-text-requires c κs =
 
 next-text-requires-2 : tie.Need-next-text-requires-2 Inv-loop μ-loop
 next-text-requires-2 c κs =
-    let f = c .before .before .before .loop .inv .0 in
-    rw (c .after-text .ensures) (f .on, omega (arith, c .before .before .before .before .before .before .before .pre .1))
+    let top = c .before .before .before in
+    rw (c .after-text .ensures) (top .loop .inv .0 .on, omega (arith, start top .pre .1))
 
 loop-less : tie.Need-loop-less Inv-loop μ-loop
 loop-less c =
