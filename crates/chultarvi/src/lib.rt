@@ -12,6 +12,7 @@ use compile::compile;
 use detection_check::check_book;
 use rules::Limits;
 use rules::Mode;
+use rules::NAME_MOST;
 use rules::Scanned;
 use rules::View;
 use scan_job::scan;
@@ -129,7 +130,7 @@ pub struct NoteScanned {
     pub score: f32,
     pub kind: u32,
     pub len: u32,
-    pub name: [u8; 64],
+    pub name: [u8; NAME_MOST],
     pub second: bool,
     pub at: usize,
 }

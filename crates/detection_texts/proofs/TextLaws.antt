@@ -3,6 +3,7 @@
 --     before-next       past a record that is no stored text
 --     found-as          at one that is
 --     not-done          while a text is to come, the records neither end nor break off
+--     on-record         one record of the way to a text: it fits, the way stands as it should after it, and less is ahead
 -- Assumes nothing.
 use mathlib.Core.Path.{_≡_, refl, sym, ap, _∙_, subst}
 use mathlib.Core.Bool.{Bool, true, false, not, _&&_, _||_, cond, false≢true}

@@ -2,6 +2,7 @@
 ghost use mathlib.Core.Path.{_≡_};
 ghost use Prim.Native.Nat.{_+_, _-_, _≤_, min};
 ghost use lib.ListN.{length};
+ghost use Rattle.rules.specs.Sizes.{textMost};
 ghost use Rattle.lists.specs.Wrote.{Front};
 ghost use Rattle.questions.specs.Fields.{textOf, numberOf};
 use crate::hex::unhex;
@@ -22,7 +23,7 @@ fn read_end(start: usize, end: usize, most: usize) -> usize
 
 // The text that word k stands for, or as much of it as there is room for; answers its length.
 pub fn text_at(line: &[u8], k: usize, text: &mut [u8]) -> usize
-    requires { ⌜ length (now text) ≤ 1048576 ⌝ }
+    requires { ⌜ length (now text) ≤ textMost ⌝ }
     ensures { λ r. ⌜ Front (textOf (length (now (text .entry))) k (now (line .entry))) r (now (text .exit)) ⌝ }
 {
     let w = word(line, k);

@@ -1,6 +1,6 @@
 // A reader that is lent a book's bytes, holds its place and yields the record there. The functions over it are thin: each takes it
-// apart and leaves the work to `record_at`, and `read`, whose parameters are plain, stands above them for everyone else.
-// Assumes nothing.
+// apart and leaves the work to `record_at`. detection_texts moves one from record to record; `read`, whose parameters are plain, is for
+// who looks at one place. Assumes nothing.
 ghost use mathlib.Core.Path.{_≡_};
 ghost use Rattle.rules.specs.Book.{recordAt};
 ghost use Rattle.records.specs.Places.{atOf};

@@ -1,28 +1,22 @@
 -- A score is no NaN, so that it has bits.
 -- Assumes nothing.
 use mathlib.Core.Path.{_≡_, ap}
-use mathlib.Core.Bool.{true, not}
+use mathlib.Core.Bool.{true}
 use mathlib.Core.List.{List, []}
 use Prim.Native.Nat.{ℕ}
 use native.Mathlib.Omega.{arith}
 use lib.Dec.{T}
-use lib.Ieee.{Float, nan, inf, fin, le, isNan}
 use lib.Seq.{slice}
 use Rattle.rules.specs.Table.{Table, bigrams, tableOf, valueOf}
 use Rattle.rules.specs.Book.{entriesOf, soundTable, tableIn, Proper}
 use Rattle.rules.specs.Refusal.{unit}
 use Rattle.rules.proofs.TableLaws.{table-proper, value-unit, sound-entries-rising}
 use Rattle.rules.proofs.SoundLaws.{table-sound}
+pub use Rattle.rules.proofs.ScoreLaws.{no-nan}
 use Rattle.ngram_table.specs.Tables.{tableAt}
 use Rattle.license_views.specs.declared.Viewed.{Viewed}
 use Rattle.license_views.specs.Tabled.{Tabled, tableOver}
 use Rattle.detection_shelf.specs.Bodies.{tableOfBody}
-
-pub no-nan : (x : Float) → T (unit x) → T (not (isNan x))
-unfolding unit le isNan
-no-nan nan t = t
-no-nan (inf s) t = tt
-no-nan (fin s m e) t = tt
 
 -- ---- a view's table and a sound body's
 view-proper : {n : ℕ} {area words : List ℕ} {t : Viewed} → Tabled n area words t → Proper (tableOver area t)

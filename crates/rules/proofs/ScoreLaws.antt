@@ -1,14 +1,14 @@
 -- What document 01 says of a score, over m and the two totals: `score-facts`. By m and t alone it is 2 m / t rounded once
--- (`score-by-t`), and with the same totals more shared gives no lower a score (`score-mono`).
+-- (`score-by-t`), and with the same totals more shared gives no lower a score (`score-mono`). From 0.0 to 1.0 is no NaN (`no-nan`).
 -- Assumes nothing.
 use mathlib.Core.Path.{_≡_, refl, sym, ap, ap₂, _∙_}
 use mathlib.Core.Logic.{_↔_, inl, inr}
 use Prim.Native.Nat.{ℕ, _+_, _*_, _≤_, _<_, zero-le}
 use native.Mathlib.Nat.{add-comm, mul-le-mul-right, eq-zero-or-pos, eq-or-lt-of-le}
 use native.Mathlib.Omega.{arith}
-use mathlib.Core.Bool.{Bool, true, false, _||_, cond}
+use mathlib.Core.Bool.{Bool, true, false, not, _||_, cond}
 use lib.Dec.{T, eqb}
-use lib.Ieee.{Float, binary32, div, le, fits}
+use lib.Ieee.{Float, nan, inf, fin, isNan, binary32, div, le, fits}
 use lib.Ieee.Fits.{and-i, round-fits}
 use lib.Ieee.Order.{round-mono}
 use borrow.Author.Tests.{eq-eqb, eqb-true}
@@ -113,3 +113,10 @@ score-mono m n a b l h k A B = elim (eq-zero-or-pos (a + b)) [
       rw (score-by-t m a b (omega arith) (omega arith) A B P, score-by-t n a b h k A B P)
       (round-mono binary32 (2 * m) (a + b) (2 * n) (a + b) P P (mul-le-mul-right (a + b) le-two))
 ]
+
+-- ---- and it has bits
+pub no-nan : (x : Float) → T (unit x) → T (not (isNan x))
+unfolding unit le isNan
+no-nan nan t = absurd t
+no-nan (inf s) t = tt
+no-nan (fin s m e) t = tt

@@ -29,6 +29,7 @@ use license_notes::lay;
 use refusals::admit_scan;
 use rules::Limits;
 use rules::Mode;
+use rules::NAME_MOST;
 use rules::Named;
 use rules::Scanned;
 use scan_elimination::Outcome;
@@ -227,7 +228,7 @@ fn refused(refusal: u32) -> Scanned
     };
     Scanned {
         refusal,
-        name: [0; 64],
+        name: [0; NAME_MOST],
         len: 0,
         kind: 0,
         score: 0.0,

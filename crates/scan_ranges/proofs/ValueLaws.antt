@@ -1,17 +1,16 @@
--- The score of bounds is a scoring's, so from 0.0 to 1.0, and no NaN.
---     no-nan            a value from 0.0 to 1.0 is no NaN
+-- The score of bounds is a scoring's, so from 0.0 to 1.0.
 --     search-value      what holds of every index's value holds of the value that a search finds
 --     stands-sound      a stored text that the code has found is sound
 --     bounds-unit       the score of bounds is from 0.0 to 1.0
 -- Assumes nothing.
 use mathlib.Core.Path.{_≡_, refl, sym, subst}
-use mathlib.Core.Bool.{Bool, true, false, not}
+use mathlib.Core.Bool.{Bool, true, false}
 use mathlib.Core.List.{List}
 use Prim.Native.Nat.{ℕ, zero, suc, _+_, _-_, _*_, _≤_, _<_}
 use native.Mathlib.Nat.{not-suc-le-zero}
 use native.Mathlib.Omega.{arith}
 use lib.Dec.{T, leb}
-use lib.Ieee.{Float, nan, inf, fin, isNan, lt, le}
+use lib.Ieee.{lt, le}
 use borrow.Author.Tests.{leb-true, leb-false}
 use Rattle.rules.specs.declared.Index.{Index}
 use Rattle.rules.specs.declared.Value.{Value}
@@ -33,12 +32,6 @@ use Rattle.detection_shelf.specs.declared.Shelved.{Shelved}
 use Rattle.detection_shelf.specs.declared.Counts.{Counts}
 use Rattle.detection_shelf.proofs.ShelfLaws.{stands-text, stands-inside, counted-sound}
 use Rattle.detection_shelf.specs.Shelves.{Shelf, texts, Counted, textIn, Stands}
-
-pub no-nan : (x : Float) → T (unit x) → T (not (isNan x))
-unfolding unit le isNan
-no-nan nan t = absurd t
-no-nan (inf s) t = tt
-no-nan (fin s m e) t = tt
 
 -- ---- what holds of every value
 module _ (P : Value → Type 0) (scoreAt : ℕ → Made Value) (each : (i : ℕ) → P (scoreAt i .value)) where

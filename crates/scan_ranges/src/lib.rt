@@ -23,10 +23,8 @@ use license_charge::Scorings;
 use license_charge::count_of;
 use rules::Bounds;
 use rules::Limits;
+use rules::RECORD_WIDTH;
 use rules::View;
-
-// The numbers of a record in the results area.
-pub const RECORD_WIDTH: usize = 4;
 
 // What a scan works on: the note's bytes and lines, how many texts the books store, and the limits.
 pub struct Scope {

@@ -1,7 +1,7 @@
 -- `scan_ranges::put_record` meets its contract: a score from 0.0 to 1.0 is no NaN.
 -- Assumes nothing.
 use borrow.Author.Needs.{needs}
-use Rattle.scan_ranges.proofs.ValueLaws.{no-nan}
+use Rattle.rules.proofs.ScoreLaws.{no-nan}
 use Rattle.scan_ranges.proofs.put_record.Statement.{statement}
 use Rattle.scan_ranges.proofs.put_record.Tie as tie
 
