@@ -17,7 +17,8 @@ use Rattle.rules.proofs.BoolLaws.{cond-of}
 use Rattle.rules.proofs.FloatOrder.{lt-between}
 use Rattle.floors.specs.Floors.{beats, Judged}
 use Rattle.ngram_score.proofs.FloorLaws.{beats-lowest}
-use Rattle.detect.specs.Bests.{toBeat, Alike, same, both-below}
+use Rattle.detect_best.specs.Beats.{toBeat}
+use Rattle.detect.specs.Bests.{Alike, same, both-below}
 
 -- ---- the better of two, by its cases
 better-any : (P : Best → Type 0) (b n : Best) → P b → P n → P (better b n)

@@ -39,10 +39,11 @@ use Rattle.license_notes.specs.Laid.{Held}
 use Rattle.detection_shelf.specs.Bodies.{tableOfBody}
 use Rattle.license_charge.specs.Pay.{Paid, pay}
 use Rattle.license_charge.proofs.PayLaws.{pay-done, pay-one, pay-none}
-use Rattle.detect.specs.declared.Best.{Best}
+use Rattle.detect_best.specs.declared.Best.{Best}
 use Rattle.detect.specs.declared.Chosen.{Chosen}
 use Rattle.detect.specs.declared.Chosen.the-variants as chosen
-use Rattle.detect.specs.Bests.{bestIn, chosenIn, ChosenStands, Betters, toBeat, Alike, same, ChosenFor, BestOf, BestAbove, BestDone}
+use Rattle.detect_best.specs.Beats.{bestIn, Betters, toBeat}
+use Rattle.detect.specs.Bests.{chosenIn, ChosenStands, Alike, same, ChosenFor, BestOf, BestAbove, BestDone}
 use Rattle.detect.proofs.AlikeLaws.{better-unit, alike-next, alike-lowest}
 
 -- ---- the better of two

@@ -30,7 +30,6 @@ use Rattle.detection_shelf.specs.declared.Counts.{Counts}
 use Rattle.detection_texts.specs.Texts.{part, nameAt, Before, TextIs, Found}
 use Rattle.detection_shelf.specs.Shelves.{Shelf, booksOf, Lends, texts, bookIn, ahead, Counted, BeforeOn, Stands, bodyIn, textIn, partOf, partsOf, firstSpot, afterOn, fitting}
 use Rattle.detection_texts.proofs.TextLaws.{before-first, found-at}
-use Rattle.rules.specs.Jobs.{lent}
 use Rattle.detection_shelf.specs.Bodies.{tableOfBody}
 
 -- ---- the lent books, one or two

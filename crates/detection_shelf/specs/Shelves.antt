@@ -6,7 +6,7 @@ use Prim.Native.Nat.{ℕ, _+_, _≤_, _<_}
 use mathlib.Core.Bool.{Bool, true, false, cond}
 use mathlib.Core.List.{List, [], _∷_}
 use lib.Dec.{leb}
-use lib.ListN.{length, take}
+use lib.ListN.{length}
 use Rattle.rules.specs.declared.Named.{Named}
 use Rattle.rules.specs.Search.{Stored}
 use Rattle.rules.specs.Book.{entriesOf, tableIn, stored, sound, shelved, noPart, nameParts}

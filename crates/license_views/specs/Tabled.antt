@@ -6,7 +6,7 @@ use Prim.Native.Nat.{ℕ, _+_, _*_, _≤_}
 use lib.ListN.{length, drop}
 use lib.Seq.{slice}
 use Rattle.rules.specs.declared.View.{View}
-use Rattle.rules.specs.Search.{view, viewed}
+use Rattle.rules.specs.Search.{viewed}
 use Rattle.rules.specs.Table.{Table, bigrams, tableOf}
 use Rattle.rules.specs.Sizes.{textMost, totalMost}
 use Rattle.preproc_table.specs.Entries.{tableEnd, linesAt}

@@ -3,7 +3,7 @@
 -- Assumes nothing.
 use mathlib.Core.Path.{_≡_, refl, sym, ap, _∙_}
 use mathlib.Core.List.{List, [], _++_, append-assoc}
-use Prim.Native.Nat.{ℕ, zero, suc, _+_, _*_, _-_, _≤_, _<_}
+use Prim.Native.Nat.{ℕ, zero, suc, _+_, _*_, _≤_, _<_}
 use native.Mathlib.Omega.{arith}
 use lib.ListN.{length, take, drop, getD, length-append, length-drop}
 use lib.Seq.{paste}
@@ -15,7 +15,7 @@ use Rattle.records.specs.Written.{putAt}
 use Rattle.records.proofs.NumberLaws.{length-written, put-two}
 use Rattle.sort_spread.specs.Sort.{partOf}
 use Rattle.sort_tally.specs.Group.{entriesAt}
-use Rattle.sort_parts.proofs.PartLaws.{part-front, part-short}
+use Rattle.sort_order.proofs.PartLaws.{part-front, part-short}
 use Rattle.ngram_table.specs.Tables.{tableAt}
 use Rattle.ngram_body.specs.Bodies.{entryOut}
 use Rattle.ngram_table.proofs.LeftLaws.{viewLeft, viewEntry, view-next, view-end}

@@ -14,7 +14,7 @@ use ngram_table::TableSize;
 use records::numbers::write_u32;
 use slices::copy::copy_to;
 use slices::wide::wide;
-use sort_parts::part_end;
+use sort_order::part_end;
 
 // The entry of the bigram that starts at a: its count, its length, its bytes, at `at` of the output. The place behind it comes back.
 fn put_entry(text: &[u8], a: usize, count: u32, out: &mut [u8], at: usize) -> usize

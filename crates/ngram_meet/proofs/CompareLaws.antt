@@ -12,7 +12,7 @@ use Rattle.lists.proofs.SliceLaws.{slice-next, slice-done}
 use Rattle.rules.specs.Bytes.{order}
 use Rattle.rules.proofs.OrderLaws.{Compared, compared, compare-is}
 use Rattle.sort_spread.specs.Sort.{endsPart, marksLeft, partOf}
-use Rattle.sort_parts.proofs.PartLaws.{part-none, part-ended, part-next}
+use Rattle.sort_order.proofs.PartLaws.{part-none, part-ended, part-next}
 use Rattle.ngram_meet.specs.declared.Place.the-variants.{Before, Same, After}
 use Rattle.ngram_meet.specs.Meeting.{placeOf}
 

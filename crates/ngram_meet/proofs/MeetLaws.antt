@@ -36,10 +36,7 @@ use Rattle.floors.specs.declared.Floor.{Floor}
 use Rattle.ngram_score.specs.Shares.{Useless, Reached}
 use Rattle.floors.specs.Floors.{Judged}
 use Rattle.ngram_score.proofs.FloorLaws.{judged}
-use Rattle.ngram_table.proofs.LeftLaws.{viewLeft}
-use Rattle.ngram_table.proofs.LeftLaws.{viewEntry}
-use Rattle.ngram_table.proofs.LeftLaws.{view-end}
-use Rattle.ngram_table.proofs.LeftLaws.{view-next}
+use Rattle.ngram_table.proofs.LeftLaws.{viewLeft, viewEntry, view-end, view-next}
 
 -- ---- the stored entry at a place
 abbrev pub entryEnd : List ℕ → ℕ → ℕ

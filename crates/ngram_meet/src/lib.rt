@@ -23,8 +23,8 @@ use ngram_table::TableSize;
 use records::numbers::read_u32;
 use rules::Value;
 use slices::wide::wide;
-use sort_parts::ends_part;
-use sort_parts::marks_left;
+use sort_order::ends_part;
+use sort_order::marks_left;
 
 // Where one byte string stands to another.
 pub enum Place {

@@ -1,7 +1,7 @@
 -- How much two tables share, as far as it matters to what has to be beaten.
 -- Assumes nothing.
 use mathlib.Core.Path.{_≡_}
-use mathlib.Core.Bool.{false, not}
+use mathlib.Core.Bool.{false}
 use Prim.Native.Nat.{ℕ, _≤_, _<_}
 use Rattle.rules.specs.Table.{score}
 use Rattle.floors.specs.declared.Floor.{Floor}

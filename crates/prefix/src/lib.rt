@@ -3,7 +3,7 @@
 // SPDX-License-Identifier: Apache-2.0), changed. Assumes nothing.
 ghost use mathlib.Core.Path.{_≡_};
 ghost use mathlib.Core.Bool.{true};
-ghost use Prim.Native.Nat.{_+_, _*_, _≤_};
+ghost use Prim.Native.Nat.{_+_, _≤_};
 ghost use lib.ListN.{length, take};
 ghost use Rattle.rules.specs.Sizes.{textMost, byteArea, wordArea};
 ghost use Rattle.rules.specs.Search.{viewed};

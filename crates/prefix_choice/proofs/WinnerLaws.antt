@@ -17,7 +17,7 @@ use Rattle.rules.specs.Table.{tallied, occurs}
 use Rattle.rules.proofs.PrefixLaws.{firstMost, without-prefix, same-self}
 use Rattle.sort_spread.specs.Sort.{partOf, InOrder, Leads}
 use Rattle.sort_tally.specs.Group.{Group, starts, counts, entriesAt, partsAt}
-use Rattle.sort_parts.proofs.PartLaws.{part-front, part-short}
+use Rattle.sort_order.proofs.PartLaws.{part-front, part-short}
 use Rattle.sort_tally.proofs.TallyLaws.{part, entries-read, groups-tallied}
 use Rattle.sort_tally.proofs.StableLaws.{Has, has-cases, has-here, has-more, has-none, Climbing, climbing-skip, Kept, grouped, covered, group-has, group-count}
 use Rattle.prefix_list.specs.Listing.{plain}

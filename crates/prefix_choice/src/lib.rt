@@ -15,7 +15,7 @@ ghost use Rattle.prefix_list.specs.Listing.{plain};
 ghost use Rattle.prefix_choice.specs.Choice.{Beaten, Listed, Tabled, Decided};
 use slices::two::starts_with;
 use slices::wide::wide;
-use sort_parts::part_end;
+use sort_order::part_end;
 use sort_parts::sort_parts;
 use sort_tally::group_parts;
 

@@ -3,10 +3,8 @@
 // SPDX-License-Identifier: Apache-2.0), changed: its strings are places in one lent area. Assumes that the lent table is that of the
 // classes.
 ghost use mathlib.Core.Path.{_≡_};
-ghost use mathlib.Core.List.{_++_};
-ghost use Prim.Native.Nat.{_+_, _-_, _*_, _≤_, _<_};
-ghost use lib.ListN.{length, take, drop};
-ghost use lib.Seq.{slice};
+ghost use Prim.Native.Nat.{_+_, _*_, _≤_, _<_};
+ghost use lib.ListN.{length};
 ghost use Rattle.preproc_table.specs.Entries.{startAt, endAt};
 ghost use Rattle.rules.specs.Bytes.{join};
 ghost use Rattle.slices.specs.Classes.{classTable};

@@ -1,20 +1,16 @@
 // Aggressive passes 2 to 8 on the first n bytes of a lent part, in place. Each is one walk that writes no faster than it reads.
 // From detection/preproc.rs of spdx 0.13.6 (Copyright 2018-2019 Amazon.com, Inc. or its affiliates. All Rights Reserved.
-// SPDX-License-Identifier: Apache-2.0), changed: its replacements, as walks over lent memory. Assumes that the lent table is that of the
-// classes.
+// SPDX-License-Identifier: Apache-2.0), changed: its replacements, as walks over lent memory. Assumes that the lent table is that of the classes.
 ghost use mathlib.Core.Path.{_≡_};
-ghost use mathlib.Core.Bool.{true};
 ghost use mathlib.Core.List.{map};
-ghost use Prim.Native.Nat.{_≤_, _<_};
-ghost use lib.Dec.{eqb};
-ghost use lib.ListN.{length, take, drop};
+ghost use Prim.Native.Nat.{_≤_};
+ghost use lib.ListN.{length, take};
 ghost use Rattle.lists.specs.Wrote.{Front};
-ghost use Rattle.rules.specs.Passes.{lowered, hit, withoutCopyright};
+ghost use Rattle.rules.specs.Passes.{lowered};
 ghost use Rattle.rules.specs.Passes;
 ghost use Rattle.slices.specs.Classes.{classTable};
 ghost use Rattle.preproc_view.specs.Rows.{Stands, firstPasses, lastPasses};
-use preproc_copyright::hit_a;
-use preproc_copyright::hit_len;
+use preproc_cut::without_copyright;
 use preproc_runs::cap_runs;
 use preproc_runs::join_runs;
 use preproc_runs::keep_in;
@@ -29,52 +25,6 @@ use slices::class::VERTICAL_LOW;
 use slices::class::in_class;
 use slices::ends::Span;
 use slices::ends::bare;
-
-// What the hit at the place takes, or 0. Inside a line only a newline can begin one, so that one test sees that none does.
-fn hit_at(class: &[u8; 256], s: &[u8], at: usize, fresh: bool) -> usize
-    requires { ⌜ (now class ≡ classTable) × (at < length (now s)) ⌝ }
-    ensures { λ r. ⌜ r ≡ hit (eqb at 0) fresh (drop at (now (s .entry))) ⌝ }
-{
-    if at == 0 {
-        return hit_len(class, s, at, true, fresh);
-    }
-    if fresh {
-        return hit_len(class, s, at, false, true);
-    }
-    if s[at] == b'\n' {
-        return hit_a(s, at, false);
-    }
-    0
-}
-
-// Pass 6: each hit becomes two newlines. Linear: what a hit takes is read again by none, and tries that fail read different lines (A),
-// one line (B) or the spaces behind different words (C).
-pub fn without_copyright(class: &[u8; 256], buf: &mut [u8], n: usize) -> usize
-    requires { ⌜ (now class ≡ classTable) × (n ≤ length (now buf)) ⌝ }
-    ensures { λ r. ⌜ Front (withoutCopyright true true 0 (take n (now (buf .entry)))) r (now (buf .exit)) ⌝ }
-{
-    let mut i = 0;
-    let mut w = 0;
-    let mut fresh = true;
-    while i < n {
-        let k = hit_at(class, &buf[..n], i, fresh);
-        if k == 0 {
-            let b = buf[i];
-            i += 1;
-            fresh = b == b'\n';
-            buf[w] = b;
-            w += 1;
-        } else {
-            i += k;
-            fresh = buf[i - 1] == b'\n';
-            buf[w] = b'\n';
-            w += 1;
-            buf[w] = b'\n';
-            w += 1;
-        }
-    }
-    w
-}
 
 // A byte in lower case.
 fn lower(class: &[u8; 256], b: u8) -> u8

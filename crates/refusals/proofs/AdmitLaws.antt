@@ -39,7 +39,8 @@ use Rattle.detection_shelf.specs.declared.Counts.{Counts}
 use Rattle.detection_shelf.specs.Shelves.{Shelf, booksOf, Lends, texts, Counted}
 use Rattle.detection_shelf.proofs.ShelfLaws.{lent-read}
 use Rattle.refusals.specs.declared.Admitted.{Admitted}
-use Rattle.refusals.specs.Admits.{Admits, AdmitsBooks, AdmitsView, Through, ViewThrough, ScanThrough, smallFor, viewRows, scanRows}
+use Rattle.refusals.specs.Admits.{Admits, AdmitsBooks, AdmitsView, Through, ViewThrough, ScanThrough}
+use Rattle.refusals_rows.specs.Rows.{smallFor, viewRows, scanRows}
 use Rattle.refusals.proofs.AreaLaws.{BothAfter, kept}
 
 -- ---- rows

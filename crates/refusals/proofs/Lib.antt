@@ -1,2 +1,2 @@
-pub mod AdmitLaws
 pub mod AreaLaws
+pub mod AdmitLaws

@@ -2,16 +2,15 @@
 -- Assumes nothing.
 use mathlib.Core.Path.{_≡_}
 use Prim.Native.Nat.{ℕ, _≤_, _<_}
-use mathlib.Core.Bool.{Bool, true, false, not, _&&_, _||_}
-use mathlib.Core.List.{List, [], _∷_, _++_}
-use lib.Dec.{leb, ltb}
+use mathlib.Core.Bool.{Bool, true, false}
+use mathlib.Core.List.{List, _++_}
 use lib.ListN.{length}
 use Rattle.rules.specs.declared.Limits.{Limits}
 use Rattle.rules.specs.declared.Mode.{Mode}
 use Rattle.rules.specs.declared.View.{View}
 use Rattle.rules.specs.Sizes.{textMost, linesMost, byteArea, wordArea}
 use Rattle.rules.specs.Lines.{lineCount}
-use Rattle.rules.specs.Refusal.{Row, row, refusal, Areas, ofText, ofBooks, ofView, beforeScan, unit, stepZero, resultsNeed}
+use Rattle.rules.specs.Refusal.{Row, refusal, Areas, ofText, ofBooks, ofView, beforeScan, unit, stepZero, resultsNeed}
 use Rattle.detection_shelf.specs.Shelves.{Shelf, booksOf, texts, Counted}
 use Rattle.refusals.specs.declared.Admitted.{Admitted}
 
@@ -29,22 +28,6 @@ AdmitsView t books two v k a r = Admits t books (ofView t (booksOf books two) v 
 
 abbrev pub AdmitsScan : (t : List ℕ) (books : Shelf) (two : Bool) (lim : Limits) (mode : Mode) (a : Areas) (results : ℕ) (r : Admitted) → Type 0
 AdmitsScan t books two lim mode a results r = Admits t books (beforeScan t (booksOf books two) lim mode a results) r
-
--- the rows that follow those five, over the text's length, L and N
-abbrev pub smallFor : ℕ → Areas → Bool
-smallFor n a = ltb (a .bytes) (byteArea n) || ltb (a .words) (wordArea n)
-
-unfoldable pub viewRows : (n lines texts : ℕ) → View → ℕ → Areas → List Row
-viewRows n lines texts v k a =
-    row 8 (not (leb (v .start) (v .end) && leb (v .end) lines)) ∷
-    row 9 (leb texts k) ∷
-    row 10 (smallFor n a) ∷ []
-
-unfoldable pub scanRows : (n lines : ℕ) → Limits → Mode → Areas → ℕ → List Row
-scanRows n lines lim mode a results =
-    row 6 (not (unit (lim .threshold) && unit (lim .shallow))) ∷
-    row 7 (stepZero mode) ∷
-    row 10 (smallFor n a || ltb results (resultsNeed lines mode)) ∷ []
 
 -- ---- what holds of what is let through, whichever rows it passed: below the refusals the work asks this and no more
 pub record Through (t : List ℕ) (books : Shelf) : Type 0 where

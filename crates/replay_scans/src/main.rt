@@ -6,17 +6,16 @@ ghost use Prim.Native.Nat.{_≤_};
 ghost use lib.ListN.{length};
 
 mod named;
-mod shelf;
 
 use crate::named::tell_named;
-use crate::shelf::put_name;
-use crate::shelf::put_text;
 use bounds_job::bounds_of;
 use questions::fields::number_at;
 use questions::fields::text_at;
 use questions::numbers::bits_of;
 use questions::words::mark_at;
 use questions::words::word;
+use replay_books::put_name;
+use replay_books::put_text;
 use rules::Limits;
 use rules::Mode;
 use rules::View;

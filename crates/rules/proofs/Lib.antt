@@ -5,8 +5,9 @@ pub mod ClassLaws
 pub mod BoolLaws
 pub mod Steps
 pub mod HitLaws
-pub mod GrowthLaws
 pub mod DownLaws
+pub mod SoundLaws
+pub mod GrowthLaws
 pub mod WordLaws
 pub mod OrderLaws
 pub mod ScoreRound
@@ -14,7 +15,6 @@ pub mod ScoreLaws
 pub mod Fifths
 pub mod ScoreOrder
 pub mod FloatOrder
-pub mod SoundLaws
 pub mod TableLaws
 pub mod PrefixLaws
 pub mod CountLaws

@@ -4,17 +4,23 @@
 
 // Document 01's numbers, as specs/Sizes.antt has them. A text: its bytes and its lines.
 pub const TEXT_MOST: usize = 1048576;
+
 pub const LINES_MOST: usize = 65536;
 
 // A book: its bytes, its stored texts, a table's total, a name's bytes.
 pub const BOOK_MOST: usize = 16777216;
+
 pub const STORED_MOST: u32 = 1024;
+
 pub const TOTAL_MOST: u64 = 8388608;
+
 pub const NAME_MOST: usize = 64;
 
 // The work areas: bytes and words for each byte of the text, and what both have to spare.
 pub const BYTES_EACH: usize = 8;
+
 pub const WORDS_EACH: usize = 12;
+
 pub const AREA_SPARE: usize = 64;
 
 // A record of a scan: its numbers in the results area.

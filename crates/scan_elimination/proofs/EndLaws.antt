@@ -29,9 +29,10 @@ use Rattle.detection_shelf.specs.declared.Shelved.{Shelved}
 use Rattle.rules.specs.Book.{sound}
 use Rattle.detection_shelf.specs.declared.Counts.{Counts}
 use Rattle.detection_texts.proofs.TextLaws.{found-name}
-use Rattle.detect.specs.declared.Best.{Best}
+use Rattle.detect_best.specs.declared.Best.{Best}
 use Rattle.detect.specs.declared.Chosen.the-variants as chosen
-use Rattle.detect.specs.Bests.{bestIn, chosenIn, ChosenStands, BestDone}
+use Rattle.detect_best.specs.Beats.{bestIn}
+use Rattle.detect.specs.Bests.{chosenIn, ChosenStands, BestDone}
 use Rattle.detect.proofs.BestLaws.{noneYet, none-is}
 use Rattle.detection_shelf.specs.Shelves.{Shelf, texts, Stands, Counted, bookIn, textIn}
 use Rattle.detection_shelf.proofs.ShelfLaws.{stands-part}

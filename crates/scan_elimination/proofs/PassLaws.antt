@@ -27,10 +27,11 @@ use Rattle.license_charge.specs.declared.Scorings.{Scorings}
 use Rattle.license_charge.specs.Pay.{Paid, pay}
 use Rattle.license_bounds.specs.Found.{rangedOf}
 use Rattle.license_notes.specs.Laid.{Held}
-use Rattle.detect.specs.declared.Best.{Best}
+use Rattle.detect_best.specs.declared.Best.{Best}
 use Rattle.detect.specs.declared.Chosen.{Chosen}
 use Rattle.detect.specs.declared.Chosen.the-variants as chosen
-use Rattle.detect.specs.Bests.{bestIn, chosenIn, ChosenStands, BestDone}
+use Rattle.detect_best.specs.Beats.{bestIn}
+use Rattle.detect.specs.Bests.{chosenIn, ChosenStands, BestDone}
 use Rattle.detection_shelf.specs.Shelves.{Shelf, texts, textIn, Stands}
 use Rattle.scan_ranges.specs.declared.Run.{Run}
 use Rattle.scan_ranges.specs.declared.Scope.{Scope}

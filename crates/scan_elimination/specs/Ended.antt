@@ -8,7 +8,7 @@ use Rattle.rules.specs.Sizes.{nameMost}
 use Rattle.rules.specs.Scan.{Event, afford, verdict}
 use Rattle.rules.specs.Jobs.{namePart}
 use Rattle.detection_shelf.specs.declared.Shelved.{Shelved}
-use Rattle.detect.specs.Bests.{bestIn}
+use Rattle.detect_best.specs.Beats.{bestIn}
 use Rattle.detection_shelf.specs.Shelves.{Shelf, bookIn, textIn, partOf, partsOf}
 use Rattle.scan_elimination.specs.declared.Outcome.{Outcome}
 use Rattle.scan_ranges.specs.Run.{Ran}

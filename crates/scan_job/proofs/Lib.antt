@@ -1,3 +1,2 @@
 pub mod ModeLaws
-pub mod AnswerLaws
 pub mod FaceLaws

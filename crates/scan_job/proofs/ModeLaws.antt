@@ -16,9 +16,9 @@ use Rattle.rules.specs.Scan.{Event, topDown, elimination, events}
 use Rattle.rules.specs.Refusal.{stepZero}
 use Rattle.rules.proofs.VerdictLaws.{verdict-prefix, down-verdict}
 use Rattle.detection_shelf.specs.Shelves.{Shelf}
-use Rattle.detect.specs.declared.Best.{Best}
+use Rattle.detect_best.specs.declared.Best.{Best}
 use Rattle.detect.proofs.BestLaws.{noneYet, none-is}
-use Rattle.detect.specs.Bests.{bestIn}
+use Rattle.detect_best.specs.Beats.{bestIn}
 use Rattle.license_charge.specs.declared.Scorings.{Scorings}
 use Rattle.scan_elimination.specs.declared.Outcome.{Outcome}
 use Rattle.scan_ranges.specs.Run.{Ran}

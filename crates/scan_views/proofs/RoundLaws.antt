@@ -26,10 +26,11 @@ use Rattle.license_charge.specs.declared.Scorings.{Scorings}
 use Rattle.license_charge.specs.Pay.{Paid, pay}
 use Rattle.license_notes.specs.Laid.{Held}
 use Rattle.license_charge.proofs.PayLaws.{andThen, pay-bind, pay-done}
-use Rattle.detect.specs.declared.Best.{Best}
+use Rattle.detect_best.specs.declared.Best.{Best}
 use Rattle.detect.specs.declared.Chosen.{Chosen}
 use Rattle.detect.specs.declared.Chosen.the-variants as chosen
-use Rattle.detect.specs.Bests.{bestIn, ChosenStands, Alike, ChosenFor, BestAbove}
+use Rattle.detect_best.specs.Beats.{bestIn}
+use Rattle.detect.specs.Bests.{ChosenStands, Alike, ChosenFor, BestAbove}
 use Rattle.detect.proofs.AlikeLaws.{alike-low, alike-high}
 use Rattle.detection_shelf.specs.Shelves.{Shelf, texts, textIn}
 use Rattle.scan_ranges.specs.declared.Scope.{Scope}

@@ -20,7 +20,7 @@ use Rattle.rules.proofs.TableLaws.{count-none}
 use Rattle.rules.proofs.PrefixLaws.{same-self}
 use Rattle.sort_spread.specs.Sort.{partLater, rightNext, merged, msorted, countOf, Leads, InOrder}
 use Rattle.sort_tally.specs.Group.{Group, groupsFrom, groups, starts, counts, partsAt}
-use Rattle.sort_parts.proofs.PartLaws.{later-one}
+use Rattle.sort_order.proofs.PartLaws.{later-one}
 use Rattle.sort_spread.proofs.OrderLaws.{countOf-msorted, inorder-msorted}
 use Rattle.sort_tally.proofs.TallyLaws.{part, later, read, equal-parts, sorted-count, sorted-rising, occurs-count}
 

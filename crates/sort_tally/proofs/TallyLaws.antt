@@ -19,7 +19,7 @@ use Rattle.rules.proofs.TableLaws.{tallied-count, tallied-rising, entries-exact
 use Rattle.sort_spread.specs.Sort.{partOf, lexLater, partLater, msorted, countOf, Leads, InOrder}
 use Rattle.sort_spread.specs.Spread.{Shuffled}
 use Rattle.sort_tally.specs.Group.{Group, groupsFrom, groups, starts, counts, Grouped, entriesFrom, entriesAt, partsAt}
-use Rattle.sort_parts.proofs.PartLaws.{later-one}
+use Rattle.sort_order.proofs.PartLaws.{later-one}
 use Rattle.sort_spread.proofs.OrderLaws.{countOf-msorted, inorder-msorted}
 
 -- ---- the order

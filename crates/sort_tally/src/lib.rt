@@ -6,7 +6,7 @@ ghost use Rattle.rules.specs.Table.{tallied};
 ghost use Rattle.sort_tally.specs.Group.{groups, Grouped, entriesAt, partsAt};
 ghost use Rattle.sort_spread.specs.Sort.{partLater};
 use slices::wide::wide;
-use sort_parts::part_after;
+use sort_order::part_after;
 use sort_parts::sort_parts;
 use sort_spread::spread_all;
 

@@ -13,8 +13,8 @@ use Rattle.rules.specs.Table.{Table, valueOf}
 use Rattle.floors.specs.Floors.{Judged}
 use Rattle.detection_shelf.specs.Bodies.{tableOfBody}
 use Rattle.license_views.specs.Tabled.{tableOver}
-use Rattle.detect.specs.declared.Best.{Best}
-use Rattle.detect.specs.Bests.{Betters}
+use Rattle.detect_best.specs.declared.Best.{Best}
+use Rattle.detect_best.specs.Beats.{Betters}
 use Rattle.detect.proofs.BestLaws.{Walking, walk-first, walk-step, walk-out, walk-end}
 use Rattle.detect.proofs.best_of.Statement.{statement}
 use Rattle.detect.proofs.best_of.Tie as tie

@@ -8,7 +8,7 @@ use borrow.Author.Needs.{needs}
 use Rattle.detection_shelf.specs.Shelves.{shelf}
 use Rattle.rules.specs.declared.View.{View}
 use Rattle.rules.specs.Scan.{names, stops}
-use Rattle.detect.specs.Bests.{bestIn}
+use Rattle.detect_best.specs.Beats.{bestIn}
 use Rattle.scan_ranges.proofs.HeldLaws.{scanning-held, done-as}
 use Rattle.scan_elimination.proofs.EndLaws.{whole-out, best-stands, whole-stop, whole-room, whole-on, stop-by-best, stop-by-setting, no-stop}
 use Rattle.scan_elimination.proofs.elimination.Statement.{statement}

@@ -9,7 +9,7 @@ use borrow.Author.Needs.{needs}
 use Rattle.detection_shelf.specs.Shelves.{shelf, texts}
 use Rattle.rules.specs.Scan.{events}
 use Rattle.scan_job.proofs.ModeLaws.{eliminated-as, eliminated-of}
-use Rattle.scan_job.proofs.AnswerLaws.{scan-room, answer-fits, answer-is, results-are}
+use Rattle.scan_answer.proofs.AnswerLaws.{scan-room, answer-fits, answer-is, results-are}
 use Rattle.scan_job.proofs.scan_laid.Statement.{statement}
 use Rattle.scan_job.proofs.scan_laid.Tie as tie
 

@@ -6,7 +6,7 @@ use borrow.Author.Needs.{needs}
 use Rattle.detection_shelf.specs.Shelves.{shelf, booksOf}
 use Rattle.detection_shelf.proofs.ShelfLaws.{lent-read}
 use Rattle.refusals.proofs.AdmitLaws.{scan-through}
-use Rattle.scan_job.proofs.AnswerLaws.{scan-refused, scan-done}
+use Rattle.scan_answer.proofs.AnswerLaws.{scan-refused, scan-done}
 use Rattle.scan_job.proofs.scan_lent.Statement.{statement}
 use Rattle.scan_job.proofs.scan_lent.Tie as tie
 

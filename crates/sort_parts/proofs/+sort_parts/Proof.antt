@@ -10,7 +10,7 @@ use Prim.Native.Nat.{ℕ, _+_, _-_, _/_, _≤_, _<_}
 use lib.ListN.{length, take, drop, length-take, length-drop}
 use lib.Seq.{paste, take-take, length-take-le}
 use Rattle.sort_spread.specs.Sort.{partLater}
-use Rattle.sort_parts.proofs.PartLaws.{later-one, later-chain}
+use Rattle.sort_order.proofs.PartLaws.{later-one, later-chain}
 use Rattle.sort_spread.proofs.OrderLaws.{inorder-msorted, runs-apart}
 use Rattle.sort_spread.proofs.SortLaws.{msorted-few, Halves, halves, by-merge, by-copy}
 use borrow.Fn.Kinds.{In}
@@ -19,8 +19,8 @@ use Rattle.sort_parts.proofs.sort_parts.Reads as sort-parts
 use Rattle.sort_parts.proofs.sort_parts.Kinds as sort-parts-kinds
 use Rattle.sort_parts.proofs.+sort_parts.Lts-sort_parts as sort-parts-lts
 use Rattle.sort_parts.proofs.copy_nums.Reads as copy-nums-reads
-use Rattle.sort_parts.proofs.last_after.Reads as last-after-reads
-use Rattle.sort_parts.proofs.merge.Reads as merge-reads
+use Rattle.sort_merge.proofs.last_after.Reads as last-after-reads
+use Rattle.sort_merge.proofs.merge.Reads as merge-reads
 use Rattle.sort_parts.proofs.+sort_parts.{statement}
 use Rattle.sort_parts.proofs.+sort_parts.Tie.{close}
 

@@ -1,6 +1,6 @@
 -- `detection_texts::texts::next_text` meets its contract: the way that sets out from the place, once it has stopped.
 -- Assumes nothing.
-use mathlib.Core.Path.{_≡_, ap}
+use mathlib.Core.Path.{ap}
 use borrow.Author.Needs.{needs}
 use Rattle.detection_texts.specs.declared.texts.Way.{Way}
 use Rattle.detection_texts.proofs.TextLaws.{under-first, found-at}

@@ -1,2 +1,0 @@
--- A book that grows by a record.
-pub mod Shelf
