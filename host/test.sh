@@ -1,6 +1,6 @@
 #!/bin/sh
 # shellcheck disable=SC1091,SC2086,SC2154
-# Passes all tests of the host: builds what is missing, runs host/test_face.c compiled as C and as C++, oracle/rows.py --quick, and
+# Passes all tests of the host: builds what is missing, runs host/callers.sh, host/test_face.c compiled as C and as C++, oracle/rows.py --quick, and
 # host/test_line.sh over the command line.
 # The last line is 'N passed, M failed', the sum; the exit status is 0 only where M is 0.
 set -eu
@@ -38,6 +38,7 @@ part() {
         ;;
     esac
 }
+part 'who scores' sh host/callers.sh
 part 'the header from C' $RUN target/test_face_c
 part 'the header from C++' $RUN target/test_face_cxx
 export RUN

@@ -1,4 +1,4 @@
-"""Each limit of document 01 with its neighbours, as plans of asking.py: one below, the limit itself, one above, and the refusal that is due.
+"""Each limit of the rules with its neighbours, as plans of asking.py: one below, the limit itself, one above, and the refusal that is due.
 
 `small` has those that the definitions can be computed on, `both` those of two books; `large` those of long texts, many lines and large books, and
 each form of a book as either of two.

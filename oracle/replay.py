@@ -9,7 +9,7 @@ and compares what it writes with the other. The seed (default 1) fixes the lists
 
 Every text is ASCII and has at most 2,048 bytes. They come from four sources, in this order:
 
-  cases     the marked cases of document 01, the errors that look right, and the other fixed texts of compare.py
+  cases     the marked cases of the rules, the errors that look right, and the other fixed texts of compare.py
   traps     every byte alone and between letters; the digit 4; URLs in both cases, cut short, at line ends, behind and before dropped
             signs; runs of each sign, also broken by a dropped one; vertical tab and form feed; nothing but newlines or spaces; lines of
             1,000 bytes; titles, copyright lines and common prefixes, and what is nearly one

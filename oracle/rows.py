@@ -208,7 +208,7 @@ QUICK = 0.05
 
 
 def main():
-    options = argparse.ArgumentParser(description="Holds the archive against a second reading of document 01.")
+    options = argparse.ArgumentParser(description="Holds the archive against a second reading of the rules.")
     options.add_argument("--seed", default="1", help="another seed gives other questions (default 1)")
     options.add_argument("--scale", type=float, default=1.0, help="so many times the random rows (default 1)")
     options.add_argument("--quick", action="store_true", help="some thousand rows in seconds: no long texts, no large books, no tables")

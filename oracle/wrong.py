@@ -1,5 +1,5 @@
 #!/usr/bin/env python3
-"""Tries whether the rows of rows.py can fail: each wrong reading of document 01 below must answer some row otherwise than model.py does.
+"""Tries whether the rows of rows.py can fail: each wrong reading of the rules below must answer some row otherwise than model.py does.
 
     oracle/wrong.py [--seed N]
 

@@ -1,5 +1,4 @@
--- The best of the books' texts: the better of two, and the walk over all.
---     better-none, better-more, better-less     the three arms
+-- The best of the books' texts: the walk over all.
 --     Walking                                   the texts still to come, paid from what is left, are the whole paid from the budget;
 --                                               the best is the definition's, or both are below the floor;
 --                                               past the first, it is one of the books' texts
@@ -9,15 +8,14 @@
 --     best-exact                                with the floor at 0.0 it is told in full
 -- Assumes nothing.
 use mathlib.Core.Path.{_≡_, refl, sym, ap, ap₂, _∙_, subst}
-use mathlib.Core.Bool.{Bool, true, false, _||_, cond}
+use mathlib.Core.Bool.{false}
 use mathlib.Core.List.{List}
 use mathlib.Core.Option.{Option, some}
 use Prim.Native.Nat.{ℕ, zero, suc, _+_, _-_, _≤_, _<_}
 use native.Mathlib.Numerals.{add-one}
 use native.Mathlib.Omega.{arith}
-use lib.Dec.{T, eqb}
-use lib.Ieee.{Float, lt, le}
-use borrow.Author.Tests.{eq-eqb, ne-eqb}
+use lib.Dec.{T}
+use lib.Ieee.{Float, le}
 use lib.ListN.{length, getD, drop, drop-of-length-le}
 use lib.Seq.{drop-cons}
 use Rattle.rules.specs.declared.View.{View}
@@ -45,24 +43,6 @@ use Rattle.detect.specs.declared.Chosen.the-variants as chosen
 use Rattle.detect_best.specs.Beats.{bestIn, Betters, toBeat}
 use Rattle.detect.specs.Bests.{chosenIn, ChosenStands, Alike, same, ChosenFor, BestOf, BestAbove, BestDone}
 use Rattle.detect.proofs.AlikeLaws.{better-unit, alike-next, alike-lowest}
-
--- ---- the better of two
-module _ (books : Shelf) (best next : Best) where
-  pub better-none : best .text .text .kind ≡ 0 → bestIn books next ≡ better (bestIn books best) (bestIn books next)
-  unfolding bestIn textIn better
-  better-none k = rw (eq-eqb (best .text .text .kind) 0 k)
-
-  pub better-more : lt (best .value .score) (next .value .score) ≡ true → bestIn books next ≡ better (bestIn books best) (bestIn books next)
-  unfolding bestIn textIn better
-  better-more l = at (eqb (best .text .text .kind) 0)
-    where
-      at : (q : Bool) → bestIn books next ≡ cond (q || lt (best .value .score) (next .value .score)) (bestIn books next) (bestIn books best)
-      at true = refl
-      at false = rw l
-
-  pub better-less : (best .text .text .kind ≡ 0 → ⊥) → lt (best .value .score) (next .value .score) ≡ false → bestIn books best ≡ better (bestIn books best) (bestIn books next)
-  unfolding bestIn textIn better
-  better-less k l = rw (ne-eqb (best .text .text .kind) 0 k, l)
 
 -- ---- none yet
 abbrev pub noneYet : Best

@@ -9,7 +9,6 @@ use Rattle.rules.specs.declared.Mode.{Mode}
 use Rattle.rules.specs.declared.View.{View}
 use Rattle.rules.specs.Sizes.{byteArea, wordArea}
 use Rattle.rules.specs.Refusal.{Row, row, Areas, unit, stepZero, resultsNeed}
-use Rattle.detection_shelf.specs.Shelves.{texts}
 
 -- the rows that follow those five, over the text's length, L and N
 abbrev pub smallFor : ℕ → Areas → Bool
