@@ -1,4 +1,4 @@
-// The one function that scores: it charges.
+// The scorings left of a budget, and the one function that scores: it charges.
 // From detection/license.rs of spdx 0.13.6 (Copyright 2018 Amazon.com, Inc. or its affiliates. All Rights Reserved.
 // SPDX-License-Identifier: Apache-2.0), changed: `match_score`. Assumes nothing.
 ghost use mathlib.Core.Path.{_≡_};
@@ -17,8 +17,8 @@ use ngram_meet::scoring;
 use ngram_table::TableSize;
 use rules::Value;
 
-// The scorings that a budget still pays. Its number is private: only this crate makes one, of a whole budget where a job begins, and one less at
-// each scoring. So code elsewhere cannot add to what is left; that it hands on no older one, which it could still hold, is in its contract.
+// The scorings that a budget still pays. Its number is private, so no code elsewhere counts: one comes from `scorings_of`, where a job begins, or
+// from `charge`, one less. That a function hands on what its last scoring left, and not an older one that it still holds, is in its contract.
 pub struct Scorings {
     count: u64,
 }

@@ -74,6 +74,7 @@ module _ (o : tie.After-score-index Inv-loop μ-loop) where
   kept-one : KeptIn (head turn) (o .score-index .last .1 .0) (o .score-index .last .1 .1 .0)
   kept-one = kept-more (head turn .loop .inv .0) (o .score-index .ensures .1 .1)
 
+-- what is left is asked again
 module _ (a : tie.After-spent2 Inv-loop μ-loop) where
   abbrev scored-one : tie.After-score-index Inv-loop μ-loop
   scored-one = a .before .before .before .before .before .before
