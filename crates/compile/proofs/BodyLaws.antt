@@ -36,14 +36,14 @@ module _ (area words : List ℕ) (n : ℕ) (t : Viewed) (h : Tabled n area words
 
   pub body-sizes : ((t .distinct ≤ t .total) × (t .total + t .total ≤ length places) × (t .total < 4294967296)) × (length text ≤ 16777216)
   body-sizes =
-      let s = chargeable area words n t h .sizes in
-      ((s .0, rw q (s .1), omega arith), omega (arith, ap length (part-slice (t .start) (t .end) area), h .short))
+      let s = chargeable area words n t h from q .sizes in
+      ((s .0, s .1, omega arith), omega (arith, ap length (part-slice (t .start) (t .end) area), h .short))
 
   pub body-is : tableOut (tableAt text places (t .total) (t .distinct)) ≡ tableOut (tableOver area t)
   unfolding tableOver
   body-is =
-      let s : tableAt text places (t .total) (t .distinct) ≡ tableOf (bigrams text) = rw q (chargeable area words n t h .stands) in
-      ap tableOut (s ∙ ap (λ (l : List ℕ). tableOf (bigrams l)) (part-slice (t .start) (t .end) area))
+      ap tableOut
+      (chargeable area words n t h from q .stands ∙ ap (λ (l : List ℕ). tableOf (bigrams l)) (part-slice (t .start) (t .end) area))
 
 -- ---- the output
 module _ (made body out₀ : List ℕ) (len : ℕ) (e : made ≡ body) (l : len ≡ length made) where

@@ -10,24 +10,26 @@ use Rattle.rules.specs.declared.Value.{Value}
 use Rattle.rules.specs.Sizes.{totalMost}
 use Rattle.rules.specs.Table.{bigrams, tableOf, valueOf}
 use Rattle.rules.specs.Book.{tableIn, entriesOf}
+use Rattle.preproc_table.specs.Entries.{tableEnd}
 use Rattle.ngram_table.specs.Tables.{tableAt}
 use Rattle.floors.specs.declared.Floor.{Floor}
 use Rattle.floors.specs.Floors.{Judged}
 use Rattle.license_views.specs.declared.Viewed.{Viewed}
-use Rattle.license_views.specs.Tabled.{behind, Tabled, tableOver}
+use Rattle.license_views.specs.Tabled.{Tabled, tableOver}
 use Rattle.detection_shelf.specs.Bodies.{tableOfBody}
 
 -- ---- the charge
-pub record Chargeable (area words : List ℕ) (n : ℕ) (t : Viewed) : Type 0 where
-  pub sizes : (t .distinct ≤ t .total) × (t .total + t .total ≤ length (take (length words - behind n) (drop (behind n) words))) × (t .total ≤ totalMost)
-  pub stands : tableAt (take (t .end - t .start) (drop (t .start) area)) (take (length words - behind n) (drop (behind n) words)) (t .total) (t .distinct) ≡
+-- the table's words stand from `from` on
+pub record Chargeable (area words : List ℕ) (from : ℕ) (t : Viewed) : Type 0 where
+  pub sizes : (t .distinct ≤ t .total) × (t .total + t .total ≤ length (take (length words - from) (drop from words))) × (t .total ≤ totalMost)
+  pub stands : tableAt (take (t .end - t .start) (drop (t .start) area)) (take (length words - from) (drop from words)) (t .total) (t .distinct) ≡
       tableOf (bigrams (take (t .end - t .start) (drop (t .start) area)))
 
-pub chargeable : (area words : List ℕ) (n : ℕ) (t : Viewed) → Tabled n area words t → Chargeable area words n t
-chargeable area words n t h =
+pub chargeable : (area words : List ℕ) (n : ℕ) (t : Viewed) → Tabled n area words t → (from : ℕ) → from ≡ tableEnd n → Chargeable area words from t
+chargeable area words n t h from q =
     record {
-      sizes = (h .few, rw (part-rest (behind n) words) (omega (arith, h .room, length-drop (behind n) words)), h .most);
-      stands = rw (part-rest (behind n) words, part-slice (t .start) (t .end) area) (h .stands);
+      sizes = (h .few, rw (part-rest from words) (omega (arith, h .room, length-drop from words)), h .most);
+      stands = rw (part-rest from words, part-slice (t .start) (t .end) area, q) (h .stands);
     }
 
 pub charged : (area body : List ℕ) (t : Viewed) (floor : Floor) (r : Value) →

@@ -15,6 +15,7 @@ use floors::lowest;
 use license_views::Viewed;
 use ngram_meet::scoring;
 use ngram_table::TableSize;
+use preproc_table::table_end;
 use rules::Value;
 
 // The scorings that a budget still pays. Its number is private, so no code elsewhere counts: one comes from `scorings_of`, where a job begins, or
@@ -68,7 +69,7 @@ pub fn charge(
 {
     let start = t.start;
     let end = t.end;
-    let from = 2 * n + 2;
+    let from = table_end(n);
     let size = TableSize {
         total: t.total,
         distinct: t.distinct,

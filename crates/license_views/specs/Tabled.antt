@@ -23,10 +23,6 @@ pub record Processed (n lines : ℕ) (v : View) (area₀ words₀ : List ℕ) (r
   pub bytes : slice (r .start) (r .end) area ≡ aggressive (viewed (linesAt area₀ words₀ lines) v)
   pub held : Held n lines area₀ words₀ area words
 
--- where the words of a view's bigrams stand: behind the line table
-abbrev pub behind : ℕ → ℕ
-behind n = tableEnd n
-
 -- the processed text of a view is area[start..end], and its table stands over it in the words behind the line table
 pub record Tabled (n : ℕ) (area words : List ℕ) (t : Viewed) : Type 0 where
   pub order : t .start ≤ t .end

@@ -6,16 +6,16 @@ use Rattle.license_charge.proofs.ChargeLaws.{chargeable, charged}
 use Rattle.license_charge.proofs.charge.Statement.{statement}
 use Rattle.license_charge.proofs.charge.Tie as tie
 
--- the start, behind the part of the bytes that is lent
+-- the places that the answers speak of, behind the part of the bytes that is lent
 module _ (lent : tie.After-scoring-arg) where
+  abbrev ended : tie.After-table-end
+  ended = lent .before
+
   abbrev start : tie.Start
-  start = lent .before .before .before .before
+  start = ended .before .before .before .before
 
-mul-from : tie.Need-mul-from
-mul-from c = search needs
-
-add-from : tie.Need-add-from
-add-from c = search needs
+table-end-requires : tie.Need-table-end-requires
+table-end-requires c κs = search needs
 
 sub-scoring : tie.Need-sub-scoring
 sub-scoring c = search needs
@@ -41,7 +41,7 @@ part-scoring-end-2 c = search needs
 scoring-requires : tie.Need-scoring-requires
 scoring-requires c κs =
     let s = start (c .before) in
-    let r = chargeable _ _ _ _ (s .pre .0) in
+    let r = chargeable _ _ _ _ (s .pre .0) _ (ended (c .before) .table-end .ensures) in
     (r .sizes, (r .stands, s .pre .1 .0))
 
 sub-count : tie.Need-sub-count
@@ -56,8 +56,7 @@ pub charge-spec : {M : Type 1} → statement M
 charge-spec =
     tie.close
     (tie.spec
-    mul-from
-    add-from
+    table-end-requires
     sub-scoring
     part-scoring-start
     part-scoring-end
