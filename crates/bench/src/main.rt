@@ -1,6 +1,6 @@
-// Scans a note from standard input, of at most 1,024 bytes, against the book of document 01's marked cases, and writes its licence, its
+// Scans a note from standard input, of at most 1,024 bytes, against the book of the rules' marked cases, and writes its licence, its
 // ranges and the count of scorings as that document prints them for text 2. A refusal is one line `refusal N`.
-// The recorded input is text 2, and the recorded output document 01's three lines. Assumes nothing but the C library's read and write.
+// The recorded input is text 2, and the recorded output the rules' three lines. Assumes nothing but the C library's read and write.
 ghost use Prim.Native.Nat.{_≤_};
 ghost use lib.ListN.{length};
 use detection_check::check_book;
@@ -153,7 +153,7 @@ fn tell_scan(note: &[u8], book: &[u8]) {
     tell_count(answer.count);
 }
 
-// A note of more than 1,024 bytes is too long for this program: refusal 1, as document 01 numbers a text that is too long.
+// A note of more than 1,024 bytes is too long for this program: refusal 1, as the rules number a text that is too long.
 fn main() {
     let mut note = note_area();
     let n = io::read_full(STDIN_FILENO, &mut note);

@@ -1,4 +1,4 @@
-// Runs the scan of document 01's marked case 10 on text 2 with each budget that matters, and top-down over three copies of a licence with
+// Runs the scan of the rules' marked case 10 on text 2 with each budget that matters, and top-down over three copies of a licence with
 // lines between, with the smallest and the largest step. It writes a line for each answer: refusal, count, number of records, and the
 // records: ` ; NUMBER FIRST AFTER BITS`.
 //

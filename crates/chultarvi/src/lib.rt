@@ -20,7 +20,7 @@ use scan_job::scan_both;
 use score_job::score_both;
 use score_job::score_view;
 
-// Document 01's number of the refusal, 0 for none; and N.
+// The number of the refusal, 0 for none; and N.
 #[repr(C)]
 pub struct BookChecked {
     pub refusal: u32,

@@ -1,4 +1,4 @@
-// Runs `check_book` over every cut of document 01's book of 58 bytes, over every change of one of its bytes to each of 256 values, and over
+// Runs `check_book` over every cut of the rules' book of 58 bytes, over every change of one of its bytes to each of 256 values, and over
 // books made for each clause of the format and each limit with its neighbour. It writes a sign for each book: a dot where the book is
 // refused, else the number of its stored texts; and of the books of 1,024 and 1,025 texts (limit.rt) the whole answer.
 //

@@ -16,7 +16,7 @@ use Rattle.rules.specs.Refusal.{unit}
 use Rattle.rules.proofs.BoolLaws.{cond-of}
 use Rattle.rules.proofs.FloatOrder.{lt-between}
 use Rattle.floors.specs.Floors.{beats, Judged}
-use Rattle.ngram_score.proofs.FloorLaws.{beats-lowest}
+use Rattle.floors.proofs.LowestLaws.{beats-lowest}
 use Rattle.detect_best.specs.Beats.{toBeat}
 use Rattle.detect.specs.Bests.{Alike, same, both-below}
 

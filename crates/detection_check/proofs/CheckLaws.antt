@@ -1,4 +1,4 @@
--- The verdict on a book by what is still to come, step by step.
+-- The bookVerdict on a book by what is still to come, step by step.
 --     verdict-start, verdict-long                at the book's start, which is the job's answer; a book over its size
 --     verdict-next, verdict-bad, verdict-over    a record that is sound, one that is not, and a text too many
 --     verdict-end                                with none to come
@@ -22,7 +22,7 @@ use Rattle.rules.specs.Refusal.{refusal, ofCheck}
 use Rattle.rules.specs.Jobs.{check}
 use Rattle.rules.proofs.SoundLaws.{book-too-long}
 use Rattle.records.proofs.StepLaws.{RecordHere}
-use Rattle.detection_check.specs.Walks.{refused, found, recordSound, verdict, Within, nameIn, verdictAt, verdictBefore, verdictOf, Onward, onward, ended, Stepped}
+use Rattle.detection_check.specs.Walks.{refused, found, recordSound, bookVerdict, Within, nameIn, verdictAt, verdictBefore, verdictOf, Onward, onward, ended, Stepped}
 use Rattle.detection_check.specs.declared.Walk.{Walk}
 use Rattle.detection_check.specs.declared.Step.{Step}
 use Rattle.detection_check.specs.declared.Step.the-variants.{Next, Done}
@@ -58,28 +58,28 @@ texts-cons n r rs =
     let t = storedKind (r .kind) in
     ap (λ (k : ℕ). n + k) (texts-length (r ∷ rs) 0 []) ∙ counted-add t n (texts rs) ∙ ap (λ (k : ℕ). counted t n + k) (sym (texts-length rs 0 []))
 
--- ---- the verdict
+-- ---- the bookVerdict
 module _ (a : ℕ) (name : List ℕ) (n : ℕ) (r : Record) where
   pub verdict-next : (o : Option (List Record)) → recordSound a name r ≡ true →
-      verdict a name n (also r o) ≡ verdict (r .kind) (cond (eqb (r .kind) 1) (r .body) name) (counted (storedKind (r .kind)) n) o
-  unfolding verdict also soundRecords recordSound
+      bookVerdict a name n (also r o) ≡ bookVerdict (r .kind) (cond (eqb (r .kind) 1) (r .body) name) (counted (storedKind (r .kind)) n) o
+  unfolding bookVerdict also soundRecords recordSound
   verdict-next none h = refl
   verdict-next (some rs) h = rw (h, texts-cons n r rs)
 
-  pub verdict-bad : (o : Option (List Record)) → recordSound a name r ≡ false → verdict a name n (also r o) ≡ refused
-  unfolding verdict also soundRecords recordSound
+  pub verdict-bad : (o : Option (List Record)) → recordSound a name r ≡ false → bookVerdict a name n (also r o) ≡ refused
+  unfolding bookVerdict also soundRecords recordSound
   verdict-bad none h = refl
   verdict-bad (some rs) h = rw h
 
-  pub verdict-over : (o : Option (List Record)) → storedMost < counted (storedKind (r .kind)) n → verdict a name n (also r o) ≡ refused
-  unfolding verdict also
+  pub verdict-over : (o : Option (List Record)) → storedMost < counted (storedKind (r .kind)) n → bookVerdict a name n (also r o) ≡ refused
+  unfolding bookVerdict also
   verdict-over none h = refl
   verdict-over (some rs) h =
       let all = n + length (storedIn 0 [] (r ∷ rs)) in
       rw (lt-leb all storedMost (omega (arith, texts-cons n r rs)), and-false)
 
-pub verdict-end : (a : ℕ) (name : List ℕ) (n : ℕ) → n ≤ storedMost → verdict a name n (some []) ≡ cond (not (eqb a 1)) (found n) refused
-unfolding verdict soundRecords storedIn
+pub verdict-end : (a : ℕ) (name : List ℕ) (n : ℕ) → n ≤ storedMost → bookVerdict a name n (some []) ≡ cond (not (eqb a 1)) (found n) refused
+unfolding bookVerdict soundRecords storedIn
 verdict-end a name n h = rw (add-zero n, le-leb n storedMost h) (at (not (eqb a 1)))
   where
     at : (t : Bool) → cond (t && true) (found n) refused ≡ cond t (found n) refused
@@ -103,11 +103,11 @@ pub verdict-long : (book : List ℕ) → bookMost < length book → check book �
 unfolding answer
 verdict-long book h = check-is book ∙ rw (book-too-long book h)
 
-pub verdict-start : (book : List ℕ) → length book ≤ bookMost → check book ≡ verdict 0 [] 0 (recordsOf book)
-unfolding sound stored storedFrom filled storedOf verdict
+pub verdict-start : (book : List ℕ) → length book ≤ bookMost → check book ≡ bookVerdict 0 [] 0 (recordsOf book)
+unfolding sound stored storedFrom filled storedOf bookVerdict
 verdict-start book h = check-is book ∙ rw (le-leb (length book) bookMost h) (at (recordsOf book))
   where
-    at : (o : Option (List Record)) → answer (true && filled o && leb (length (storedOf 0 o)) storedMost) (length (storedOf 0 o)) ≡ verdict 0 [] 0 o
+    at : (o : Option (List Record)) → answer (true && filled o && leb (length (storedOf 0 o)) storedMost) (length (storedOf 0 o)) ≡ bookVerdict 0 [] 0 o
     at none = answer-is false 0
     at (some rs) =
         let all = length (storedIn 0 [] rs) in
@@ -147,11 +147,11 @@ module _ (book : List ℕ) (w : Walk) (kind start len : ℕ) where
   module _ (n : ℕ) (q : n ≡ counted (storedKind kind) (w .texts)) (most : n ≤ storedMost) (h : recordSound (w .kind) (nameIn book w) lent ≡ true)
       (within : Within book w) (later : w .at < start + len) (fits : start + len ≤ length book) where
     moved : verdictBefore book w this (start + len) ≡
-        verdict kind (cond (eqb kind 1) (take len (drop start book)) (nameIn book w)) n (recordsOf (drop (start + len) book))
+        bookVerdict kind (cond (eqb kind 1) (take len (drop start book)) (nameIn book w)) n (recordsOf (drop (start + len) book))
     unfolding verdictBefore
     moved =
         verdict-next (w .kind) (nameIn book w) (w .texts) this (recordsOf (drop (start + len) book)) (rw same at h) ∙
-        ap (λ (k : ℕ). verdict kind (cond (eqb kind 1) (take len (drop start book)) (nameIn book w)) k (recordsOf (drop (start + len) book))) (sym q)
+        ap (λ (k : ℕ). bookVerdict kind (cond (eqb kind 1) (take len (drop start book)) (nameIn book w)) k (recordsOf (drop (start + len) book))) (sym q)
 
     pub step-name : kind ≡ 1 → Stepping (Next (record { at = start + len; kind = kind; name = start; past = start + len; texts = n }))
     unfolding verdictOf verdictAt
@@ -173,22 +173,22 @@ module _ (book : List ℕ) (w : Walk) where
       Stepped book w (verdictBefore book w (record { kind = kind; body = take len (drop start book) }) (start + len)) r → Stepped book w (verdictAt book w) r
   unfolding verdictAt verdictBefore
   step-record kind start len r h s =
-      record { same = s .same ∙ sym (ap (verdict (w .kind) (nameIn book w) (w .texts)) (h .is)); on = s .on }
+      record { same = s .same ∙ sym (ap (bookVerdict (w .kind) (nameIn book w) (w .texts)) (h .is)); on = s .on }
 
   pub step-end : (c : Checked) → w .texts ≤ storedMost → recordsOf (drop (w .at) book) ≡ some [] → c ≡ cond (not (eqb (w .kind) 1)) (found (w .texts)) refused →
       Stepped book w (verdictAt book w) (Done c)
   unfolding verdictOf verdictAt
   step-end c most h e =
       record {
-        same = e ∙ sym (verdict-end (w .kind) (nameIn book w) (w .texts) most) ∙ sym (ap (verdict (w .kind) (nameIn book w) (w .texts)) h);
+        same = e ∙ sym (verdict-end (w .kind) (nameIn book w) (w .texts) most) ∙ sym (ap (bookVerdict (w .kind) (nameIn book w) (w .texts)) h);
         on = ended c;
       }
 
   pub step-broken : (c : Checked) → recordsOf (drop (w .at) book) ≡ none → c ≡ refused → Stepped book w (verdictAt book w) (Done c)
-  unfolding verdictOf verdictAt verdict
-  step-broken c h e = record { same = e ∙ sym (ap (verdict (w .kind) (nameIn book w) (w .texts)) h); on = ended c }
+  unfolding verdictOf verdictAt bookVerdict
+  step-broken c h e = record { same = e ∙ sym (ap (bookVerdict (w .kind) (nameIn book w) (w .texts)) h); on = ended c }
 
--- ---- the walk: its verdict is the book's
+-- ---- the walk: its bookVerdict is the book's
 pub record Walked (book : List ℕ) (w : Walk) : Type 0 where
   pub within : Within book w
   pub all : verdictAt book w ≡ check book

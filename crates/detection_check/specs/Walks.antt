@@ -1,4 +1,4 @@
--- What a walk over a book says at a place: the verdict on what is still to come, which is the book's own at the start.
+-- What a walk over a book says at a place: the bookVerdict on what is still to come, which is the book's own at the start.
 -- Assumes nothing.
 use mathlib.Core.Path.{_≡_}
 use Prim.Native.Nat.{ℕ, _+_, _-_, _≤_, _<_}
@@ -27,9 +27,9 @@ unfoldable pub recordSound : ℕ → List ℕ → Record → Bool
 recordSound a name r = follows a (r .kind) && soundBody r && (not (eqb (r .kind) 1) || rises name (r .body))
 
 -- after a record of kind a, under `name`, with n stored texts before: the answer by what is still to come
-unfoldable pub verdict : ℕ → List ℕ → ℕ → Option (List Record) → Checked
-verdict a name n none = refused
-verdict a name n (some rs) =
+unfoldable pub bookVerdict : ℕ → List ℕ → ℕ → Option (List Record) → Checked
+bookVerdict a name n none = refused
+bookVerdict a name n (some rs) =
     let all = n + length (storedIn 0 [] rs) in
     cond (soundRecords a name rs && leb all storedMost) (found all) refused
 
@@ -44,13 +44,13 @@ abbrev pub nameIn : List ℕ → Walk → List ℕ
 nameIn book w = take (w .past - w .name) (drop (w .name) book)
 
 unfoldable pub verdictAt : List ℕ → Walk → Checked
-verdictAt book w = verdict (w .kind) (nameIn book w) (w .texts) (recordsOf (drop (w .at) book))
+verdictAt book w = bookVerdict (w .kind) (nameIn book w) (w .texts) (recordsOf (drop (w .at) book))
 
 -- the same where the record r stands at the walk's place, and the next at `to`
 unfoldable pub verdictBefore : List ℕ → Walk → Record → ℕ → Checked
-verdictBefore book w r to = verdict (w .kind) (nameIn book w) (w .texts) (also r (recordsOf (drop to book)))
+verdictBefore book w r to = bookVerdict (w .kind) (nameIn book w) (w .texts) (also r (recordsOf (drop to book)))
 
--- a step keeps the verdict, and goes on
+-- a step keeps the bookVerdict, and goes on
 unfoldable pub verdictOf : List ℕ → Step → Checked
 verdictOf book (Next w) = verdictAt book w
 verdictOf book (Done c) = c

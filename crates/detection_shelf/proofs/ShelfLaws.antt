@@ -28,7 +28,7 @@ use Rattle.detection_shelf.specs.declared.Shelved.{Shelved}
 use Rattle.detection_shelf.specs.declared.Spot.{Spot}
 use Rattle.detection_shelf.specs.declared.Counts.{Counts}
 use Rattle.detection_texts.specs.Texts.{part, nameAt, Before, TextIs, Found}
-use Rattle.detection_shelf.specs.Shelves.{Shelf, booksOf, Lends, texts, bookIn, ahead, Counted, BeforeOn, Stands, bodyIn, textIn, partOf, partsOf, firstSpot, afterOn, fitting}
+use Rattle.detection_shelf.specs.Shelves.{Shelf, booksOf, Lends, texts, bookIn, ahead, Counted, BeforeOn, Stands, bodyIn, textIn, partHeld, partsOf, firstSpot, afterOn, fitting}
 use Rattle.detection_texts.proofs.TextLaws.{before-first, found-at}
 use Rattle.detection_shelf.specs.Bodies.{tableOfBody}
 
@@ -85,7 +85,7 @@ stands-text s t h = at (t .second) refl (h .found) (h .inside) (h .numbered)
         ap (λ (k : ℕ). record { number = k; name = read true .name; kind = t .text .kind; table = read true .table }) (sym n)
 
 -- ---- where its name stands
-pub stands-part : (s : Shelf) (t : Shelved) → Stands s t → getD (partsOf s) (t .number) noPart ≡ partOf t
+pub stands-part : (s : Shelf) (t : Shelved) → Stands s t → getD (partsOf s) (t .number) noPart ≡ partHeld t
 unfolding nameParts
 stands-part s t h = at (t .second) (h .found .named (t .second)) (h .inside) (h .numbered)
   where

@@ -73,8 +73,8 @@ textIn s t =
     }
 
 -- where its name stands, and where the definition has the names of all
-abbrev pub partOf : Shelved → Named
-partOf t = nameAt (t .second) (t .text .name) (t .text .past)
+abbrev pub partHeld : Shelved → Named
+partHeld t = nameAt (t .second) (t .text .name) (t .text .past)
 
 abbrev pub partsOf : Shelf → List Named
 partsOf s = nameParts false (s .first ∷ s .second ∷ [])

@@ -19,7 +19,7 @@ use Rattle.license_bounds.specs.declared.Ranged.the-variants as ranged
 use Rattle.license_charge.specs.declared.Scorings.{Scorings}
 use Rattle.license_charge.specs.Pay.{Paid, pay}
 use Rattle.license_bounds.specs.Found.{searchedOf, rangedOf}
-use Rattle.license_bounds.specs.Ready.{scoreAt, viewAt}
+use Rattle.license_bounds.specs.Ready.{scoreAt, viewBetween}
 use Rattle.license_charge.proofs.PayLaws.{andThen, pay-bind, pay-done}
 
 -- ---- what an answer says of what was paid
@@ -72,7 +72,7 @@ module _ (ls : List (List ℕ)) (v : View) (s : Stored) (b : ℕ) where
   second e = starts (e .at) >>= λ a. done (both (e .at) a)
 
   paid-bounds : pay (bounds ls v s) b ≡ andThen (pay ends b) (λ e l. pay (second e) l)
-  unfolding bounds scoreAt viewAt second
+  unfolding bounds scoreAt viewBetween second
   paid-bounds = pay-bind ends second b
 
   paid-second : (e : Index) (l : ℕ) → pay (second e) l ≡ andThen (pay (starts (e .at)) l) (λ a k. pay (done (both (e .at) a)) k)

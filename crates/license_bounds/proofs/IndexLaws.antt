@@ -10,15 +10,15 @@ use Rattle.rules.specs.Table.{Table, viewTable, valueOf}
 use Rattle.rules.specs.Search.{viewed, scored, scoreView}
 use Rattle.license_notes.specs.Laid.{Held}
 use Rattle.detection_shelf.specs.Bodies.{tableOfBody}
-use Rattle.license_bounds.specs.Ready.{viewAt, scoreAt, Spans, Working, Kept, OfBody}
+use Rattle.license_bounds.specs.Ready.{viewBetween, scoreAt, Spans, Working, Kept, OfBody}
 
 -- ---- one index of a search
-pub index-inside : (lines fixed i : ℕ) (ends : Bool) (v : View) → v ≡ viewAt ends fixed i → Spans lines ends fixed i i → (v .start ≤ v .end) × (v .end ≤ lines)
-unfolding viewAt Spans
+pub index-inside : (lines fixed i : ℕ) (ends : Bool) (v : View) → v ≡ viewBetween ends fixed i → Spans lines ends fixed i i → (v .start ≤ v .end) × (v .end ≤ lines)
+unfolding viewBetween Spans
 index-inside lines fixed i true v e h = rw e h
 index-inside lines fixed i false v e h = rw e h
 
-pub index-scored : (ls : List (List ℕ)) (ends : Bool) (fixed i : ℕ) (v : View) (t : Table) (body : List ℕ) (r : Value) → v ≡ viewAt ends fixed i →
+pub index-scored : (ls : List (List ℕ)) (ends : Bool) (fixed i : ℕ) (v : View) (t : Table) (body : List ℕ) (r : Value) → v ≡ viewBetween ends fixed i →
     t ≡ viewTable (viewed ls v) → r ≡ valueOf t (tableOfBody body) → OfBody body (λ s. r ≡ scoreAt ls s ends fixed i .value)
 unfolding scoreAt scoreView scored
 index-scored ls ends fixed i v t body r e h k s q = k ∙ ap₂ valueOf (h ∙ ap (λ (u : View). viewTable (viewed ls u)) e) (sym q)

@@ -39,6 +39,6 @@ pub record Yields (task : Task) (class area₀ words₀ area words body : List �
   pub kept : Kept (task .n) (task .lines) class area₀ words₀ area words body
 
 -- x is the bounds of the view, paid from the budget; the areas hold the same lines as before
-pub record Bounded (n lines : ℕ) (class area₀ words₀ area words body : List ℕ) (v : View) (budget : ℕ) (x : Ranged) : Type 0 where
+pub record BoundsPaid (n lines : ℕ) (class area₀ words₀ area words body : List ℕ) (v : View) (budget : ℕ) (x : Ranged) : Type 0 where
   pub found : OfBody body (λ s. x ≡ rangedOf (pay (bounds (linesAt area₀ words₀ lines) v s) budget))
   pub kept : Kept n lines class area₀ words₀ area words body

@@ -15,12 +15,12 @@ use Rattle.license_notes.specs.Laid.{Laid}
 use Rattle.detection_shelf.specs.Bodies.{tableOfBody}
 
 -- the view whose one bound is fixed and whose other is i
-unfoldable pub viewAt : Bool → ℕ → ℕ → View
-viewAt true fixed i = view fixed i
-viewAt false fixed i = view i fixed
+unfoldable pub viewBetween : Bool → ℕ → ℕ → View
+viewBetween true fixed i = view fixed i
+viewBetween false fixed i = view i fixed
 
 unfoldable pub scoreAt : List (List ℕ) → Stored → Bool → ℕ → ℕ → Made Value
-scoreAt ls s ends fixed i = scoreView ls s (viewAt ends fixed i)
+scoreAt ls s ends fixed i = scoreView ls s (viewBetween ends fixed i)
 
 -- a search over one bound of a view, of a note of n bytes and so many lines
 pub record Working (n lines : ℕ) (class area words body : List ℕ) : Type 0 where

@@ -5,8 +5,8 @@ ghost use mathlib.Core.Path.{_≡_};
 ghost use Prim.Native.Nat.{_+_, _-_, _≤_, _<_};
 ghost use Rattle.rules.specs.Search.{higher, sweepFrom, sweep, search};
 ghost use Rattle.preproc_table.specs.Entries.{linesAt};
-ghost use Rattle.license_bounds.specs.Ready.{Working, Spans, Kept, OfBody, scoreAt, viewAt};
-ghost use Rattle.license_bounds.specs.Found.{Sought, Yields, Bounded};
+ghost use Rattle.license_bounds.specs.Ready.{Working, Spans, Kept, OfBody, scoreAt, viewBetween};
+ghost use Rattle.license_bounds.specs.Found.{Sought, Yields, BoundsPaid};
 use license_charge::Charged;
 use license_charge::Scorings;
 use license_charge::charge_exact;
@@ -200,7 +200,7 @@ pub fn find_bounds(
 ) -> Ranged
     requires { ⌜ Working n lines (now class) (now area) (now words) (now body) ⌝ }
     requires { ⌜ (v .start ≤ v .end) × (v .end ≤ lines) × (lines < 65538) ⌝ }
-    ensures { λ r. ⌜ Bounded n lines (now (class .entry)) (now (area .entry)) (now (words .entry)) (now (area .exit)) (now (words .exit)) (now (body .entry)) v (budget .count) r ⌝ }
+    ensures { λ r. ⌜ BoundsPaid n lines (now (class .entry)) (now (area .entry)) (now (words .entry)) (now (area .exit)) (now (words .exit)) (now (body .entry)) v (budget .count) r ⌝ }
 {
     let start = v.start;
     let end = v.end;
@@ -228,7 +228,7 @@ pub fn find_bounds(
 
 // The view whose one bound is fixed, and whose other, the end or the start, is i.
 pub fn view_of(ends: bool, fixed: usize, i: usize) -> View
-    ensures { λ r. ⌜ r ≡ viewAt ends fixed i ⌝ }
+    ensures { λ r. ⌜ r ≡ viewBetween ends fixed i ⌝ }
 {
     if ends {
         View {

@@ -76,7 +76,7 @@ view-ready n lines class area words v c laid o h =
 
 -- after pass 1 has chosen in area₁ and words₁, the rest of the passes leaves its text in area
 pub process-done : (n lines : ℕ) (v : View) (area₀ words₀ area₁ words₁ area : List ℕ) (r : Span) → v .start ≤ v .end → v .end ≤ lines →
-    Held n lines area₀ words₀ area₁ words₁ → length area ≡ length area₁ → view.Processed (viewAt area₁ words₁ v) n area₁ r area →
+    Held n lines area₀ words₀ area₁ words₁ → length area ≡ length area₁ → view.ViewProcessed (viewAt area₁ words₁ v) n area₁ r area →
     Processed n lines v area₀ words₀ r area words₁
 process-done n lines v area₀ words₀ area₁ words₁ area r o h held long p =
     let again = held-below n lines area₁ words₁ area words₁ (held .laid) long refl (p .below) refl in

@@ -2,7 +2,6 @@
 --     beats-falls      where a score does not beat the floor, no lower one does
 --     useless-to       where n shared is not enough, nothing less is
 --     judged           the value made of what is reached tells the real one
---     judged-exact     against the lowest floor it is the real one
 -- Assumes nothing.
 use mathlib.Core.Path.{_≡_, refl, sym, ap, _∙_}
 use mathlib.Core.Bool.{Bool, true, false, not, true≢false, false≢true}
@@ -10,16 +9,15 @@ use Prim.Native.Nat.{ℕ, _+_, _≤_}
 use native.Mathlib.Omega.{arith}
 use lib.Dec.{T, leb}
 use lib.Ieee.{Float, lt, le}
-use lib.Ieee.Fits.{and-l}
 use borrow.Author.Tests.{leb-true, leb-false, not-false}
 use Rattle.rules.specs.declared.Value.{Value}
 use Rattle.rules.specs.Sizes.{totalMost}
-use Rattle.rules.specs.Table.{nought, one, score}
+use Rattle.rules.specs.Table.{score}
 use Rattle.rules.specs.Refusal.{unit}
 use Rattle.rules.proofs.FloatOrder.{le-not, lt-between}
 use Rattle.rules.proofs.ScoreLaws.{score-facts, score-mono}
 use Rattle.floors.specs.declared.Floor.{Floor}
-use Rattle.floors.specs.Floors.{beats, lowest, Judged}
+use Rattle.floors.specs.Floors.{beats, Judged}
 use Rattle.ngram_score.specs.Shares.{Useless, Reached}
 
 -- ---- a lower score beats no more
@@ -82,11 +80,3 @@ module _ (floor : Floor) (a b : ℕ) (A : a ≤ totalMost) (B : b ≤ totalMost)
         real-unit = fair n h k;
         told-unit = fair m i j;
       }
-
--- ---- against the lowest
-pub beats-lowest : (x : Float) → T (unit x) → beats lowest x ≡ true
-unfolding beats unit
-beats-lowest x u = ap not (le-not nought x (and-l (le nought x) (le x one) u))
-
-pub judged-exact : (floor : Floor) (x r : Value) → floor ≡ lowest → Judged floor x r → r ≡ x
-judged-exact floor x r e j = j .real (ap (λ (f : Floor). beats f (x .score)) e ∙ beats-lowest (x .score) (j .real-unit))

@@ -1,4 +1,4 @@
--- The list that stands is read back as the prefixes, by their starts (`tabled`); and the lines are as they were.
+-- The list that stands is read back as the prefixes, by their groupStarts (`tabled`); and the lines are as they were.
 -- Assumes nothing.
 use mathlib.Core.Path.{_≡_, refl, sym, ap, ap₂, _∙_}
 use mathlib.Core.Logic.{_⊎_, inl, inr}
@@ -13,14 +13,14 @@ use Rattle.lists.proofs.SliceLaws.{part-at}
 use Rattle.rules.specs.Prefix.{prefixes}
 use Rattle.rules.proofs.BoolLaws.{and-left, and-right}
 use Rattle.sort_spread.specs.Sort.{partLater, msorted, InOrder, Leads}
-use Rattle.sort_tally.specs.Group.{groupsFrom, groups, starts, Grouped, partsAt}
+use Rattle.sort_tally.specs.Group.{groupsFrom, groups, groupStarts, Grouped, partsAt}
 use Rattle.sort_tally.proofs.GroupLaws.{groups-few}
 use Rattle.sort_spread.proofs.OrderLaws.{length-msorted}
 use Rattle.sort_tally.proofs.StableLaws.{Has, has-cases, has-none, Climbing, grouped, group-has}
 use Rattle.preproc_table.specs.Entries.{linesFrom, Apart}
 use Rattle.preproc_table.proofs.EntryLaws.{lines-same, line-same}
 use Rattle.prefix_list.specs.declared.Listed.{Listed}
-use Rattle.prefix_list.specs.Listing.{plain, plainLines, listed, startsFrom, Stands}
+use Rattle.prefix_list.specs.Listing.{plain, plainLines, listed, startsFrom, ListStands}
 use Rattle.prefix_choice.specs.Choice as choice
 use Rattle.prefix_choice.proofs.ReachLaws.{part-whole}
 use Rattle.prefix_choice.proofs.WinnerLaws.{starts-long}
@@ -75,7 +75,7 @@ unfolding groups
 groups-some f [] h = absurd (omega arith)
 groups-some f (x ∷ xs) h = groups-from-some f x 1 xs
 
--- ---- the groups of k starts
+-- ---- the groups of k groupStarts
 module _ (text p : List ℕ) (k d : ℕ) (xs : List ℕ) (long : length xs ≡ k) (g : Grouped (groups (partLater 10 1 text) (msorted (partLater 10 1 text) k xs)) k d p) where
   pub grouped-some : 0 < k → (0 < d) × (d ≤ k)
   grouped-some h =
@@ -86,9 +86,9 @@ module _ (text p : List ℕ) (k d : ℕ) (xs : List ℕ) (long : length xs ≡ k
 
   pub grouped-fits : (m : ℕ) → ((a : ℕ) → Has a xs → a ≤ m) → (j : ℕ) → j < d → getD p j 0 ≤ m
   grouped-fits m f j h =
-      let e : getD p j 0 ≡ getD (starts (grouped 10 1 text k xs)) j 0 = sym (getD-take d p j 0 h) ∙ ap (λ (l : List ℕ). getD l j 0) (g .first) in
-      let l : j < length (starts (grouped 10 1 text k xs)) = omega (arith, starts-long (grouped 10 1 text k xs), g .many) in
-      rw e (f (getD (starts (grouped 10 1 text k xs)) j 0) (group-has 10 1 text k xs j l))
+      let e : getD p j 0 ≡ getD (groupStarts (grouped 10 1 text k xs)) j 0 = sym (getD-take d p j 0 h) ∙ ap (λ (l : List ℕ). getD l j 0) (g .first) in
+      let l : j < length (groupStarts (grouped 10 1 text k xs)) = omega (arith, starts-long (grouped 10 1 text k xs), g .many) in
+      rw e (f (getD (groupStarts (grouped 10 1 text k xs)) j 0) (group-has 10 1 text k xs j l))
 
 -- ---- a part that was lent up to the end
 module _ (at : ℕ) (d ys : List ℕ) (h : at ≤ length d) (l : length ys ≡ length d - at) where
@@ -98,7 +98,7 @@ module _ (at : ℕ) (d ys : List ℕ) (h : at ≤ length d) (l : length ys ≡ l
       rw (drop-at (take at d) (ys ++ drop (length d - at) (drop at d)) at (length-take-le at d h), e) (append-nil ys)
 
 -- ---- from the list that stands
-module _ (n : ℕ) (ls : List (List ℕ)) (area₀ table₀ : List ℕ) (r : Listed) (area table : List ℕ) (st : Stands n (prefixes ls) area₀ table₀ r area table)
+module _ (n : ℕ) (ls : List (List ℕ)) (area₀ table₀ : List ℕ) (r : Listed) (area table : List ℕ) (st : ListStands n (prefixes ls) area₀ table₀ r area table)
     (smooth : plainLines (prefixes ls) ≡ true) (room : 8 * n + 64 ≤ length area) (words : 12 * n + 64 ≤ length table) where
   abbrev first : List ℕ
   first = take (r .k) (drop (2 * n + 2) table)
@@ -123,7 +123,7 @@ module _ (n : ℕ) (ls : List (List ℕ)) (area₀ table₀ : List ℕ) (r : Lis
   text-long : length text ≡ 4 * n + length (listed (prefixes ls))
   text-long = ap length (sym text-is) ∙ length-append (take (4 * n) area) (listed (prefixes ls)) ∙ ap (λ (m : ℕ). m + length (listed (prefixes ls))) front-long
 
-  pub stands-listed : choice.Listed text first ls
+  pub stands-listed : choice.ListsAt text first ls
   stands-listed =
       record {
         climbing = rw starts-are (climbing-starts (4 * n) (prefixes ls));

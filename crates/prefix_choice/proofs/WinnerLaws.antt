@@ -16,12 +16,12 @@ use Rattle.rules.specs.Prefix.{prefixes, fourFifths, strip, withoutPrefix, reac
 use Rattle.rules.specs.Table.{tallied, occurs}
 use Rattle.rules.proofs.PrefixLaws.{firstMost, without-prefix, same-self}
 use Rattle.sort_spread.specs.Sort.{partOf, InOrder, Leads}
-use Rattle.sort_tally.specs.Group.{Group, starts, counts, entriesAt, partsAt}
+use Rattle.sort_tally.specs.Group.{Group, groupStarts, counts, entriesAt, partsAt}
 use Rattle.sort_order.proofs.PartLaws.{part-front, part-short}
 use Rattle.sort_tally.proofs.TallyLaws.{part, entries-read, groups-tallied}
 use Rattle.sort_tally.proofs.StableLaws.{Has, has-cases, has-here, has-more, has-none, Climbing, climbing-skip, Kept, grouped, covered, group-has, group-count}
 use Rattle.prefix_list.specs.Listing.{plain}
-use Rattle.prefix_choice.specs.Choice.{Beaten, Tabled}
+use Rattle.prefix_choice.specs.Choice.{Beaten, Grouping}
 use Rattle.prefix_choice.proofs.ReachLaws.{part-plain}
 
 -- ---- the first start with the highest number
@@ -45,7 +45,7 @@ module _ (text : List ℕ) (many : List ℕ → ℕ) where
       go false e f = f
 
 module _ (many : ℕ → ℕ) (w : ℕ) where
-  -- none of the list has more, and none that has as many starts before
+  -- none of the list has more, and none that has as many groupStarts before
   abbrev Under : List ℕ → Type 0
   Under xs = (a : ℕ) → Has a xs → (many a ≤ many w) × (many a ≡ many w → w ≤ a)
 
@@ -116,18 +116,18 @@ has-occurs text a (x ∷ xs) h = go (has-cases a x xs h) (has-occurs text a xs)
     go (inr k) more = omega (arith, more k)
 
 -- ---- the choice
-pub starts-long : (gs : List Group) → length (starts gs) ≡ length gs
+pub starts-long : (gs : List Group) → length (groupStarts gs) ≡ length gs
 starts-long [] = refl
 starts-long (g ∷ gs) = ap suc (starts-long gs)
 
-module _ (text p : List ℕ) (k d : ℕ) (ls : List (List ℕ)) (xs : List ℕ) (t : Tabled text p k d ls xs) where
+module _ (text p : List ℕ) (k d : ℕ) (ls : List (List ℕ)) (xs : List ℕ) (t : Grouping text p k d ls xs) where
   abbrev gs : List Group
   gs = grouped 10 1 text k xs
 
-  long : length (starts gs) ≡ d
+  long : length (groupStarts gs) ≡ d
   long = starts-long gs ∙ sym (t .grouped .many)
 
-  start-is : (j : ℕ) → j < d → getD p j 0 ≡ getD (starts gs) j 0
+  start-is : (j : ℕ) → j < d → getD p j 0 ≡ getD (groupStarts gs) j 0
   start-is j h = sym (getD-take d p j 0 h) ∙ ap (λ (l : List ℕ). getD l j 0) (t .grouped .first)
 
   count-is : (j : ℕ) → j < d → getD p (k + j) 0 ≡ getD (counts gs) j 0
@@ -157,7 +157,7 @@ module _ (text p : List ℕ) (k d : ℕ) (ls : List (List ℕ)) (xs : List ℕ) 
     under : (a : ℕ) → Has a xs → (seen a ≤ seen best) × (seen a ≡ seen best → best ≤ a)
     under a l = at (covered 10 1 text k xs (t .listed .climbing) fits a l)
       where
-        at : Kept 10 1 text (starts gs) a → (seen a ≤ seen best) × (seen a ≡ seen best → best ≤ a)
+        at : Kept 10 1 text (groupStarts gs) a → (seen a ≤ seen best) × (seen a ≡ seen best → best ≤ a)
         at r =
             let j : ℕ = r .at in
             let b : j < d = omega (arith, r .within, long) in

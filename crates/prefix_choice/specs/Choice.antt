@@ -20,13 +20,13 @@ pub record Beaten (p : List ℕ) (k j w : ℕ) : Type 0 where
   pub first : getD p (k + j) 0 ≡ getD p (k + w) 0 → getD p w 0 ≤ getD p j 0
 
 -- the list of prefixes of the lines ls stands in `text`, and its entries start at xs
-pub record Listed (text xs : List ℕ) (ls : List (List ℕ)) : Type 0 where
+pub record ListsAt (text xs : List ℕ) (ls : List (List ℕ)) : Type 0 where
   pub climbing : Climbing xs
   pub parts : partsAt 10 1 text xs ≡ prefixes ls
 
 -- and p has its groups
-pub record Tabled (text p : List ℕ) (k d : ℕ) (ls : List (List ℕ)) (xs : List ℕ) : Type 0 where
-  pub listed : Listed text xs ls
+pub record Grouping (text p : List ℕ) (k d : ℕ) (ls : List (List ℕ)) (xs : List ℕ) : Type 0 where
+  pub listed : ListsAt text xs ls
   pub long : length xs ≡ k
   pub grouped : Grouped (groups (partLater 10 1 text) (msorted (partLater 10 1 text) k xs)) k d p
 

@@ -12,7 +12,7 @@ ghost use Rattle.sort_tally.specs.Group.{groups, Grouped, entriesAt};
 ghost use Rattle.sort_spread.specs.Sort.{partLater, msorted};
 ghost use Rattle.sort_tally.proofs.StableLaws.{Has};
 ghost use Rattle.prefix_list.specs.Listing.{plain};
-ghost use Rattle.prefix_choice.specs.Choice.{Beaten, Listed, Tabled, Decided};
+ghost use Rattle.prefix_choice.specs.Choice.{Beaten, ListsAt, Grouping, Decided};
 use slices::two::starts_with;
 use slices::wide::wide;
 use sort_order::part_end;
@@ -90,7 +90,7 @@ pub fn reach(text: &[u8], p: &[u32], k: usize, d: usize, a: usize, b: usize) -> 
 pub fn decide(text: &[u8], p: &[u32], k: usize, d: usize, lines: usize) -> Common
     requires { ⌜ (0 < d) × (d ≤ k) × (k + k ≤ length (now p)) × (k < 4294967296) × (lines < 4294967296) ⌝ }
     requires { ⌜ ((j : ℕ) → j < d → getD (now p) j 0 ≤ length (now text)) ⌝ }
-    ensures { λ r. ⌜ ((ls : List (List ℕ)) (xs : List ℕ) → Tabled (now (text .entry)) (now (p .entry)) k d ls xs → length ls ≡ lines → Decided ls (now (text .entry)) r) ⌝ }
+    ensures { λ r. ⌜ ((ls : List (List ℕ)) (xs : List ℕ) → Grouping (now (text .entry)) (now (p .entry)) k d ls xs → length ls ≡ lines → Decided ls (now (text .entry)) r) ⌝ }
 {
     let w = winner(p, k, d);
     let start = wide(p[w]);
@@ -107,7 +107,7 @@ pub fn choose(text: &[u8], table: &mut [u32], at: usize, k: usize, lines: usize)
     requires { ⌜ (0 < k) × (at + (k + k) ≤ length (now table)) × (k < 4294967296) × (lines < 4294967296) ⌝ }
     requires { ⌜ ((a : ℕ) → Has a (take k (drop at (now table))) → a ≤ length (now text)) ⌝ }
     ensures front { λ r. ⌜ take at (now (table .exit)) ≡ take at (now (table .entry)) ⌝ }
-    ensures decided { λ r. ⌜ ((ls : List (List ℕ)) → Listed (now (text .entry)) (take k (drop at (now (table .entry)))) ls → length ls ≡ lines → Decided ls (now (text .entry)) r) ⌝ }
+    ensures decided { λ r. ⌜ ((ls : List (List ℕ)) → ListsAt (now (text .entry)) (take k (drop at (now (table .entry)))) ls → length ls ≡ lines → Decided ls (now (text .entry)) r) ⌝ }
 {
     let d = group_prefixes(text, &mut table[at..], k);
     decide(text, &table[at..], k, d, lines)

@@ -15,7 +15,7 @@ use Rattle.lists.proofs.SliceLaws.{part-at}
 use Rattle.slices.specs.declared.ends.Span.{Span}
 use Rattle.preproc_table.specs.Entries.{startAt, endAt, lineAt, Apart}
 use Rattle.preproc_table.proofs.EntryLaws.{start-same, end-same, line-same}
-use Rattle.prefix_list.specs.Listing.{listed, startsFrom, Lies, Shared, Stands}
+use Rattle.prefix_list.specs.Listing.{listed, startsFrom, Lies, Shared, ListStands}
 use Rattle.prefix_list.proofs.ShareLaws.{rest, both, prefixes-step, prefixes-done}
 
 -- a prefix and a newline behind what stands
@@ -203,7 +203,7 @@ module _ (n count stop : ℕ) (area₀ table₀ : List ℕ) (apart : Apart n (4 
 
 -- with no neighbours left all stands
 pub listing-end : {n i₀ stop : ℕ} {area₀ table₀ area table : List ℕ} {k w i : ℕ} → Listing n i₀ stop area₀ table₀ area table k w i → stop ≤ i + 1 → stop ≤ n + 1 →
-    Stands n (rest area₀ table₀ stop i₀) area₀ table₀ (record { k = k; end = w }) area table
+    ListStands n (rest area₀ table₀ stop i₀) area₀ table₀ (record { k = k; end = w }) area table
 unfolding listed startsFrom
 listing-end {n} {i₀} {stop} {area₀} {table₀} {area} {table} {k} {w} {i} l h up =
     let e = prefixes-done area₀ table₀ i stop h in

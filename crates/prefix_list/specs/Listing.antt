@@ -51,7 +51,7 @@ pub record Shared (area table : List ℕ) (i : ℕ) (r : Span) : Type 0 where
   pub bytes : slice (r .start) (r .end) area ≡ trim (common (lineAt area table i) (lineAt area table (i + 1)))
 
 -- the list qs stands in the areas of a text of n bytes, and what is below it is as it was
-pub record Stands (n : ℕ) (qs : List (List ℕ)) (area₀ table₀ : List ℕ) (r : Listed) (area table : List ℕ) : Type 0 where
+pub record ListStands (n : ℕ) (qs : List (List ℕ)) (area₀ table₀ : List ℕ) (r : Listed) (area table : List ℕ) : Type 0 where
   pub low : viewStart n ≤ r .end
   pub high : r .end ≤ 7 * n
   pub few : r .k ≤ n + 1

@@ -9,7 +9,7 @@ ghost use Rattle.rules.specs.Prefix.{prefixes};
 ghost use Rattle.rules.specs.Table.{occurs};
 ghost use Rattle.slices.specs.Classes.{classTable};
 ghost use Rattle.preproc_table.specs.Entries.{viewStart, linesFrom, Apart};
-ghost use Rattle.prefix_list.specs.Listing.{Home, Lies, Shared, Stands};
+ghost use Rattle.prefix_list.specs.Listing.{Home, Lies, Shared, ListStands};
 ghost use mathlib.Core.List.{[], _∷_, _++_};
 ghost use Rattle.rules.specs.Sizes.{textMost, byteArea, wordArea};
 use preproc_table::line_end;
@@ -102,7 +102,7 @@ pub fn list_prefixes(
 ) -> Listed
     requires { ⌜ (now class ≡ classTable) × Apart n (viewStart n) (now table) count × (v .start ≤ v .end) × (v .end ≤ count) × (count ≤ n + 1) ⌝ }
     requires { ⌜ (n ≤ textMost) × (byteArea n ≤ length (now area)) × (wordArea n ≤ length (now table)) ⌝ }
-    ensures { λ r. ⌜ Stands n (prefixes (linesFrom (now (area .entry)) (now (table .entry)) (v .start) (v .end - v .start))) (now (area .entry)) (now (table .entry)) r (now (area .exit)) (now (table .exit)) ⌝ }
+    ensures { λ r. ⌜ ListStands n (prefixes (linesFrom (now (area .entry)) (now (table .entry)) (v .start) (v .end - v .start))) (now (area .entry)) (now (table .entry)) r (now (area .exit)) (now (table .exit)) ⌝ }
 {
     let at = table_end(n);
     let stop = v.end;

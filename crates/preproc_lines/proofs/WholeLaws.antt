@@ -24,7 +24,7 @@ use Rattle.rules.proofs.RefusalLaws.{lines-count}
 use Rattle.slices.specs.declared.ends.Span.{Span}
 use Rattle.slices.proofs.EndLaws.{lead-most}
 use Rattle.preproc_lines.specs.Placed.{Placed}
-use Rattle.preproc_table.specs.Entries.{startAt, endAt, lineAt, linesFrom, linesAt, written, Apart}
+use Rattle.preproc_table.specs.Entries.{startAt, endAt, lineAt, linesFrom, linesAt, entrySet, Apart}
 use Rattle.preproc_lines.specs.Normalised.{Normalised}
 use Rattle.preproc_table.proofs.EntryLaws.{start-written, end-written, start-other, end-other, lines-more, lines-same, lines-length, up-to}
 
@@ -130,7 +130,7 @@ module _ (text : List ℕ) (at m : ℕ) (e : m ≡ lineLen (drop at text)) (h : 
 
   module _ {area area′ table : List ℕ} {to count : ℕ} {r : Span} (g : Going text area table at to count) (p : Placed piece area to r area′) (room : 2 * count + 1 < length table) where
     abbrev now-written : List ℕ
-    now-written = written table count (r .start) (r .end)
+    now-written = entrySet table count (r .start) (r .end)
 
     last-start : startAt now-written count ≡ r .start
     last-start = start-written table count (r .start) (r .end) room

@@ -1,4 +1,4 @@
--- Runs of bytes of one kind cut short: line passes 4 and 5 and aggressive pass 7 leave one byte of each, aggressive pass 2 two.
+-- Runs of bytes of one kind cut short: aggressive pass 7 leaves one byte of each, aggressive pass 2 two.
 -- Assumes nothing.
 use Prim.Native.Nat.{ℕ, _+_}
 use mathlib.Core.Bool.{Bool, cond}

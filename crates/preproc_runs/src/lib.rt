@@ -82,7 +82,7 @@ pub fn cap_runs(
     w
 }
 
-// Each run of bytes of classes lo to hi of the first n becomes one rep, in place: line passes 4 and 5, aggressive pass 7. One walk.
+// Each run of bytes of classes lo to hi of the first n becomes one rep, in place: aggressive pass 7. One walk.
 pub fn join_runs(class: &[u8; 256], lo: u8, hi: u8, rep: u8, buf: &mut [u8], n: usize) -> usize
     requires { ⌜ n ≤ length (now buf) ⌝ }
     ensures { λ r. ⌜ Front (runs (inClass (now (class .entry)) lo hi) rep false (take n (now (buf .entry)))) r (now (buf .exit)) ⌝ }

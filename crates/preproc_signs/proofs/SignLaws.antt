@@ -129,7 +129,7 @@ module _ (class : ℕ → ℕ) where
       at false e true q go = go g ∙ sym (turn-goes-on ks g x xs d (λ z. eqb-false s 0 e (eqb-true s g q ∙ z)) (eqb-true s g q))
       at false e false q go = ap (λ (ys : List ℕ). s ∷ ys) (go s) ∙ sym (turn-opens ks g x s xs d refl (eqb-false s 0 e) (eqb-false s g q))
 
--- ---- the kinds of document 01
+-- ---- the kinds of the rules
 abbrev pub classAt : List ℕ → ℕ → ℕ
 classAt t x = getD t x 0
 

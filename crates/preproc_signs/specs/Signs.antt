@@ -1,5 +1,5 @@
--- Line passes 4 and 5 as kinds of runs: the bytes of some classes, each run of which becomes one byte. Run by run in turn, as document 01
--- has it, and all in one walk.
+-- Line passes 4 and 5 as kinds of runs: the bytes of some classes, each run of which becomes one byte. Run by run in turn, as the rules
+-- have it, and all in one walk.
 -- Assumes nothing.
 use Prim.Native.Nat.{ℕ}
 use mathlib.Core.Bool.{cond}

@@ -13,24 +13,24 @@ use lib.Seq.{slice, slice-empty, getD-set-same, getD-set-other, getD-take}
 use borrow.Author.Tests.{eqb-true, eqb-false}
 use Rattle.lists.proofs.SliceLaws.{slice-first, slice-within}
 use Rattle.rules.specs.Search.{blank}
-use Rattle.preproc_table.specs.Entries.{startAt, endAt, lineAt, linesFrom, linesAt, written, blanked, Apart, Blanked}
+use Rattle.preproc_table.specs.Entries.{startAt, endAt, lineAt, linesFrom, linesAt, entrySet, blanked, Apart, Blanked}
 
 -- ---- an entry after a write
 module _ (table : List ℕ) (k start end : ℕ) where
-  pub start-written : 2 * k + 1 < length table → startAt (written table k start end) k ≡ start
+  pub start-written : 2 * k + 1 < length table → startAt (entrySet table k start end) k ≡ start
   start-written h =
       getD-set-other (set table (2 * k) start) (2 * k + 1) (2 * k) end 0 (λ e. omega arith)
       ∙ getD-set-same table (2 * k) start 0 (omega arith)
 
-  pub end-written : 2 * k + 1 < length table → endAt (written table k start end) k ≡ end
+  pub end-written : 2 * k + 1 < length table → endAt (entrySet table k start end) k ≡ end
   end-written h = getD-set-same (set table (2 * k) start) (2 * k + 1) end 0 (rw length-set h)
 
-  pub start-other : (j : ℕ) → (j ≡ k → ⊥) → startAt (written table k start end) j ≡ startAt table j
+  pub start-other : (j : ℕ) → (j ≡ k → ⊥) → startAt (entrySet table k start end) j ≡ startAt table j
   start-other j n =
       getD-set-other (set table (2 * k) start) (2 * k + 1) (2 * j) end 0 (λ e. omega arith)
       ∙ getD-set-other table (2 * k) (2 * j) start 0 (λ e. n (omega arith))
 
-  pub end-other : (j : ℕ) → (j ≡ k → ⊥) → endAt (written table k start end) j ≡ endAt table j
+  pub end-other : (j : ℕ) → (j ≡ k → ⊥) → endAt (entrySet table k start end) j ≡ endAt table j
   end-other j n =
       getD-set-other (set table (2 * k) start) (2 * k + 1) (2 * j + 1) end 0 (λ e. n (omega arith))
       ∙ getD-set-other table (2 * k) (2 * j + 1) start 0 (λ e. omega arith)

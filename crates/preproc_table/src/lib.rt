@@ -4,7 +4,7 @@
 ghost use mathlib.Core.Path.{_≡_};
 ghost use Prim.Native.Nat.{_+_, _*_, _<_, _≤_, _^_};
 ghost use lib.ListN.{length};
-ghost use Rattle.preproc_table.specs.Entries.{tableEnd, viewStart, startAt, endAt, written, blanked, Blanked};
+ghost use Rattle.preproc_table.specs.Entries.{tableEnd, viewStart, startAt, endAt, entrySet, blanked, Blanked};
 
 // Where the line table of a text of n bytes ends in the words: a text has n + 1 lines at most, each two numbers.
 pub fn table_end(n: usize) -> usize
@@ -43,7 +43,7 @@ pub fn line_end(table: &[u32], i: usize) -> usize
 // Line i is made the bytes from start up to end.
 pub fn set_line(table: &mut [u32], i: usize, start: usize, end: usize)
     requires { ⌜ (2 * i + 1 < length (now table)) × (start < 2 ^ 32) × (end < 2 ^ 32) ⌝ }
-    ensures { λ r. ⌜ now (table .exit) ≡ written (now (table .entry)) i start end ⌝ }
+    ensures { λ r. ⌜ now (table .exit) ≡ entrySet (now (table .entry)) i start end ⌝ }
 {
     let k = 2 * i;
     table[k] = start as u32;

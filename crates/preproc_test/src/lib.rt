@@ -31,7 +31,7 @@ pub fn plain_lines(text: &[u8]) -> usize
     lines
 }
 
-// The test of document 01: refusals 1 to 3, and L.
+// The test of the rules: refusals 1 to 3, and L.
 pub fn test_text(text: &[u8]) -> Tested
     ensures { λ r. ⌜ AsTested (now (text .entry)) r ⌝ }
 {

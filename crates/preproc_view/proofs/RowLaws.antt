@@ -18,7 +18,7 @@ use Rattle.slices.proofs.EndLaws.{bare-within, bare-trim}
 use Rattle.slices.proofs.KindLaws.{by-table, space-table, vertical-table, kept-table}
 use Rattle.preproc_runs.specs.Capped.{capped}
 use Rattle.preproc_runs.proofs.PassLaws.{vertical-capped}
-use Rattle.preproc_view.specs.Rows.{Stands, firstPasses, lastPasses}
+use Rattle.preproc_view.specs.Rows.{StandsAt, firstPasses, lastPasses}
 
 module _ (t : List ℕ) (e : t ≡ classTable) where
   pub first-row : (s : List ℕ) → map lowered (keep (keptIn t) (capped (verticalIn t) 10 2 0 s)) ≡ firstPasses s
@@ -30,7 +30,7 @@ module _ (t : List ℕ) (e : t ≡ classTable) where
 
   -- what is bare of the spaces around it, of the first n
   pub last-row : (s : List ℕ) {d : List ℕ} {n : ℕ} {r : Span} → Front (runs (spaceIn t) 32 false (withoutCopyright true true 0 s)) n d →
-      Bare (spaceIn t) (take n d) r → Stands (lastPasses s) d r
+      Bare (spaceIn t) (take n d) r → StandsAt (lastPasses s) d r
   unfolding lastPasses
   last-row s {d} {n} {r} f b =
       let k = by-table spaceIn e space-table in
@@ -46,8 +46,8 @@ module _ (t : List ℕ) (e : t ≡ classTable) where
       }
 
 -- what stands in a part d that was lent from t on stands there in the whole; e stands behind the part
-pub stands-lent : {out : List ℕ} {r : Span} (t : ℕ) (b d e : List ℕ) → t ≤ length b → Stands out d r →
-    Stands out (take t b ++ (d ++ e)) (record { start = t + r .start; end = t + r .end })
+pub stands-lent : {out : List ℕ} {r : Span} (t : ℕ) (b d e : List ℕ) → t ≤ length b → StandsAt out d r →
+    StandsAt out (take t b ++ (d ++ e)) (record { start = t + r .start; end = t + r .end })
 stands-lent {out} {r} t b d e h p =
     let k : length (take t b) ≡ t = length-take-le t b h in
     let q : drop t (take t b ++ (d ++ e)) ≡ d ++ e = drop-at (take t b) (d ++ e) t k in
@@ -61,8 +61,8 @@ stands-lent {out} {r} t b d e h p =
 -- the title's bytes go, and the last passes work behind them, on the part that is lent
 pub whole-row : (s b d e : List ℕ) (m title : ℕ) (r : Span) → Front (firstPasses s) m b → title ≤ length (take m b) →
     withoutTitle (take m b) ≡ drop title (take m b) →
-    Stands (lastPasses (take (m - title) (take (length b - title) (drop title b)))) d r →
-    Stands (passes s) (take title b ++ (d ++ e)) (record { start = title + r .start; end = title + r .end })
+    StandsAt (lastPasses (take (m - title) (take (length b - title) (drop title b)))) d r →
+    StandsAt (passes s) (take title b ++ (d ++ e)) (record { start = title + r .start; end = title + r .end })
 unfolding passes firstPasses lastPasses
 whole-row s b d e m title r f l t p =
     let h : title ≤ length b = omega (arith, f .within, length-take-le m b (f .within)) in

@@ -18,8 +18,8 @@ use Rattle.slices.specs.declared.ends.Span.{Span}
 use Rattle.preproc_table.specs.Entries.{viewStart, startAt, endAt, lineAt, linesFrom, Apart}
 use Rattle.preproc_join.specs.declared.Prefix.{Prefix}
 use Rattle.preproc_join.specs.Joins.{bytesOf, left, viewLines, Below, Joined}
-use Rattle.preproc_view.specs.Rows.{Stands}
-use Rattle.preproc_view.specs.Whole.{viewAt, Ready, Chosen, Processed}
+use Rattle.preproc_view.specs.Rows.{StandsAt}
+use Rattle.preproc_view.specs.Whole.{viewAt, Ready, StripsAs, ViewProcessed}
 use Rattle.preproc_view.proofs.RowLaws.{stands-lent}
 
 -- ---- what is left of a line is no longer than the line, and the line no longer than its entry says
@@ -65,7 +65,7 @@ module _ (area table : List ℕ) (p : Prefix) {first last end : ℕ} (a : Apart 
   join-fits f (suc n) h = omega (arith, fits n f h, a .low f (omega arith))
 
 -- ---- a view of the lines of a text
-module _ {class area table : List ℕ} {n : ℕ} {v : View} {p : Prefix} (q : Ready class area table n v) (c : Chosen area n (viewAt area table v) p) where
+module _ {class area table : List ℕ} {n : ℕ} {v : View} {p : Prefix} (q : Ready class area table n v) (c : StripsAs area n (viewAt area table v) p) where
   pub ready-below : Below class table (v .end) p (viewStart n)
   ready-below =
       record { classes = q .classes; entries = q .entries; order = q .apart .order; below = q .apart .high; prefix = c .below }
@@ -77,8 +77,8 @@ module _ {class area table : List ℕ} {n : ℕ} {v : View} {p : Prefix} (q : Re
   -- joined from where a view begins, and then the passes on the part that is lent from there on
   pub all-passes : {to : ℕ} → to ≡ viewStart n → {len : ℕ} (b d e : List ℕ) {r : Span} →
       Joined (join (viewLines area table (v .start) (v .end) p)) area to len b → to ≤ length b →
-      Stands (passes (take len (take (length b - to) (drop to b)))) d r →
-      Processed (viewAt area table v) n area (record { start = to + r .start; end = to + r .end }) (take to b ++ (d ++ e))
+      StandsAt (passes (take len (take (length b - to) (drop to b)))) d r →
+      ViewProcessed (viewAt area table v) n area (record { start = to + r .start; end = to + r .end }) (take to b ++ (d ++ e))
   unfolding viewLines aggressive
   all-passes {to} t {len} b d e {r} j h s =
       let o : passes (take len (take (length b - to) (drop to b))) ≡ passes (join (withoutPrefix (viewAt area table v))) =
@@ -91,7 +91,7 @@ module _ {class area table : List ℕ} {n : ℕ} {v : View} {p : Prefix} (q : Re
 
 -- ---- what pass 1 chose: nothing, or the bytes from s up to e
 module _ (area : List ℕ) (n : ℕ) (ls : List (List ℕ)) where
-  pub chosen-none : withoutPrefix ls ≡ ls → Chosen area n ls (record { strip = false; at = 0; len = 0 })
+  pub chosen-none : withoutPrefix ls ≡ ls → StripsAs area n ls (record { strip = false; at = 0; len = 0 })
   unfolding left
   chosen-none h = record { below = zero-le; lines = h ∙ sym (each ls) }
     where
@@ -100,7 +100,7 @@ module _ (area : List ℕ) (n : ℕ) (ls : List (List ℕ)) where
       each (m ∷ ms) = ap (λ (r : List (List ℕ)). m ∷ r) (each ms)
 
   pub chosen-span : (s e : ℕ) → s ≤ e → e ≤ viewStart n → withoutPrefix ls ≡ map (strip (slice s e area)) ls →
-      Chosen area n ls (record { strip = true; at = s; len = e - s })
+      StripsAs area n ls (record { strip = true; at = s; len = e - s })
   unfolding left
   chosen-span s e k h f =
       let q : s + (e - s) ≡ e = omega arith in

@@ -13,7 +13,7 @@ use Rattle.slices.specs.Classes.{classTable}
 use Rattle.preproc_table.specs.Entries.{viewStart, linesFrom, Apart}
 use Rattle.preproc_join.specs.declared.Prefix.{Prefix}
 use Rattle.preproc_join.specs.Joins.{left}
-use Rattle.preproc_view.specs.Rows.{Stands}
+use Rattle.preproc_view.specs.Rows.{StandsAt}
 
 -- the lines of the view
 abbrev pub viewAt : List ℕ → List ℕ → View → List (List ℕ)
@@ -28,12 +28,12 @@ pub record Ready (class area table : List ℕ) (n : ℕ) (v : View) : Type 0 whe
   pub order : v .start ≤ v .end
 
 -- pass 1 leaves of each line what p leaves of it
-pub record Chosen (area : List ℕ) (n : ℕ) (ls : List (List ℕ)) (p : Prefix) : Type 0 where
+pub record StripsAs (area : List ℕ) (n : ℕ) (ls : List (List ℕ)) (p : Prefix) : Type 0 where
   pub below : p .at + p .len ≤ viewStart n
   pub lines : withoutPrefix ls ≡ map (left area p) ls
 
 -- the processed text stands in r, behind the lines, and what stands below 4n is as it was
-pub record Processed (ls : List (List ℕ)) (n : ℕ) (d₀ : List ℕ) (r : Span) (d : List ℕ) : Type 0 where
-  pub stands : Stands (aggressive ls) d r
+pub record ViewProcessed (ls : List (List ℕ)) (n : ℕ) (d₀ : List ℕ) (r : Span) (d : List ℕ) : Type 0 where
+  pub stands : StandsAt (aggressive ls) d r
   pub behind : viewStart n ≤ r .start
   pub below : take (viewStart n) d ≡ take (viewStart n) d₀

@@ -9,7 +9,7 @@ ghost use Rattle.lists.specs.Wrote.{Front};
 ghost use Rattle.rules.specs.Passes.{lowered};
 ghost use Rattle.rules.specs.Passes;
 ghost use Rattle.slices.specs.Classes.{classTable};
-ghost use Rattle.preproc_view.specs.Rows.{Stands, firstPasses, lastPasses};
+ghost use Rattle.preproc_view.specs.Rows.{StandsAt, firstPasses, lastPasses};
 use preproc_cut::without_copyright;
 use preproc_runs::cap_runs;
 use preproc_runs::join_runs;
@@ -54,7 +54,7 @@ pub fn lower_in(class: &[u8; 256], buf: &mut [u8], n: usize) -> usize
 // Passes 6 to 8: where the result stands among the first n.
 fn last_passes(class: &[u8; 256], buf: &mut [u8], n: usize) -> Span
     requires { ⌜ (now class ≡ classTable) × (n ≤ length (now buf)) ⌝ }
-    ensures { λ r. ⌜ Stands (lastPasses (take n (now (buf .entry)))) (now (buf .exit)) r ⌝ }
+    ensures { λ r. ⌜ StandsAt (lastPasses (take n (now (buf .entry)))) (now (buf .exit)) r ⌝ }
 {
     let n6 = without_copyright(class, buf, n);
     let n7 = join_runs(class, SPACE_LOW, SPACE_HIGH, b' ', buf, n6);
@@ -74,7 +74,7 @@ fn first_passes(class: &[u8; 256], buf: &mut [u8], n: usize) -> usize
 // Passes 2 to 8: where the processed text stands. The title only moves its start.
 pub fn passes(class: &[u8; 256], buf: &mut [u8], n: usize) -> Span
     requires { ⌜ (now class ≡ classTable) × (n ≤ length (now buf)) ⌝ }
-    ensures { λ r. ⌜ Stands (Passes.passes (take n (now (buf .entry)))) (now (buf .exit)) r ⌝ }
+    ensures { λ r. ⌜ StandsAt (Passes.passes (take n (now (buf .entry)))) (now (buf .exit)) r ⌝ }
 {
     let n4 = first_passes(class, buf, n);
     let title = title_len(class, &buf[..n4]);

@@ -8,7 +8,7 @@ ghost use Prim.Native.Nat.{_≤_};
 ghost use lib.Seq.{slice};
 ghost use Rattle.rules.specs.Prefix.{strip, withoutPrefix};
 ghost use Rattle.preproc_table.specs.Entries.{viewStart};
-ghost use Rattle.preproc_view.specs.Whole.{Ready, Chosen, Processed, viewAt};
+ghost use Rattle.preproc_view.specs.Whole.{Ready, StripsAs, ViewProcessed, viewAt};
 use crate::passes::passes;
 use preproc_join::Prefix;
 use preproc_join::join_lines;
@@ -25,8 +25,8 @@ fn process_with(
     v: View,
     p: Prefix,
 ) -> Span
-    requires { ⌜ Ready (now class) (now area) (now table) n v × Chosen (now area) n (viewAt (now area) (now table) v) p ⌝ }
-    ensures { λ r. ⌜ Processed (viewAt (now (area .entry)) (now (table .entry)) v) n (now (area .entry)) r (now (area .exit)) ⌝ }
+    requires { ⌜ Ready (now class) (now area) (now table) n v × StripsAs (now area) n (viewAt (now area) (now table) v) p ⌝ }
+    ensures { λ r. ⌜ ViewProcessed (viewAt (now (area .entry)) (now (table .entry)) v) n (now (area .entry)) r (now (area .exit)) ⌝ }
 {
     let to = view_start(n);
     let len = join_lines(class, area, table, v.start, v.end, p, to);
@@ -40,7 +40,7 @@ fn process_with(
 // The same where pass 1 strips nothing.
 pub fn process_plain(class: &[u8; 256], area: &mut [u8], table: &[u32], n: usize, v: View) -> Span
     requires { ⌜ Ready (now class) (now area) (now table) n v × (withoutPrefix (viewAt (now area) (now table) v) ≡ viewAt (now area) (now table) v) ⌝ }
-    ensures { λ r. ⌜ Processed (viewAt (now (area .entry)) (now (table .entry)) v) n (now (area .entry)) r (now (area .exit)) ⌝ }
+    ensures { λ r. ⌜ ViewProcessed (viewAt (now (area .entry)) (now (table .entry)) v) n (now (area .entry)) r (now (area .exit)) ⌝ }
 {
     let p = Prefix {
         strip: false,
@@ -61,7 +61,7 @@ pub fn process_stripped(
     e: usize,
 ) -> Span
     requires { ⌜ Ready (now class) (now area) (now table) n v × (s ≤ e) × (e ≤ viewStart n) × (withoutPrefix (viewAt (now area) (now table) v) ≡ map (strip (slice s e (now area))) (viewAt (now area) (now table) v)) ⌝ }
-    ensures { λ r. ⌜ Processed (viewAt (now (area .entry)) (now (table .entry)) v) n (now (area .entry)) r (now (area .exit)) ⌝ }
+    ensures { λ r. ⌜ ViewProcessed (viewAt (now (area .entry)) (now (table .entry)) v) n (now (area .entry)) r (now (area .exit)) ⌝ }
 {
     let p = Prefix {
         strip: true,

@@ -1,4 +1,4 @@
-// What a job refuses before any work, the first that applies in document 01's order: of compile, of score and bounds, and of scan.
+// What a job refuses before any work, the first that applies in the rules' order: of compile, of score and bounds, and of scan.
 // Added to spdx 0.13.6 (detection/scan.rs, Copyright 2018 Amazon.com, Inc. or its affiliates. All Rights Reserved.
 // SPDX-License-Identifier: Apache-2.0), which refuses nothing. Assumes nothing.
 ghost use mathlib.Core.Path.{_≡_};

@@ -1,4 +1,4 @@
-// The rows of refusals that are tested by numbers alone: areas, views, limits, results. In document 01's order.
+// The rows of refusals that are tested by numbers alone: areas, views, limits, results. In the rules' order.
 // Added to spdx 0.13.6 (detection/scan.rs, Copyright 2018 Amazon.com, Inc. or its affiliates. All Rights Reserved.
 // SPDX-License-Identifier: Apache-2.0), which refuses nothing. Assumes nothing.
 ghost use mathlib.Core.Path.{_≡_};

@@ -1,4 +1,4 @@
--- What antt computes of the definitions: the marked cases of document 01 as one table and one statement, and a second table of the same
+-- What antt computes of the definitions: the marked cases of the rules as one table and one statement, and a second table of the same
 -- form: the errors that look right, the order of the refusals, damaged books, and what lies empty.
 -- Assumes nothing.
 use Prim.Native.Nat.{ℕ}

@@ -1,4 +1,4 @@
--- What document 01 says of a score, over m and the two totals: `score-facts`. By m and t alone it is 2 m / t rounded once
+-- What the rules say of a score, over m and the two totals: `score-facts`. By m and t alone it is 2 m / t rounded once
 -- (`score-by-t`), and with the same totals more shared gives no lower a score (`score-mono`). From 0.0 to 1.0 is no NaN (`no-nan`).
 -- Assumes nothing.
 use mathlib.Core.Path.{_≡_, refl, sym, ap, ap₂, _∙_}

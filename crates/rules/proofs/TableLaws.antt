@@ -1,5 +1,5 @@
 -- Tables strictly rise by bytes and count from 1 (`Rising`), a text's and a sound book's. So m is at most each total, the same either way
--- round, and half of t exactly if the tables are equal; and document 01's sentences on the score hold of `valueOf` (`value-..`).
+-- round, and half of t exactly if the tables are equal; and the rules' sentences on the score hold of `valueOf` (`value-..`).
 -- Assumes nothing.
 use mathlib.Core.Path.{_≡_, refl, sym, ap, ap₂, _∙_}
 use mathlib.Core.Logic.{_↔_, _≢_, inl, inr}
@@ -274,7 +274,7 @@ table-proper gs h = record { rising = tallied-rising gs; summed = sym (tallied-s
 pub stored-proper : (s : Stored) → StoredSound s → Proper (s .table)
 stored-proper s h = record { rising = sound-entries-rising [] (s .table .entries) (h .rising) .1; summed = h .total; limited = h .total-to }
 
--- ---- document 01 on the score
+-- ---- the rules on the score
 module _ (a b : Table) (p : Proper a) (q : Proper b) where
   facts : ScoreFacts (valueOf a b .m) (a .total) (b .total) (valueOf a b .score)
   unfolding valueOf

@@ -1,6 +1,6 @@
 -- The class of a byte, for all passes: a constant table of 256 entries gives it. The numbers are chosen so that what a pass drops, keeps
 -- or joins into one byte is a range of classes. By the byte itself are tested only 32 (the spaces before A's `copyright`, and between
--- words), `c` (C's item), and the letters of the words that are looked for.
+-- words), the newline, `c` (C's item), the letters of the words that are looked for, and 128 and above (refusal 2).
 -- Assumes nothing.
 use Prim.Native.Nat.{ℕ}
 use mathlib.Core.Bool.{cond}

@@ -1,4 +1,4 @@
--- Document 01 as definitions, in its order: what a reader must believe.
+-- The rules (docs/RULES.md) as definitions, in their order: what a reader must believe.
 pub mod Sizes
 pub mod Bytes
 pub mod Class

@@ -1,4 +1,4 @@
--- The numbers of document 01, each named once.
+-- The numbers of the rules, each named once.
 -- Assumes nothing.
 use Prim.Native.Nat.{ℕ, _+_, _*_}
 

@@ -2,7 +2,7 @@
 // From detection/scan.rs of spdx 0.13.6 (Copyright 2018 Amazon.com, Inc. or its affiliates. All Rights Reserved.
 // SPDX-License-Identifier: Apache-2.0), changed. Assumes nothing.
 
-// Document 01's numbers, as specs/Sizes.antt has them. A text: its bytes and its lines.
+// The rules' numbers, as specs/Sizes.antt has them. A text: its bytes and its lines.
 pub const TEXT_MOST: usize = 1048576;
 
 pub const LINES_MOST: usize = 65536;
@@ -64,7 +64,7 @@ pub struct Bounds {
     pub value: Value,
 }
 
-// The answer to `check a book`. A refusal is document 01's number in every answer, and 0 is none.
+// The answer to `check a book`. A refusal is the rules' number in every answer, and 0 is none.
 pub struct Checked {
     pub refusal: u32,
     pub texts: u32,

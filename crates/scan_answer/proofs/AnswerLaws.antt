@@ -25,7 +25,7 @@ use Rattle.rules.specs.Table.{nought}
 use Rattle.rules.specs.Search as rules
 use Rattle.rules.specs.Search.{Stored, noText, noBest}
 use Rattle.rules.specs.Scan.{Event, events, afford, scorings, records, verdict, names, numbers}
-use Rattle.detection_shelf.specs.Shelves.{Shelf, texts, bookIn, textIn, partOf, partsOf}
+use Rattle.detection_shelf.specs.Shelves.{Shelf, texts, bookIn, textIn, partHeld, partsOf}
 use Rattle.rules.specs.Refusal.{refusal, ofScan, beforeScan, resultsNeed, Areas}
 use Rattle.rules.specs.Jobs.{over, lent, named, namePart, answered, happened, scan, resultsAfter, areaAfter, ScanDone}
 use Rattle.rules.proofs.BudgetLaws.{afford-count}
@@ -40,7 +40,7 @@ use Rattle.refusals.proofs.AdmitLaws.{scan-most}
 use Rattle.refusals.specs.Admits.{ScanThrough}
 use Rattle.scan_ranges.specs.declared.Run.{Run}
 use Rattle.scan_elimination.specs.declared.Outcome.{Outcome}
-use Rattle.scan_ranges.specs.Run.{written, leftOver, runOf}
+use Rattle.scan_ranges.specs.Run.{paidNumbers, leftOver, runOf}
 use Rattle.scan_elimination.specs.Ended.{NameFits, Eliminated}
 use Rattle.scan_answer.specs.Answers.{namedIn, partFor, KindIs, answerFor, refusedBy, full, stopped, Scans}
 
@@ -97,8 +97,8 @@ module _ (t : List ℕ) (books : Shelf) (lim : Limits) (mode : Mode) (budget : �
   count = length (scorings all)
 
   pub scan-room : (left : Scorings) → left ≡ record { count = budget } → (ls : List (List ℕ)) → ls ≡ lines t →
-      length (written (left .count) (events lim mode (texts books) ls)) ≤ length r₀
-  unfolding written
+      length (paidNumbers (left .count) (events lim mode (texts books) ls)) ≤ length r₀
+  unfolding paidNumbers
   scan-room left made ls e =
       rw (made, e) (omega (arith, results-fit lim mode (texts books) (lines t) budget (passed .step), passed .room, ap (λ (n : ℕ). resultsNeed n mode) (lines-count t)))
 
@@ -142,7 +142,7 @@ module _ (t : List ℕ) (books : Shelf) (lim : Limits) (mode : Mode) (budget : �
           }
 
   recorded : x .run .records ≡ length (records es)
-  unfolding written
+  unfolding paidNumbers
   recorded = omega (arith, h .ran .wrote .count, numbers-length (records es))
 
   pub answer-fits : x .run .left ≤ budget
@@ -152,7 +152,7 @@ module _ (t : List ℕ) (books : Shelf) (lim : Limits) (mode : Mode) (budget : �
   unfolding namePart named names bestIn noText
   part-is = at (lt (lim .threshold) (x .best .value .score)) ∙ ap (λ (v : rules.Best). namePart (partsOf books) (named lim v)) (h .best)
     where
-      at : (q : Bool) → cond q (partOf (x .best .text)) noPart ≡ namePart (partsOf books) (cond q (textIn books (x .best .text)) noText)
+      at : (q : Bool) → cond q (partHeld (x .best .text)) noPart ≡ namePart (partsOf books) (cond q (textIn books (x .best .text)) noText)
       at true = sym (h .name .stands)
       at false = refl
 
@@ -176,7 +176,7 @@ module _ (t : List ℕ) (books : Shelf) (lim : Limits) (mode : Mode) (budget : �
       }
 
   pub results-are : r ≡ over (numbers (records es)) r₀
-  unfolding over written
+  unfolding over paidNumbers
   results-are = h .ran .wrote .bytes ∙ ap (λ (n : ℕ). numbers (records es) ++ drop n r₀) (h .ran .wrote .count)
 
 -- ---- the two ends of the job

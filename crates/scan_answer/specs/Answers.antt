@@ -18,7 +18,7 @@ use Rattle.rules.specs.Book.{noPart}
 use Rattle.rules.specs.Lines.{lines}
 use Rattle.rules.specs.Scan.{Event, events, afford, scorings, records, numbers}
 use Rattle.rules.specs.Jobs.{over, named, answered}
-use Rattle.detection_shelf.specs.Shelves.{Shelf, texts, partOf, partsOf}
+use Rattle.detection_shelf.specs.Shelves.{Shelf, texts, partHeld, partsOf}
 use Rattle.detect_best.specs.declared.Best.{Best}
 use Rattle.detect_best.specs.Beats.{bestIn}
 use Rattle.scan_elimination.specs.declared.Outcome.{Outcome}
@@ -33,7 +33,7 @@ namedIn books lim b = named lim (bestIn books b)
 
 -- where its name stands
 abbrev pub partFor : Limits → Best → Named
-partFor lim b = cond (lt (lim .threshold) (b .value .score)) (partOf (b .text)) noPart
+partFor lim b = cond (lt (lim .threshold) (b .value .score)) (partHeld (b .text)) noPart
 
 -- its kind, over any books
 pub record KindIs (lim : Limits) (b : Best) (r : ℕ) : Type 0 where

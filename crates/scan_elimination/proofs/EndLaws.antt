@@ -38,7 +38,7 @@ use Rattle.detection_shelf.specs.Shelves.{Shelf, texts, Stands, Counted, bookIn
 use Rattle.detection_shelf.proofs.ShelfLaws.{stands-part}
 use Rattle.scan_ranges.specs.declared.Scope.{Scope}
 use Rattle.scan_elimination.specs.declared.Outcome.{Outcome}
-use Rattle.scan_ranges.specs.Run.{Scanning, written, leftOver, runOf, Ran}
+use Rattle.scan_ranges.specs.Run.{Scanning, paidNumbers, leftOver, runOf, Ran}
 use Rattle.scan_elimination.specs.Ended.{NameFits, Eliminated}
 use Rattle.scan_ranges.proofs.ValueLaws.{stands-sound}
 use Rattle.scan_ranges.proofs.RunLaws.{paid-is, unpaid-is, paid-written, paid-left, overall-written, overall-left}
@@ -79,7 +79,7 @@ none-name books = record { order = omega arith; high = omega arith; most = omega
 
 -- ---- the whole
 module _ {scope : Scope} {class area₀ words₀ : List ℕ} {books : Shelf} (s : Scanning scope class area₀ words₀ books) (optimize : Bool) (p budget : ℕ) (r₀ : List ℕ)
-    (room : length (written budget (elimination (scope .limits) optimize p (texts books) (linesAt area₀ words₀ (scope .lines)))) ≤ length r₀) where
+    (room : length (paidNumbers budget (elimination (scope .limits) optimize p (texts books) (linesAt area₀ words₀ (scope .lines)))) ≤ length r₀) where
   abbrev lim : Limits
   lim = scope .limits
 
@@ -132,9 +132,9 @@ module _ {scope : Scope} {class area₀ words₀ : List ℕ} {books : Shelf} (s 
       then : all ≡ after (made .list) (overall (bestIn books best) ∷ more (bestIn books best))
       then = split ∙ ap (λ (b : rules.Best). after (made .list) (overall b ∷ more b)) is
 
-      writes : written budget all ≡ written (left .count) (more (bestIn books best))
+      writes : paidNumbers budget all ≡ paidNumbers (left .count) (more (bestIn books best))
       writes =
-          ap (written budget) then ∙ paid-written made budget (overall (bestIn books best) ∷ more (bestIn books best)) (record { value = bestIn books best; left = left .count }) paid ∙
+          ap (paidNumbers budget) then ∙ paid-written made budget (overall (bestIn books best) ∷ more (bestIn books best)) (record { value = bestIn books best; left = left .count }) paid ∙
           overall-written (left .count) (bestIn books best) (more (bestIn books best))
 
       leaves : leftOver budget all ≡ leftOver (left .count) (more (bestIn books best))
@@ -166,8 +166,8 @@ module _ {scope : Scope} {class area₀ words₀ : List ℕ} {books : Shelf} (s 
         passes : more (bestIn books best) ≡ eachPass lim (texts books) p (linesAt area words (scope .lines)) (bestIn books best)
         passes = rw t (ap (λ (ms : List (List ℕ)). eachPass lim (texts books) p ms (bestIn books best)) (sym (d .held .same)))
 
-        pub whole-room : length (written (left .count) (eachPass lim (texts books) p (linesAt area words (scope .lines)) (bestIn books best))) ≤ length r₀
-        whole-room = subst (λ (l : List ℕ). length l ≤ length r₀) (writes ∙ ap (written (left .count)) passes) room
+        pub whole-room : length (paidNumbers (left .count) (eachPass lim (texts books) p (linesAt area words (scope .lines)) (bestIn books best))) ≤ length r₀
+        whole-room = subst (λ (l : List ℕ). length l ≤ length r₀) (writes ∙ ap (paidNumbers (left .count)) passes) room
 
         pub whole-on : {r : List ℕ} (x : Outcome) → x .best ≡ best → Ran (eachPass lim (texts books) p (linesAt area words (scope .lines)) (bestIn books best)) (left .count) r₀ r (x .run) →
             Eliminated all budget books r₀ r x

@@ -35,7 +35,7 @@ use Rattle.detect.specs.Bests.{chosenIn, ChosenStands, BestDone}
 use Rattle.detection_shelf.specs.Shelves.{Shelf, texts, textIn, Stands}
 use Rattle.scan_ranges.specs.declared.Run.{Run}
 use Rattle.scan_ranges.specs.declared.Scope.{Scope}
-use Rattle.scan_ranges.specs.Run.{written, runOf, Scanning, BestWithout, RangeFits, Ran}
+use Rattle.scan_ranges.specs.Run.{paidNumbers, runOf, Scanning, BestWithout, RangeFits, Ran}
 use Rattle.scan_ranges.proofs.RunLaws.{paid-is}
 use Rattle.scan_ranges.proofs.HeldLaws.{range-out, range-found, fits-of}
 use Rattle.scan_ranges.proofs.GoingLaws.{Going, going-first, going-as, going-paid, going-out, going-room, going-found, going-end, four}
@@ -93,7 +93,7 @@ pub record Passing (scope : Scope) (class area₀ words₀ : List ℕ) (books : 
       (eachPass (scope .limits) (texts books) (p - k) (linesAt area words (scope .lines)) (bestIn books best))
 
 pub pass-first : (scope : Scope) (class area words : List ℕ) (books : Shelf) (r : List ℕ) (p budget : ℕ) (first : Best) → Scanning scope class area words books → Stands books (first .text) →
-    length (written budget (eachPass (scope .limits) (texts books) p (linesAt area words (scope .lines)) (bestIn books first))) ≤ length r →
+    length (paidNumbers budget (eachPass (scope .limits) (texts books) p (linesAt area words (scope .lines)) (bestIn books first))) ≤ length r →
     Passing scope class area words books r p budget first area words r first budget 0
 pass-first scope class area words books r p budget first s t h = record {
   ready = s;

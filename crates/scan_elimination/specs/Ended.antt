@@ -9,7 +9,7 @@ use Rattle.rules.specs.Scan.{Event, afford, verdict}
 use Rattle.rules.specs.Jobs.{namePart}
 use Rattle.detection_shelf.specs.declared.Shelved.{Shelved}
 use Rattle.detect_best.specs.Beats.{bestIn}
-use Rattle.detection_shelf.specs.Shelves.{Shelf, bookIn, textIn, partOf, partsOf}
+use Rattle.detection_shelf.specs.Shelves.{Shelf, bookIn, textIn, partHeld, partsOf}
 use Rattle.scan_elimination.specs.declared.Outcome.{Outcome}
 use Rattle.scan_ranges.specs.Run.{Ran}
 
@@ -18,7 +18,7 @@ pub record NameFits (books : Shelf) (t : Shelved) : Type 0 where
   pub order : t .text .name ≤ t .text .past
   pub high : t .text .past ≤ length (bookIn books (t .second))
   pub most : t .text .past - t .text .name ≤ nameMost
-  pub stands : namePart (partsOf books) (textIn books t) ≡ partOf t
+  pub stands : namePart (partsOf books) (textIn books t) ≡ partHeld t
 
 pub record Eliminated (es : List Event) (budget : ℕ) (books : Shelf) (r₀ r : List ℕ) (x : Outcome) : Type 0 where
   pub best : bestIn books (x .best) ≡ verdict (afford budget es)

@@ -10,7 +10,7 @@ ghost use Rattle.rules.specs.Scan as rules;
 ghost use Rattle.preproc_table.specs.Entries.{linesAt};
 ghost use Rattle.detect_best.specs.Beats.{bestIn};
 ghost use Rattle.detection_shelf.specs.Shelves.{shelf, texts, Stands};
-ghost use Rattle.scan_ranges.specs.Run.{Scanning, BestWithout, written, Ran};
+ghost use Rattle.scan_ranges.specs.Run.{Scanning, BestWithout, paidNumbers, Ran};
 ghost use Rattle.scan_elimination.specs.Ended.{Eliminated};
 use detect::Chosen;
 use detect::best_text;
@@ -78,7 +78,7 @@ pub fn each_pass<'a>(
 ) -> Run
     requires { ⌜ Scanning scope (now class) (now area) (now words) (shelf (now book) (now second)) ⌝ }
     requires { ⌜ Stands (shelf (now book) (now second)) (first .text) ⌝ }
-    requires { ⌜ length (written (budget .count) (rules.eachPass (scope .limits) (texts (shelf (now book) (now second))) p (linesAt (now area) (now words) (scope .lines)) (bestIn (shelf (now book) (now second)) first))) ≤ length (now results) ⌝ }
+    requires { ⌜ length (paidNumbers (budget .count) (rules.eachPass (scope .limits) (texts (shelf (now book) (now second))) p (linesAt (now area) (now words) (scope .lines)) (bestIn (shelf (now book) (now second)) first))) ≤ length (now results) ⌝ }
     ensures { λ r. ⌜ Ran (rules.eachPass (scope .limits) (texts (shelf (now (book .entry)) (now (second .entry)))) p (linesAt (now (area .entry)) (now (words .entry)) (scope .lines)) (bestIn (shelf (now (book .entry)) (now (second .entry))) first)) (budget .count) (now (results .entry)) (now (results .exit)) r ⌝ }
 {
     let v = whole_view(scope.lines);
@@ -154,7 +154,7 @@ pub fn elimination<'a>(
     budget: Scorings,
 ) -> Outcome
     requires { ⌜ Scanning scope (now class) (now area) (now words) (shelf (now book) (now second)) ⌝ }
-    requires { ⌜ length (written (budget .count) (rules.elimination (scope .limits) optimize p (texts (shelf (now book) (now second))) (linesAt (now area) (now words) (scope .lines)))) ≤ length (now results) ⌝ }
+    requires { ⌜ length (paidNumbers (budget .count) (rules.elimination (scope .limits) optimize p (texts (shelf (now book) (now second))) (linesAt (now area) (now words) (scope .lines)))) ≤ length (now results) ⌝ }
     ensures { λ r. ⌜ Eliminated (rules.elimination (scope .limits) optimize p (texts (shelf (now (book .entry)) (now (second .entry)))) (linesAt (now (area .entry)) (now (words .entry)) (scope .lines))) (budget .count) (shelf (now (book .entry)) (now (second .entry))) (now (results .entry)) (now (results .exit)) r ⌝ }
 {
     let n = scope.n;

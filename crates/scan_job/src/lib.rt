@@ -12,7 +12,7 @@ ghost use Rattle.refusals.specs.Admits.{ScanThrough};
 ghost use Rattle.rules.specs.Refusal.{stepZero};
 ghost use Rattle.rules.specs.Jobs.{lent, ScanDone};
 ghost use Rattle.preproc_table.specs.Entries.{linesAt};
-ghost use Rattle.scan_ranges.specs.Run.{Scanning, written};
+ghost use Rattle.scan_ranges.specs.Run.{Scanning, paidNumbers};
 ghost use Rattle.scan_elimination.specs.Ended.{Eliminated};
 ghost use Rattle.scan_answer.specs.Answers.{Scans};
 use detect_best::no_best;
@@ -47,7 +47,7 @@ fn scan_mode<'a>(
 ) -> Outcome
     requires { ⌜ Scanning scope (now class) (now area) (now words) (shelf (now book) (now second)) ⌝ }
     requires { ⌜ stepZero mode ≡ false ⌝ }
-    requires { ⌜ length (written (budget .count) (events (scope .limits) mode (texts (shelf (now book) (now second))) (linesAt (now area) (now words) (scope .lines)))) ≤ length (now results) ⌝ }
+    requires { ⌜ length (paidNumbers (budget .count) (events (scope .limits) mode (texts (shelf (now book) (now second))) (linesAt (now area) (now words) (scope .lines)))) ≤ length (now results) ⌝ }
     ensures { λ r. ⌜ Eliminated (events (scope .limits) mode (texts (shelf (now (book .entry)) (now (second .entry)))) (linesAt (now (area .entry)) (now (words .entry)) (scope .lines))) (budget .count) (shelf (now (book .entry)) (now (second .entry))) (now (results .entry)) (now (results .exit)) r ⌝ }
 {
     match mode {
@@ -126,7 +126,7 @@ pub fn scan_laid<'a>(
 }
 
 // Over lent books, two or one: refusals 1 to 7, 10 and 12, or the scan. The work areas are zero after 0 and 12, and as they were after any other; the
-// results change only where a record is written.
+// results change only where a record is paidNumbers.
 fn scan_lent<'a>(
     text: &[u8],
     book: &'a [u8],

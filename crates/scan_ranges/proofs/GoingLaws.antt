@@ -17,15 +17,15 @@ use Rattle.rules.specs.Search.{Made}
 use Rattle.rules.specs.Scan.{Event, found, Recorded, after}
 use Rattle.license_charge.specs.Pay.{Paid, pay}
 use Rattle.scan_ranges.specs.declared.Run.{Run}
-use Rattle.scan_ranges.specs.Run.{written, leftOver, runOf, Ran}
+use Rattle.scan_ranges.specs.Run.{paidNumbers, leftOver, runOf, Ran}
 use Rattle.scan_ranges.proofs.RunLaws.{out-written, out-left, paid-written, paid-left, found-written, found-left, end-written, end-left}
 
 pub record Going (whole : List Event) (budget : ℕ) (r₀ r : List ℕ) (k left : ℕ) (rest : List Event) : Type 0 where
-  pub part : Part (written budget whole) (written left rest) r₀ r (recordWidth * k)
+  pub part : Part (paidNumbers budget whole) (paidNumbers left rest) r₀ r (recordWidth * k)
   pub rest-left : leftOver left rest ≡ leftOver budget whole
 
-pub going-first : (es : List Event) (b : ℕ) (r : List ℕ) → length (written b es) ≤ length r → Going es b r r 0 b es
-going-first es b r h = record { part = part-start (written b es) r h; rest-left = refl }
+pub going-first : (es : List Event) (b : ℕ) (r : List ℕ) → length (paidNumbers b es) ≤ length r → Going es b r r 0 b es
+going-first es b r h = record { part = part-start (paidNumbers b es) r h; rest-left = refl }
 
 -- the numbers of a record
 abbrev pub four : Recorded → List ℕ
@@ -62,7 +62,7 @@ module _ {whole : List Event} {budget : ℕ} {r₀ r : List ℕ} {k left : ℕ} 
 
   module _ (f : Recorded) (es : List Event) (g : Going whole budget r₀ r k left (found f ∷ es)) where
     pub going-room : recordWidth * k + recordWidth ≤ length r
-    going-room = part-space (four f) (written left es) (found-written left f es) (g .part)
+    going-room = part-space (four f) (paidNumbers left es) (found-written left f es) (g .part)
 
     pub going-found : (r′ : List ℕ) → r′ ≡ take (recordWidth * k) r ++ four f ++ drop (recordWidth * k + recordWidth) r →
         Going whole budget r₀ r′ (k + 1) left es

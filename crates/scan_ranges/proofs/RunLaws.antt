@@ -16,7 +16,7 @@ use Rattle.rules.specs.Search.{Made, Best}
 use Rattle.rules.specs.Scan.{Event, found, overall, Recorded, after, afford, scorings, records, numbers}
 use Rattle.rules.proofs.BudgetLaws.{scorings-after, records-paid, records-unpaid, pays-paid, pays-unpaid}
 use Rattle.license_charge.specs.Pay.{Paid, pay}
-use Rattle.scan_ranges.specs.Run.{written, leftOver}
+use Rattle.scan_ranges.specs.Run.{paidNumbers, leftOver}
 
 -- what is known where a run is paid, and where it is not
 pub paid-is : {A : Type 0} (m : Made A) (b : ℕ) (p : Paid A) → pay m b ≡ some p →
@@ -51,16 +51,16 @@ unpaid-is {A} m b e = at (leb (length (m .list)) b) refl e
 
 -- ---- a run of scorings, then es
 module _ {A : Type 0} (m : Made A) (b : ℕ) (es : List Event) where
-  pub out-written : pay m b ≡ none → written b (after (m .list) es) ≡ []
-  unfolding written numbers
+  pub out-written : pay m b ≡ none → paidNumbers b (after (m .list) es) ≡ []
+  unfolding paidNumbers numbers
   out-written h = ap numbers (records-unpaid b (m .list) es (unpaid-is m b h))
 
   pub out-left : pay m b ≡ none → leftOver b (after (m .list) es) ≡ none
   unfolding leftOver
   out-left h = simp (pays-unpaid b (m .list) es (unpaid-is m b h))
 
-  pub paid-written : (p : Paid A) → pay m b ≡ some p → written b (after (m .list) es) ≡ written (p .left) es
-  unfolding written
+  pub paid-written : (p : Paid A) → pay m b ≡ some p → paidNumbers b (after (m .list) es) ≡ paidNumbers (p .left) es
+  unfolding paidNumbers
   paid-written p h =
       let k = paid-is m b p h in
       ap numbers (records-paid b (m .list) es (k .2)) ∙ ap (λ (n : ℕ). numbers (records (afford n es))) (sym (k .1))
@@ -77,31 +77,31 @@ module _ {A : Type 0} (m : Made A) (b : ℕ) (es : List Event) where
 
 -- ---- a record, the overall best, the end
 pub found-written : (b : ℕ) (r : Recorded) (es : List Event) →
-    written b (found r ∷ es) ≡ r .text .number ∷ r .range .first ∷ r .range .after ∷ toBits binary32 (r .range .value .score) ∷ written b es
-unfolding written afford records numbers
+    paidNumbers b (found r ∷ es) ≡ r .text .number ∷ r .range .first ∷ r .range .after ∷ toBits binary32 (r .range .value .score) ∷ paidNumbers b es
+unfolding paidNumbers afford records numbers
 found-written b r es = refl
 
 pub found-left : (b : ℕ) (r : Recorded) (es : List Event) → leftOver b (found r ∷ es) ≡ leftOver b es
 unfolding leftOver scorings
 found-left b r es = refl
 
-pub overall-written : (b : ℕ) (x : Best) (es : List Event) → written b (overall x ∷ es) ≡ written b es
-unfolding written afford records
+pub overall-written : (b : ℕ) (x : Best) (es : List Event) → paidNumbers b (overall x ∷ es) ≡ paidNumbers b es
+unfolding paidNumbers afford records
 overall-written b x es = refl
 
 pub overall-left : (b : ℕ) (x : Best) (es : List Event) → leftOver b (overall x ∷ es) ≡ leftOver b es
 unfolding leftOver scorings
 overall-left b x es = refl
 
-pub end-written : (b : ℕ) → written b [] ≡ []
-unfolding written afford records numbers
+pub end-written : (b : ℕ) → paidNumbers b [] ≡ []
+unfolding paidNumbers afford records numbers
 end-written b = refl
 
 pub end-left : (b : ℕ) → leftOver b [] ≡ some b
 unfolding leftOver scorings
 end-left b = simp (leb·zero, sub-zero)
 
--- ---- four numbers written one behind the other
+-- ---- four numbers paidNumbers one behind the other
 pub four-set : (l : List ℕ) (at a b c d : ℕ) → at + 4 ≤ length l →
     set (set (set (set l at a) (at + 1) b) (at + 2) c) (at + 3) d ≡ take at l ++ (a ∷ b ∷ c ∷ d ∷ []) ++ drop (at + 4) l
 four-set l at a b c d h =

@@ -29,8 +29,8 @@ use Rattle.scan_ranges.specs.declared.Scope.{Scope}
 use Rattle.scan_ranges.specs.declared.Run.{Run}
 
 -- the numbers that it writes to the results area
-unfoldable pub written : ℕ → List Event → List ℕ
-written b es = numbers (records (afford b es))
+unfoldable pub paidNumbers : ℕ → List Event → List ℕ
+paidNumbers b es = numbers (records (afford b es))
 
 -- the scorings left, or none where the budget is out
 unfoldable pub leftOver : ℕ → List Event → Option ℕ
@@ -73,5 +73,5 @@ runOf k (some l) = record { out = false; records = k; left = l }
 
 -- x is how these events end under the budget; the results area holds their records, and is otherwise as it was
 pub record Ran (es : List Event) (budget : ℕ) (r₀ r : List ℕ) (x : Run) : Type 0 where
-  pub wrote : Wrote (written budget es) r₀ (recordWidth * x .records) r
+  pub wrote : Wrote (paidNumbers budget es) r₀ (recordWidth * x .records) r
   pub run : x ≡ runOf (x .records) (leftOver budget es)

@@ -37,7 +37,7 @@ use Rattle.scan_views.specs.declared.Walked.{Walked}
 use Rattle.scan_views.specs.declared.Walked.the-variants as walked
 use Rattle.scan_top_down.specs.declared.Contained.{Contained}
 use Rattle.scan_top_down.specs.declared.Contained.the-variants as round
-use Rattle.scan_ranges.specs.Run.{Scanning, RangeDone, RangeFits, written, runOf, Ran}
+use Rattle.scan_ranges.specs.Run.{Scanning, RangeDone, RangeFits, paidNumbers, runOf, Ran}
 use Rattle.scan_views.specs.Down.{latestIn, pairIn, LatestStands, Pairs}
 use Rattle.scan_top_down.specs.Contains.{containedIn, ContainedStands, Contains}
 use Rattle.scan_ranges.proofs.RunLaws.{paid-is}
@@ -184,7 +184,7 @@ pub record Downing (scope : Scope) (class area₀ words₀ : List ℕ) (books : 
       (downFrom (scope .limits) step (texts books) (linesAt area₀ words₀ (scope .lines)) c)
 
 pub rounds-first : {scope : Scope} {class area words : List ℕ} {books : Shelf} (r : List ℕ) (step budget : ℕ) → Scanning scope class area words books →
-    length (written budget (topDown (scope .limits) step (texts books) (linesAt area words (scope .lines)))) ≤ length r →
+    length (paidNumbers budget (topDown (scope .limits) step (texts books) (linesAt area words (scope .lines)))) ≤ length r →
     Downing scope class area words books r step budget area words r budget 0 0
 unfolding topDown
 rounds-first r step budget s h = record {

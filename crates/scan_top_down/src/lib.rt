@@ -6,7 +6,7 @@ ghost use lib.ListN.{length};
 ghost use Rattle.rules.specs.Scan as rules;
 ghost use Rattle.preproc_table.specs.Entries.{linesAt};
 ghost use Rattle.detection_shelf.specs.Shelves.{shelf, texts};
-ghost use Rattle.scan_ranges.specs.Run.{Scanning, written, Ran};
+ghost use Rattle.scan_ranges.specs.Run.{Scanning, paidNumbers, Ran};
 ghost use Rattle.scan_views.specs.Down.{latestIn, LatestStands};
 ghost use Rattle.scan_top_down.specs.Contains.{Contains};
 use detection_shelf::Shelved;
@@ -105,7 +105,7 @@ pub fn top_down<'a>(
 ) -> Run
     requires { ⌜ Scanning scope (now class) (now area) (now words) (shelf (now book) (now second)) ⌝ }
     requires { ⌜ 0 < step ⌝ }
-    requires { ⌜ length (written (budget .count) (rules.topDown (scope .limits) step (texts (shelf (now book) (now second))) (linesAt (now area) (now words) (scope .lines)))) ≤ length (now results) ⌝ }
+    requires { ⌜ length (paidNumbers (budget .count) (rules.topDown (scope .limits) step (texts (shelf (now book) (now second))) (linesAt (now area) (now words) (scope .lines)))) ≤ length (now results) ⌝ }
     ensures { λ r. ⌜ Ran (rules.topDown (scope .limits) step (texts (shelf (now (book .entry)) (now (second .entry)))) (linesAt (now (area .entry)) (now (words .entry)) (scope .lines))) (budget .count) (now (results .entry)) (now (results .exit)) r ⌝ }
 {
     let lines = scope.lines;

@@ -1,4 +1,4 @@
--- What the table of document 01 says of each kind of byte, at every number: the tests of the passes are ranges of its classes.
+-- What the table of the rules says of each kind of byte, at every number: the tests of the passes are ranges of its classes.
 -- Assumes nothing.
 use mathlib.Core.Path.{_≡_, refl, sym, ap, _∙_, fun-ext}
 use mathlib.Core.Bool.{Bool, true, false, not, _&&_, _||_}
@@ -148,6 +148,6 @@ module _ (x : ℕ) where
       and-true true = refl
       and-true false = refl
 
--- a table that is lent as document 01's says the same
+-- a table that is lent as the rules' says the same
 pub by-table : {t : List ℕ} {test : ℕ → Bool} (kind : List ℕ → ℕ → Bool) → t ≡ classTable → kind classTable ≡ test → kind t ≡ test
 by-table kind e k = ap (λ (u : List ℕ). kind u) e ∙ k

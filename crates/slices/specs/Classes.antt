@@ -1,4 +1,4 @@
--- A byte's class by a lent table, and the table of document 01's classes.
+-- A byte's class by a lent table, and the table of the rules' classes.
 -- Assumes nothing.
 use Prim.Native.Nat.{ℕ}
 use mathlib.Core.Bool.{Bool}

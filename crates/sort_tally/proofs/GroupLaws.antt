@@ -12,9 +12,9 @@ use native.Mathlib.Omega.{arith}
 use lib.ListN.{length, take, drop, set, getD, length-set, length-append, length-drop}
 use lib.Seq.{slice, length-take-le, take-suc-set, take-set-le, take-set-lt, drop-set-lt, drop-set-add, append-snoc}
 use Rattle.lists.proofs.SliceLaws.{slice-next, slice-done, slice-tail}
-use Rattle.sort_tally.specs.Group.{Group, groupsFrom, groups, starts, counts, Grouped}
+use Rattle.sort_tally.specs.Group.{Group, groupsFrom, groups, groupStarts, counts, Grouped}
 
-length-starts : (gs : List Group) → length (starts gs) ≡ length gs
+length-starts : (gs : List Group) → length (groupStarts gs) ≡ length gs
 length-starts [] = refl
 length-starts (g ∷ gs) = ap suc (length-starts gs)
 
@@ -62,7 +62,7 @@ pub record Grouping (f : ℕ → ℕ → Bool) (whole : List Group) (p₀ p : Li
   pub closed : d < i
   pub within : i ≤ k
   pub few : count + d ≤ i
-  pub first : take d p ++ starts (groupsFrom f start count (slice i k p₀)) ≡ starts whole
+  pub first : take d p ++ groupStarts (groupsFrom f start count (slice i k p₀)) ≡ groupStarts whole
   pub second : take d (drop k p) ++ counts (groupsFrom f start count (slice i k p₀)) ≡ counts whole
   pub ahead : slice i k p ≡ slice i k p₀
   pub back : drop (k + k) p ≡ drop (k + k) p₀
@@ -144,7 +144,7 @@ module _ {f : ℕ → ℕ → Bool} {whole : List Group} {p₀ p : List ℕ} {k 
   grouping-end h =
       let w = put-facts p k d i start count (g .closed) (omega (arith, g .closed, g .within)) (omega (arith, g .room, g .long)) in
       let z = slice-done p₀ i k h in
-      let a : take d p ++ (start ∷ []) ≡ starts whole = rw z at (g .first) in
+      let a : take d p ++ (start ∷ []) ≡ groupStarts whole = rw z at (g .first) in
       let b : take d (drop k p) ++ (count ∷ []) ≡ counts whole = rw z at (g .second) in
       let n : length (take d p) ≡ d = length-take-le d p (omega (arith, g .closed, g .within, g .room, g .long)) in (
         record {

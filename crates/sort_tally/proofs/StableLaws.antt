@@ -1,4 +1,4 @@
--- The sort is stable: starts that rise are sorted as if equal parts went by their starts (`msorted-stable`). So the start that a group
+-- The sort is stable: groupStarts that rise are sorted as if equal parts went by their groupStarts (`msorted-stable`). So the start that a group
 -- keeps is the least of its part (`covered`), a start of the list (`group-has`), and its count is how often the part stands in the
 -- list (`group-count`).
 -- Assumes nothing.
@@ -19,7 +19,7 @@ use Rattle.rules.specs.Book.{Above, Rising}
 use Rattle.rules.proofs.TableLaws.{count-none}
 use Rattle.rules.proofs.PrefixLaws.{same-self}
 use Rattle.sort_spread.specs.Sort.{partLater, rightNext, merged, msorted, countOf, Leads, InOrder}
-use Rattle.sort_tally.specs.Group.{Group, groupsFrom, groups, starts, counts, partsAt}
+use Rattle.sort_tally.specs.Group.{Group, groupsFrom, groups, groupStarts, counts, partsAt}
 use Rattle.sort_order.proofs.PartLaws.{later-one}
 use Rattle.sort_spread.proofs.OrderLaws.{countOf-msorted, inorder-msorted}
 use Rattle.sort_tally.proofs.TallyLaws.{part, later, read, equal-parts, sorted-count, sorted-rising, occurs-count}
@@ -190,8 +190,8 @@ module _ (f : ℕ → ℕ → Bool) where
       (ap₂ (merged f (length xs)) (msorted-stable g (take h xs) (climbing-take h xs c)) (msorted-stable g (drop h xs) (climbing-drop h xs c))
       ∙ merged-stable (p .at) (length xs) (msorted stable g (take h xs)) (msorted stable g (drop h xs)) low high)
 
--- ---- the groups of starts that are in the stable order
--- among the starts ss there is one of the same part as a, and no later
+-- ---- the groups of groupStarts that are in the stable order
+-- among the groupStarts ss there is one of the same part as a, and no later
 pub record Kept (m c : ℕ) (s ss : List ℕ) (a : ℕ) : Type 0 where
   pub at : ℕ
   pub within : at < length ss
@@ -223,7 +223,7 @@ module _ (m c : ℕ) (s : List ℕ) where
       moved = go (later m c s a y) (later m c s y a) (rw (← e) (o .0))
 
   covers : (start n : ℕ) (xs : List ℕ) → InOrder after (start ∷ xs) → (a : ℕ) → Has a (start ∷ xs) →
-      Kept m c s (starts (groupsFrom (later m c s) start n xs)) a
+      Kept m c s (groupStarts (groupsFrom (later m c s) start n xs)) a
   unfolding groupsFrom InOrder Leads stable
   covers start n [] o a h = kept-first start a [] (only (has-cases a start [] h))
     where
@@ -237,7 +237,7 @@ module _ (m c : ℕ) (s : List ℕ) where
       Goal : Bool → Type 0
       Goal t =
           Kept m c s
-          (starts (cond t (record { start = start; count = n } ∷ groupsFrom (later m c s) x 1 xs) (groupsFrom (later m c s) start (n + 1) xs))) a
+          (groupStarts (cond t (record { start = start; count = n } ∷ groupsFrom (later m c s) x 1 xs) (groupsFrom (later m c s) start (n + 1) xs))) a
 
       -- x joins the group: it is of the same part, and no earlier
       joins : later m c s x start ≡ false → after start x ≡ false → (part m c s x ≡ part m c s start) × (start ≤ x)
@@ -260,18 +260,18 @@ module _ (m c : ℕ) (s : List ℕ) where
           again (inr h) = more a (has-more a start xs h)
 
       go : (t : Bool) → later m c s x start ≡ t → (a ≡ start) ⊎ Has a (x ∷ xs) →
-          (Has a (x ∷ xs) → Kept m c s (starts (groupsFrom (later m c s) x 1 xs)) a) →
-          (part m c s x ≡ part m c s start → start ≤ x → (b : ℕ) → Has b (start ∷ xs) → Kept m c s (starts (groupsFrom (later m c s) start (n + 1) xs)) b) →
+          (Has a (x ∷ xs) → Kept m c s (groupStarts (groupsFrom (later m c s) x 1 xs)) a) →
+          (part m c s x ≡ part m c s start → start ≤ x → (b : ℕ) → Has b (start ∷ xs) → Kept m c s (groupStarts (groupsFrom (later m c s) start (n + 1) xs)) b) →
           Goal t
-      go true e (inl q) opens more = kept-first start a (starts (groupsFrom (later m c s) x 1 xs)) q
-      go true e (inr k) opens more = kept-next start a (starts (groupsFrom (later m c s) x 1 xs)) (opens k)
+      go true e (inl q) opens more = kept-first start a (groupStarts (groupsFrom (later m c s) x 1 xs)) q
+      go true e (inr k) opens more = kept-next start a (groupStarts (groupsFrom (later m c s) x 1 xs)) (opens k)
       go false e w opens more =
           let j = joins e (o .0) in
-          joined (starts (groupsFrom (later m c s) start (n + 1) xs)) (j .0) (j .1) w (more (j .0) (j .1))
+          joined (groupStarts (groupsFrom (later m c s) start (n + 1) xs)) (j .0) (j .1) w (more (j .0) (j .1))
 
   -- a group's start is one of the list
-  starts-has : (start n : ℕ) (xs : List ℕ) (j : ℕ) → j < length (starts (groupsFrom (later m c s) start n xs)) →
-      Has (getD (starts (groupsFrom (later m c s) start n xs)) j 0) (start ∷ xs)
+  starts-has : (start n : ℕ) (xs : List ℕ) (j : ℕ) → j < length (groupStarts (groupsFrom (later m c s) start n xs)) →
+      Has (getD (groupStarts (groupsFrom (later m c s) start n xs)) j 0) (start ∷ xs)
   unfolding groupsFrom
   starts-has start n [] zero l = has-here start []
   starts-has start n [] (suc j) l = absurd (not-suc-le-zero (le-of-suc-le-suc l))
@@ -283,27 +283,27 @@ module _ (m c : ℕ) (s : List ℕ) where
       between a (inr h) = has-more a start (x ∷ xs) (has-more a x xs h)
 
       go : (t : Bool) (j : ℕ) →
-          j < length (starts (cond t (record { start = start; count = n } ∷ groupsFrom (later m c s) x 1 xs) (groupsFrom (later m c s) start (n + 1) xs))) →
-          ((i : ℕ) → i < length (starts (groupsFrom (later m c s) x 1 xs)) → Has (getD (starts (groupsFrom (later m c s) x 1 xs)) i 0) (x ∷ xs)) →
-          ((i : ℕ) → i < length (starts (groupsFrom (later m c s) start (n + 1) xs)) → Has (getD (starts (groupsFrom (later m c s) start (n + 1) xs)) i 0) (start ∷ xs)) →
-          Has (getD (starts (cond t (record { start = start; count = n } ∷ groupsFrom (later m c s) x 1 xs) (groupsFrom (later m c s) start (n + 1) xs))) j 0) (start ∷ x ∷ xs)
+          j < length (groupStarts (cond t (record { start = start; count = n } ∷ groupsFrom (later m c s) x 1 xs) (groupsFrom (later m c s) start (n + 1) xs))) →
+          ((i : ℕ) → i < length (groupStarts (groupsFrom (later m c s) x 1 xs)) → Has (getD (groupStarts (groupsFrom (later m c s) x 1 xs)) i 0) (x ∷ xs)) →
+          ((i : ℕ) → i < length (groupStarts (groupsFrom (later m c s) start (n + 1) xs)) → Has (getD (groupStarts (groupsFrom (later m c s) start (n + 1) xs)) i 0) (start ∷ xs)) →
+          Has (getD (groupStarts (cond t (record { start = start; count = n } ∷ groupsFrom (later m c s) x 1 xs) (groupsFrom (later m c s) start (n + 1) xs))) j 0) (start ∷ x ∷ xs)
       go true zero l opens more = has-here start (x ∷ xs)
-      go true (suc j) l opens more = has-more (getD (starts (groupsFrom (later m c s) x 1 xs)) j 0) start (x ∷ xs) (opens j (le-of-suc-le-suc l))
+      go true (suc j) l opens more = has-more (getD (groupStarts (groupsFrom (later m c s) x 1 xs)) j 0) start (x ∷ xs) (opens j (le-of-suc-le-suc l))
       go false j l opens more =
-          let b : ℕ = getD (starts (groupsFrom (later m c s) start (n + 1) xs)) j 0 in
+          let b : ℕ = getD (groupStarts (groupsFrom (later m c s) start (n + 1) xs)) j 0 in
           between b (has-cases b start xs (more j l))
 
   -- a group's count is that of its part
-  above-at : (g : List ℕ) (gs : List Group) → Above g (read m c s gs) → Rising (read m c s gs) → (j : ℕ) → j < length (starts gs) →
-      order g (part m c s (getD (starts gs) j 0)) ≡ Ordering·lt
+  above-at : (g : List ℕ) (gs : List Group) → Above g (read m c s gs) → Rising (read m c s gs) → (j : ℕ) → j < length (groupStarts gs) →
+      order g (part m c s (getD (groupStarts gs) j 0)) ≡ Ordering·lt
   above-at g [] a r j l = absurd (not-suc-le-zero l)
   above-at g (h ∷ gs) a r zero l = rises-is g (part m c s (h .start)) .0 a
   above-at g (h ∷ gs) a r (suc j) l =
       let p = part m c s (h .start) in
-      order-trans g p (part m c s (getD (starts gs) j 0)) (rises-is g p .0 a) (above-at p gs (r .1) (r .2) j (le-of-suc-le-suc l))
+      order-trans g p (part m c s (getD (groupStarts gs) j 0)) (rises-is g p .0 a) (above-at p gs (r .1) (r .2) j (le-of-suc-le-suc l))
 
-  count-at : (gs : List Group) → Rising (read m c s gs) → (j : ℕ) → j < length (starts gs) →
-      countIn (read m c s gs) (part m c s (getD (starts gs) j 0)) ≡ getD (counts gs) j 0
+  count-at : (gs : List Group) → Rising (read m c s gs) → (j : ℕ) → j < length (groupStarts gs) →
+      countIn (read m c s gs) (part m c s (getD (groupStarts gs) j 0)) ≡ getD (counts gs) j 0
   unfolding countIn
   count-at [] r j l = absurd (not-suc-le-zero l)
   count-at (g ∷ gs) r zero l =
@@ -311,11 +311,11 @@ module _ (m c : ℕ) (s : List ℕ) where
       rw (same-self p) (omega (arith, count-none p (read m c s gs) (r .1) (r .2)))
   count-at (g ∷ gs) r (suc j) l =
       let p = part m c s (g .start) in
-      let q = part m c s (getD (starts gs) j 0) in
+      let q = part m c s (getD (groupStarts gs) j 0) in
       let k = le-of-suc-le-suc l in
       rw (same-by Ordering·lt p q (above-at p gs (r .1) (r .2) j k)) (omega (arith, count-at gs (r .2) j k))
 
-  -- ---- of a list of starts that rises
+  -- ---- of a list of groupStarts that rises
   module _ (k : ℕ) (xs : List ℕ) where
     abbrev pub grouped : List Group
     grouped = groups (later m c s) (msorted (later m c s) k xs)
@@ -323,31 +323,31 @@ module _ (m c : ℕ) (s : List ℕ) where
     same-has : (a : ℕ) → countOf (eqb a) (msorted (later m c s) k xs) ≡ countOf (eqb a) xs
     same-has a = countOf-msorted (eqb a) (later m c s) k xs
 
-    pub covered : Climbing xs → length xs ≤ k → (a : ℕ) → Has a xs → Kept m c s (starts grouped) a
+    pub covered : Climbing xs → length xs ≤ k → (a : ℕ) → Has a xs → Kept m c s (groupStarts grouped) a
     unfolding groups
     covered climb fits a h =
         go (msorted (later m c s) k xs)
         (rw (msorted-stable (later m c s) k xs climb) (inorder-msorted (stable (later m c s)) (stable-one (later m c s) (later-one m c s)) k xs fits))
         (rw (same-has a) h)
       where
-        go : (ys : List ℕ) → InOrder after ys → Has a ys → Kept m c s (starts (groups (later m c s) ys)) a
+        go : (ys : List ℕ) → InOrder after ys → Has a ys → Kept m c s (groupStarts (groups (later m c s) ys)) a
         go [] o h = absurd (has-none a h)
         go (y ∷ ys) o h = covers y 1 ys o a h
 
-    pub group-has : (j : ℕ) → j < length (starts grouped) → Has (getD (starts grouped) j 0) xs
+    pub group-has : (j : ℕ) → j < length (groupStarts grouped) → Has (getD (groupStarts grouped) j 0) xs
     unfolding groups
     group-has j l = rw same-has at (go (msorted (later m c s) k xs) l)
       where
-        go : (ys : List ℕ) → j < length (starts (groups (later m c s) ys)) → Has (getD (starts (groups (later m c s) ys)) j 0) ys
+        go : (ys : List ℕ) → j < length (groupStarts (groups (later m c s) ys)) → Has (getD (groupStarts (groups (later m c s) ys)) j 0) ys
         go [] l = absurd (not-suc-le-zero l)
         go (y ∷ ys) l = starts-has y 1 ys j l
 
-    pub group-count : length xs ≤ k → (j : ℕ) → j < length (starts grouped) →
-        getD (counts grouped) j 0 ≡ occurs (part m c s (getD (starts grouped) j 0)) (partsAt m c s xs)
+    pub group-count : length xs ≤ k → (j : ℕ) → j < length (groupStarts grouped) →
+        getD (counts grouped) j 0 ≡ occurs (part m c s (getD (groupStarts grouped) j 0)) (partsAt m c s xs)
     group-count fits j l =
         let o = inorder-msorted (later m c s) (later-one m c s) k xs fits in
         let ys : List ℕ = msorted (later m c s) k xs in
-        let p : List ℕ = part m c s (getD (starts grouped) j 0) in
+        let p : List ℕ = part m c s (getD (groupStarts grouped) j 0) in
         sym (count-at grouped (sorted-rising m c s ys o) j l)
         ∙ sorted-count m c s p ys o
         ∙ occurs-count m c s p ys

@@ -18,7 +18,7 @@ use Rattle.rules.specs.Book.{Above, Rising}
 use Rattle.rules.proofs.TableLaws.{tallied-count, tallied-rising, entries-exactly}
 use Rattle.sort_spread.specs.Sort.{partOf, lexLater, partLater, msorted, countOf, Leads, InOrder}
 use Rattle.sort_spread.specs.Spread.{Shuffled}
-use Rattle.sort_tally.specs.Group.{Group, groupsFrom, groups, starts, counts, Grouped, entriesFrom, entriesAt, partsAt}
+use Rattle.sort_tally.specs.Group.{Group, groupsFrom, groups, groupStarts, counts, Grouped, entriesFrom, entriesAt, partsAt}
 use Rattle.sort_order.proofs.PartLaws.{later-one}
 use Rattle.sort_spread.proofs.OrderLaws.{countOf-msorted, inorder-msorted}
 
@@ -71,7 +71,7 @@ module _ (m c : ℕ) (s : List ℕ) where
   abbrev pub read : List Group → List Counted
   read gs = map (λ (g : Group). record { bytes = part (g .start); count = g .count }) gs
 
-  pub entries-read : (gs : List Group) → entriesFrom m c s (starts gs) (counts gs) ≡ read gs
+  pub entries-read : (gs : List Group) → entriesFrom m c s (groupStarts gs) (counts gs) ≡ read gs
   unfolding entriesFrom
   entries-read [] = refl
   entries-read (g ∷ gs) = ap (λ (es : List Counted). record { bytes = part (g .start); count = g .count } ∷ es) (entries-read gs)
@@ -134,7 +134,7 @@ module _ (m c : ℕ) (s : List ℕ) where
           let q = equal-parts x start e (o .0) in
           joins q ∙ more (same (part start) g) rest ∙ rw q
 
-  -- a list of starts that are in order
+  -- a list of groupStarts that are in order
   pub sorted-count : (g : List ℕ) (xs : List ℕ) → InOrder later xs → countIn (read (groups later xs)) g ≡ occurs g (partsAt m c s xs)
   unfolding groups countIn occurs
   sorted-count g [] o = refl

@@ -1,4 +1,4 @@
--- Equal neighbours of a sorted list become one, with how many they are; and the counted parts read back from the starts and the counts.
+-- Equal neighbours of a sorted list become one, with how many they are; and the counted parts read back from the groupStarts and the counts.
 -- Assumes nothing.
 use mathlib.Core.Path.{_≡_}
 use mathlib.Core.Bool.{Bool, cond}
@@ -26,16 +26,16 @@ unfoldable pub groups : (ℕ → ℕ → Bool) → List ℕ → List Group
 groups later [] = []
 groups later (x ∷ xs) = groupsFrom later x 1 xs
 
-abbrev pub starts : List Group → List ℕ
-starts gs = map (λ (g : Group). g .start) gs
+abbrev pub groupStarts : List Group → List ℕ
+groupStarts gs = map (λ (g : Group). g .start) gs
 
 abbrev pub counts : List Group → List ℕ
 counts gs = map (λ (g : Group). g .count) gs
 
--- the d groups stand in p, their starts from 0 on and their counts from k on
+-- the d groups stand in p, their groupStarts from 0 on and their counts from k on
 pub record Grouped (gs : List Group) (k d : ℕ) (p : List ℕ) : Type 0 where
   pub many : d ≡ length gs
-  pub first : take d p ≡ starts gs
+  pub first : take d p ≡ groupStarts gs
   pub second : take d (drop k p) ≡ counts gs
 
 -- what stands there, read as parts of the text s with their counts

@@ -1,7 +1,7 @@
 -- `license_charge::charge_exact` meets its contract: every score beats the lowest floor.
 -- Assumes nothing.
 use borrow.Author.Needs.{needs}
-use Rattle.ngram_score.proofs.FloorLaws.{judged-exact}
+use Rattle.floors.proofs.LowestLaws.{judged-exact}
 use Rattle.license_charge.proofs.charge_exact.Statement.{statement}
 use Rattle.license_charge.proofs.charge_exact.Tie as tie
 

@@ -17,7 +17,7 @@ use Rattle.rules.proofs.PrefixLaws.{without-none}
 use Rattle.preproc_table.specs.Entries.{tableEnd, viewStart, linesFrom, linesAt}
 use Rattle.preproc_table.proofs.EntryLaws.{lines-viewed, lines-length, apart-below}
 use Rattle.prefix_list.specs.declared.Listed.{Listed}
-use Rattle.prefix_list.specs.Listing.{plainLines, Stands}
+use Rattle.prefix_list.specs.Listing.{plainLines, ListStands}
 use Rattle.prefix_choice.specs.declared.Common.the-variants.{Prefix}
 use Rattle.prefix_choice.specs.Choice.{Decided}
 use Rattle.prefix.proofs.PlainLaws.{plain-prefixes, plain-viewed}
@@ -62,8 +62,8 @@ module _ (x : tie.After-list-prefixes) where
   lines-many : length lines ≡ v .end - v .start
   lines-many = ap length lines-are ∙ lines-length area₀ table₀ (v .start) (v .end - v .start)
 
-  stands : Stands n (prefixes lines) area₀ table₀ found area table
-  stands = subst (λ (ls : List (List ℕ)). Stands n (prefixes ls) area₀ table₀ found area table) (sym lines-are) (x .list-prefixes .ensures)
+  stands : ListStands n (prefixes lines) area₀ table₀ found area table
+  stands = subst (λ (ls : List (List ℕ)). ListStands n (prefixes ls) area₀ table₀ found area table) (sym lines-are) (x .list-prefixes .ensures)
 
   smooth : plainLines (prefixes lines) ≡ true
   smooth = plain-prefixes lines (plain-viewed (linesAt area₀ table₀ (start .args .count)) v (start .pre .1 .1))
