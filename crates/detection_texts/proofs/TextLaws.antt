@@ -18,14 +18,13 @@ use lib.ListN.{length, getD, take, drop, length-drop}
 use lib.Seq.{drop-drop, getD-drop, length-take-le}
 use borrow.Author.Tests.{leb-true, ne-eqb}
 use Rattle.rules.specs.Sizes.{bookMost, storedMost, nameMost}
-use Rattle.rules.specs.Prefix.{Counted}
 use Rattle.rules.specs.Search.{Stored, noText}
 use Rattle.rules.specs.Bytes.{within, rises}
-use Rattle.rules.specs.Book.{number, Record, recordsOf, also, entriesOf, sum, soundEntries, soundTable, soundBody, storedKind, follows, soundRecords, tableIn, storedIn, storedOf, storedFrom as numberedFrom, stored, namesIn, noPart, namesOf, filled, sound, At, recordAt, nextPlace}
+use Rattle.rules.specs.Book.{number, Record, recordsOf, also, entriesOf, soundBody, storedKind, follows, soundRecords, tableIn, storedIn, storedOf, storedFrom as numberedFrom, stored, namesIn, noPart, namesOf, filled, sound, At, recordAt, nextPlace}
 use Rattle.rules.specs.declared.Named.{Named}
 use Rattle.rules.proofs.BoolLaws.{and-left, and-right}
 use Rattle.rules.proofs.DownLaws.{each-at}
-use Rattle.rules.proofs.SoundLaws.{StoredSound, sound-stored}
+use Rattle.rules.proofs.SoundLaws.{StoredSound, sound-stored, sound-some, body-total, table-size}
 use Rattle.records.proofs.StepLaws.{RecordHere, record-here, record-end, record-broken}
 use Rattle.detection_texts.specs.Texts.{part, storedFrom, nameAt, namesFrom, allSound, soundBodies, Before, firstPlace, passedBy, setOut, atRecord, pastRecord, Found, Under}
 use Rattle.detection_texts.specs.declared.texts.Place.{Place}
@@ -96,17 +95,6 @@ names-cons : (second : Bool) (place : ℕ) (p : Named) (r : Record) (o : Option 
 unfolding namesFrom also namesIn soundBodies
 names-cons second place p r none h = absurd (false≢true h)
 names-cons second place p r (some rs) h = refl
-
-table-known : (body : List ℕ) (o : Option (List Counted)) → soundTable body o ≡ true →
-    (o ≡ some (tableIn body o .entries)) × (number 4 body ≡ tableIn body o .total) × (8 ≤ length body)
-unfolding soundTable tableIn
-table-known body none h = absurd (false≢true h)
-table-known body (some es) h =
-    let a = leb 8 (length body) in
-    let b = eqb (number 4 body) (sum es) in
-    let c = eqb (number 4 (drop 4 body)) (length es) in
-    let d = soundEntries [] es in
-    (refl, refl, leb-true 8 (length body) (and-left a b (and-left (a && b) c (and-left (a && b && c) d (and-left (a && b && c && d) _ h)))))
 
 module _ (book : List ℕ) (p : Place) (b : Before book p) where
   pub not-done : p .number < length (stored book) → recordsOf (drop (p .at) book) ≡ some [] → ⊥
@@ -230,7 +218,7 @@ module _ (book : List ℕ) (p : Place) (b : Before book p) where
       unfolding soundBody
       found-here =
           let body = take len (drop start book) in
-          let t = table-known body (entriesOf body) (rw q at (sounds .0)) in
+          let s = rw q at (sounds .0) in
           let m : length body ≡ len = long in
           record {
             is = rw first
@@ -240,11 +228,11 @@ module _ (book : List ℕ) (p : Place) (b : Before book p) where
                   name = refl;
                   kind = refl;
                   numbered = refl;
-                  body-from = omega (arith, t .2);
+                  body-from = omega (arith, table-size body (entriesOf body) s);
                   body-to = h .fits;
-                  total = rw lent (t .1);
-                  entries = rw lent (t .0);
-                  sound = rw lent (rw q at (sounds .0));
+                  total = rw lent (sym (body-total body (entriesOf body) s));
+                  entries = rw lent (sound-some body (entriesOf body) s);
+                  sound = rw lent s;
                 });
             numbered = refl;
             below = omega (arith, b .few);

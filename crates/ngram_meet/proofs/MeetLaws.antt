@@ -6,7 +6,7 @@
 --     meeting-short                                           what is still to come cannot reach w
 -- Assumes nothing.
 use mathlib.Core.Path.{_≡_, refl, sym, ap, ap₂, _∙_, subst}
-use mathlib.Core.Bool.{Bool, true, false, false≢true}
+use mathlib.Core.Bool.{Bool, true, false}
 use mathlib.Core.List.{List, [], _∷_}
 use mathlib.Core.Option.{Option, none, some}
 use Prim.Native.Nat.{ℕ, _+_, _-_, _≤_, _<_, min, Ordering, Ordering·lt, Ordering·eq, Ordering·gt}
@@ -25,7 +25,7 @@ use Rattle.rules.specs.Book.{number, Piece, whole, broken, end, front, entryFor
 use Rattle.rules.proofs.Steps.{pieces-step}
 use Rattle.rules.proofs.OrderLaws.{flip, order-eq, order-flip, rises-is}
 use Rattle.rules.proofs.TableLaws.{meet-left, meet-right, meet-both, meet-le, tallied-rising, tallied-sum, sound-entries-rising}
-use Rattle.rules.proofs.SoundLaws.{table-sound}
+use Rattle.rules.proofs.SoundLaws.{table-sound, sound-some, body-total}
 use Rattle.records.proofs.FrontLaws.{number-take, front-end, front-broken, front-whole}
 use Rattle.sort_tally.specs.Group.{entriesAt}
 use Rattle.ngram_meet.specs.declared.Place.{Place}
@@ -263,16 +263,6 @@ module _ {s p body : List ℕ} {k d n rest left m i j : ℕ} (c : Meeting s p bo
       record { most = omega (arith, c .both); whole = λ (u : w ≤ n). absurd (omega (arith, u, below)) }
 
 -- ---- the start
-pub sound-some : (body : List ℕ) (o : Option (List Counted)) → soundTable body o ≡ true → o ≡ some (tableIn body o .entries)
-unfolding soundTable tableIn
-sound-some body none h = absurd (false≢true h)
-sound-some body (some fs) h = refl
-
-pub body-total : (body : List ℕ) (o : Option (List Counted)) → soundTable body o ≡ true → tableIn body o .total ≡ number 4 body
-unfolding soundTable tableIn
-body-total body none h = absurd (false≢true h)
-body-total body (some fs) h = refl
-
 view-total : (s p : List ℕ) (k d : ℕ) → tableAt s p k d ≡ tableOf (bigrams s) → k ≡ length (bigrams s)
 unfolding tableAt tableOf
 view-total s p k d t = ap (λ (x : Table). x .total) t

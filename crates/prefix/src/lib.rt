@@ -23,19 +23,19 @@ use rules::View;
 pub fn common_prefix(
     class: &[u8; 256],
     area: &mut [u8],
-    table: &mut [u32],
+    words: &mut [u32],
     n: usize,
     count: usize,
     v: View,
 ) -> Common
-    requires { ⌜ (now class ≡ classTable) × Apart n (viewStart n) (now table) count × (v .start ≤ v .end) × (v .end ≤ count) × (count ≤ n + 1) ⌝ }
-    requires { ⌜ (n ≤ textMost) × (byteArea n ≤ length (now area)) × (wordArea n ≤ length (now table)) ⌝ }
-    requires { ⌜ plainLines (linesAt (now area) (now table) count) ≡ true ⌝ }
-    ensures strips { λ r. ⌜ Strips n (viewed (linesAt (now (area .entry)) (now (table .entry)) count) v) (now (area .exit)) r ⌝ }
+    requires { ⌜ (now class ≡ classTable) × Apart n (viewStart n) (now words) count × (v .start ≤ v .end) × (v .end ≤ count) × (count ≤ n + 1) ⌝ }
+    requires { ⌜ (n ≤ textMost) × (byteArea n ≤ length (now area)) × (wordArea n ≤ length (now words)) ⌝ }
+    requires { ⌜ plainLines (linesAt (now area) (now words) count) ≡ true ⌝ }
+    ensures strips { λ r. ⌜ Strips n (viewed (linesAt (now (area .entry)) (now (words .entry)) count) v) (now (area .exit)) r ⌝ }
     ensures area { λ r. ⌜ take (viewStart n) (now (area .exit)) ≡ take (viewStart n) (now (area .entry)) ⌝ }
-    ensures table { λ r. ⌜ take (tableEnd n) (now (table .exit)) ≡ take (tableEnd n) (now (table .entry)) ⌝ }
+    ensures words { λ r. ⌜ take (tableEnd n) (now (words .exit)) ≡ take (tableEnd n) (now (words .entry)) ⌝ }
 {
-    let x = list_prefixes(class, area, table, n, count, v);
+    let x = list_prefixes(class, area, words, n, count, v);
     let k = x.k;
     let end = x.end;
     if k == 0 {
@@ -43,10 +43,10 @@ pub fn common_prefix(
     }
     let lines = v.end - v.start;
     let at = table_end(n);
-    let found = choose(&area[..end], table, at, k, lines);
+    let found = choose(&area[..end], words, at, k, lines);
     let Common::Prefix(start, stop) = found else {
         return Common::Nothing;
     };
-    let s = home(class, area, table, n, count, v, start, stop);
+    let s = home(class, area, words, n, count, v, start, stop);
     Common::Prefix(s.start, s.end)
 }

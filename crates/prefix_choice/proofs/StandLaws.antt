@@ -16,7 +16,8 @@ use Rattle.sort_spread.specs.Sort.{partLater, msorted, InOrder, Leads}
 use Rattle.sort_tally.specs.Group.{groupsFrom, groups, groupStarts, Grouped, partsAt}
 use Rattle.sort_tally.proofs.GroupLaws.{groups-few}
 use Rattle.sort_spread.proofs.OrderLaws.{length-msorted}
-use Rattle.sort_tally.proofs.StableLaws.{Has, has-cases, has-none, Climbing, grouped, group-has}
+use Rattle.sort_tally.specs.Group.{Has, Climbing}
+use Rattle.sort_tally.proofs.StableLaws.{has-cases, has-none, grouped, group-has}
 use Rattle.preproc_table.specs.Entries.{linesFrom, Apart}
 use Rattle.preproc_table.proofs.EntryLaws.{lines-same, line-same}
 use Rattle.prefix_list.specs.declared.Listed.{Listed}

@@ -19,7 +19,8 @@ use Rattle.sort_spread.specs.Sort.{partOf, InOrder, Leads}
 use Rattle.sort_tally.specs.Group.{Group, groupStarts, counts, entriesAt, partsAt}
 use Rattle.sort_order.proofs.PartLaws.{part-front, part-short}
 use Rattle.sort_tally.proofs.TallyLaws.{part, entries-read, groups-tallied}
-use Rattle.sort_tally.proofs.StableLaws.{Has, has-cases, has-here, has-more, has-none, Climbing, climbing-skip, Kept, grouped, covered, group-has, group-count}
+use Rattle.sort_tally.specs.Group.{Has, Climbing}
+use Rattle.sort_tally.proofs.StableLaws.{has-cases, has-here, has-more, has-none, climbing-skip, Kept, grouped, covered, group-has, group-count}
 use Rattle.prefix_list.specs.Listing.{plain}
 use Rattle.prefix_choice.specs.Choice.{Beaten, Grouping}
 use Rattle.prefix_choice.proofs.ReachLaws.{part-plain}

@@ -10,7 +10,7 @@ use Rattle.rules.specs.Table.{occurs}
 use Rattle.preproc_table.specs.Entries.{viewStart}
 use Rattle.sort_spread.specs.Sort.{partLater, msorted}
 use Rattle.sort_tally.specs.Group.{groups, Grouped, partsAt}
-use Rattle.sort_tally.proofs.StableLaws.{Climbing}
+use Rattle.sort_tally.specs.Group.{Climbing}
 use Rattle.prefix_choice.specs.declared.Common.{Common}
 use Rattle.prefix_choice.specs.declared.Common.the-variants.{Nothing, Prefix}
 

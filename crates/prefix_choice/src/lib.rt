@@ -10,7 +10,7 @@ ghost use lib.Seq.{slice};
 ghost use Rattle.rules.specs.Prefix.{reached};
 ghost use Rattle.sort_tally.specs.Group.{groups, Grouped, entriesAt};
 ghost use Rattle.sort_spread.specs.Sort.{partLater, msorted};
-ghost use Rattle.sort_tally.proofs.StableLaws.{Has};
+ghost use Rattle.sort_tally.specs.Group.{Has};
 ghost use Rattle.prefix_list.specs.Listing.{plain};
 ghost use Rattle.prefix_choice.specs.Choice.{Beaten, ListsAt, Grouping, Decided};
 use slices::two::starts_with;
@@ -102,13 +102,13 @@ pub fn decide(text: &[u8], p: &[u32], k: usize, d: usize, lines: usize) -> Commo
     Common::Prefix(start, end)
 }
 
-// What is stripped, by the k starts that stand in the table from `at` on; they are sorted and grouped there. n log n in the text's bytes.
-pub fn choose(text: &[u8], table: &mut [u32], at: usize, k: usize, lines: usize) -> Common
-    requires { ⌜ (0 < k) × (at + (k + k) ≤ length (now table)) × (k < 4294967296) × (lines < 4294967296) ⌝ }
-    requires { ⌜ ((a : ℕ) → Has a (take k (drop at (now table))) → a ≤ length (now text)) ⌝ }
-    ensures front { λ r. ⌜ take at (now (table .exit)) ≡ take at (now (table .entry)) ⌝ }
-    ensures decided { λ r. ⌜ ((ls : List (List ℕ)) → ListsAt (now (text .entry)) (take k (drop at (now (table .entry)))) ls → length ls ≡ lines → Decided ls (now (text .entry)) r) ⌝ }
+// What is stripped, by the k starts that stand in the words from `at` on; they are sorted and grouped there. n log n in the text's bytes.
+pub fn choose(text: &[u8], words: &mut [u32], at: usize, k: usize, lines: usize) -> Common
+    requires { ⌜ (0 < k) × (at + (k + k) ≤ length (now words)) × (k < 4294967296) × (lines < 4294967296) ⌝ }
+    requires { ⌜ ((a : ℕ) → Has a (take k (drop at (now words))) → a ≤ length (now text)) ⌝ }
+    ensures front { λ r. ⌜ take at (now (words .exit)) ≡ take at (now (words .entry)) ⌝ }
+    ensures decided { λ r. ⌜ ((ls : List (List ℕ)) → ListsAt (now (text .entry)) (take k (drop at (now (words .entry)))) ls → length ls ≡ lines → Decided ls (now (text .entry)) r) ⌝ }
 {
-    let d = group_prefixes(text, &mut table[at..], k);
-    decide(text, &table[at..], k, d, lines)
+    let d = group_prefixes(text, &mut words[at..], k);
+    decide(text, &words[at..], k, d, lines)
 }

@@ -95,14 +95,14 @@ fn put_prefix(area: &mut [u8], from: usize, k: usize, to: usize)
 pub fn list_prefixes(
     class: &[u8; 256],
     area: &mut [u8],
-    table: &mut [u32],
+    words: &mut [u32],
     n: usize,
     count: usize,
     v: View,
 ) -> Listed
-    requires { ⌜ (now class ≡ classTable) × Apart n (viewStart n) (now table) count × (v .start ≤ v .end) × (v .end ≤ count) × (count ≤ n + 1) ⌝ }
-    requires { ⌜ (n ≤ textMost) × (byteArea n ≤ length (now area)) × (wordArea n ≤ length (now table)) ⌝ }
-    ensures { λ r. ⌜ ListStands n (prefixes (linesFrom (now (area .entry)) (now (table .entry)) (v .start) (v .end - v .start))) (now (area .entry)) (now (table .entry)) r (now (area .exit)) (now (table .exit)) ⌝ }
+    requires { ⌜ (now class ≡ classTable) × Apart n (viewStart n) (now words) count × (v .start ≤ v .end) × (v .end ≤ count) × (count ≤ n + 1) ⌝ }
+    requires { ⌜ (n ≤ textMost) × (byteArea n ≤ length (now area)) × (wordArea n ≤ length (now words)) ⌝ }
+    ensures { λ r. ⌜ ListStands n (prefixes (linesFrom (now (area .entry)) (now (words .entry)) (v .start) (v .end - v .start))) (now (area .entry)) (now (words .entry)) r (now (area .exit)) (now (words .exit)) ⌝ }
 {
     let at = table_end(n);
     let stop = v.end;
@@ -110,14 +110,14 @@ pub fn list_prefixes(
     let mut w = view_start(n);
     let mut i = v.start;
     while i + 1 < stop {
-        let s = shared(class, area, table, i);
+        let s = shared(class, area, words, i);
         let from = s.start;
         let len = s.end - s.start;
         i = i + 1;
         if 3 < len {
             put_prefix(area, from, len, w);
             let j = at + k;
-            table[j] = w as u32;
+            words[j] = w as u32;
             k = k + 1;
             w = w + len + 1;
         }

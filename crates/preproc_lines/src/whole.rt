@@ -14,9 +14,9 @@ use slices::lead::line_len;
 
 // The lines of the text, from its own length on in the area, one byte or more apart; answers how many. Each line is walked a constant
 // number of times.
-pub fn normalise(class: &[u8; 256], text: &[u8], area: &mut [u8], table: &mut [u32]) -> usize
-    requires { ⌜ (now class ≡ classTable) × (refusal (ofText (now text)) ≡ 0) × (byteArea (length (now text)) ≤ length (now area)) × (wordArea (length (now text)) ≤ length (now table)) ⌝ }
-    ensures { λ r. ⌜ Normalised (now (text .entry)) (now (area .exit)) (now (table .exit)) r ⌝ }
+pub fn normalise(class: &[u8; 256], text: &[u8], area: &mut [u8], words: &mut [u32]) -> usize
+    requires { ⌜ (now class ≡ classTable) × (refusal (ofText (now text)) ≡ 0) × (byteArea (length (now text)) ≤ length (now area)) × (wordArea (length (now text)) ≤ length (now words)) ⌝ }
+    ensures { λ r. ⌜ Normalised (now (text .entry)) (now (area .exit)) (now (words .exit)) r ⌝ }
 {
     let n = text.len();
     let mut at = 0;
@@ -27,7 +27,7 @@ pub fn normalise(class: &[u8; 256], text: &[u8], area: &mut [u8], table: &mut [u
         let s = put_line(class, &text[at..end], area, to);
         let start = s.start;
         let stop = s.end;
-        set_line(table, count, start, stop);
+        set_line(words, count, start, stop);
         to = stop + 1;
         at = end + 1;
         count += 1;

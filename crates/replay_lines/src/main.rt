@@ -15,6 +15,10 @@ use preproc_lines::whole::normalise;
 use preproc_table::line_end;
 use preproc_table::line_start;
 use preproc_test::test_text;
+use questions::areas::byte_area;
+use questions::areas::input;
+use questions::areas::text_area;
+use questions::areas::word_area;
 use questions::fields::text_at;
 use questions::hex::put_byte;
 use questions::hex::put_hex;
@@ -22,23 +26,7 @@ use questions::words::mark_at;
 use slices::class::class_table;
 use slices::two::starts_with;
 
-// Room for all questions, for a text, for its areas and for an answer.
-fn input() -> [u8; 1048576] {
-    [0; 1048576]
-}
-
-fn text_area() -> [u8; 2048] {
-    [0; 2048]
-}
-
-fn byte_area() -> [u8; 16448] {
-    [0; 16448]
-}
-
-fn word_area() -> [u32; 24640] {
-    [0; 24640]
-}
-
+// Room for an answer.
 fn out_area() -> [u8; 16386] {
     [0; 16386]
 }

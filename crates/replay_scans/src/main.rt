@@ -9,6 +9,10 @@ mod named;
 
 use crate::named::tell_named;
 use bounds_job::bounds_of;
+use questions::areas::byte_area;
+use questions::areas::input;
+use questions::areas::text_area;
+use questions::areas::word_area;
 use questions::fields::number_at;
 use questions::fields::text_at;
 use questions::numbers::bits_of;
@@ -28,25 +32,9 @@ use telling::print_number;
 use telling::print_records;
 use telling::score_bits;
 
-// Room for all questions, for two texts, for the book, and for the areas of a text of 2,048 bytes and 2,049 lines.
-fn input() -> [u8; 1048576] {
-    [0; 1048576]
-}
-
-fn text_area() -> [u8; 2048] {
-    [0; 2048]
-}
-
+// Room for the book, and for the records of a text of 2,049 lines.
 fn book_area() -> [u8; 65536] {
     [0; 65536]
-}
-
-fn byte_area() -> [u8; 16448] {
-    [0; 16448]
-}
-
-fn word_area() -> [u32; 24640] {
-    [0; 24640]
 }
 
 fn results_area() -> [u32; 8196] {

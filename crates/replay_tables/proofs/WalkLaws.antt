@@ -12,8 +12,8 @@ use lib.Seq.{slice}
 use Rattle.lists.specs.Wrote.{Wrote, Front}
 use Rattle.rules.specs.Prefix.{Counted}
 use Rattle.rules.specs.Book.{number, entryForm, entryOf, entriesOf, pieces, soundTable, tableIn}
-use Rattle.rules.proofs.SoundLaws.{table-size}
-use Rattle.ngram_meet.proofs.MeetLaws.{entryEnd, storedEntry, Next, entry-next, entry-end, sound-some, body-total}
+use Rattle.rules.proofs.SoundLaws.{table-size, sound-some, body-total}
+use Rattle.ngram_meet.proofs.MeetLaws.{entryEnd, storedEntry, Next, entry-next, entry-end}
 use Rattle.detection_shelf.specs.Bodies.{tableOfBody}
 use Rattle.questions.specs.Numbers.{decimal}
 use Rattle.questions.specs.Hex.{hexed}

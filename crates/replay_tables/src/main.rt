@@ -14,29 +14,17 @@ mod tables;
 use crate::scores::answer_view;
 use crate::tables::put_table;
 use compile::compile;
+use questions::areas::byte_area;
+use questions::areas::input;
+use questions::areas::text_area;
+use questions::areas::word_area;
 use questions::fields::number_at;
 use questions::fields::text_at;
 use questions::words::mark_at;
 use slices::class::class_table;
 use slices::two::starts_with;
 
-// Room for all questions, for a text, for its areas, for a table's body and for an answer.
-fn input() -> [u8; 1048576] {
-    [0; 1048576]
-}
-
-fn text_area() -> [u8; 2048] {
-    [0; 2048]
-}
-
-fn byte_area() -> [u8; 16448] {
-    [0; 16448]
-}
-
-fn word_area() -> [u32; 24640] {
-    [0; 24640]
-}
-
+// Room for a table's body and for an answer.
 fn body_area() -> [u8; 49152] {
     [0; 49152]
 }

@@ -13,6 +13,10 @@ ghost use Rattle.license_notes.specs.Laid.{Laid};
 ghost use Rattle.replay_views.specs.Told.{told, answerTo, answerIn, answerOf};
 use license_notes::lay;
 use license_views::process;
+use questions::areas::byte_area;
+use questions::areas::input;
+use questions::areas::text_area;
+use questions::areas::word_area;
 use questions::fields::number_at;
 use questions::fields::text_at;
 use questions::hex::put_byte;
@@ -23,23 +27,7 @@ use rules::View;
 use slices::class::class_table;
 use slices::two::starts_with;
 
-// Room for all questions, for a text, for its areas and for an answer.
-fn input() -> [u8; 1048576] {
-    [0; 1048576]
-}
-
-fn text_area() -> [u8; 2048] {
-    [0; 2048]
-}
-
-fn byte_area() -> [u8; 16448] {
-    [0; 16448]
-}
-
-fn word_area() -> [u32; 24640] {
-    [0; 24640]
-}
-
+// Room for an answer.
 fn out_area() -> [u8; 32898] {
     [0; 32898]
 }

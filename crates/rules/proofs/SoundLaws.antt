@@ -79,6 +79,17 @@ table-sound body (some es) h =
       leb-true (sum es) totalMost (and-right (a && b && c && d) e h),
     )
 
+-- a sound body is read to its end, and names its total
+pub sound-some : (body : List ℕ) (o : Option (List Counted)) → soundTable body o ≡ true → o ≡ some (tableIn body o .entries)
+unfolding soundTable tableIn
+sound-some body none h = absurd (false≢true h)
+sound-some body (some es) h = refl
+
+pub body-total : (body : List ℕ) (o : Option (List Counted)) → soundTable body o ≡ true → tableIn body o .total ≡ number 4 body
+unfolding soundTable tableIn
+body-total body none h = absurd (false≢true h)
+body-total body (some es) h = refl
+
 pub table-size : (body : List ℕ) (o : Option (List Counted)) → soundTable body o ≡ true → 8 ≤ length body
 unfolding soundTable
 table-size body none h = absurd (false≢true h)

@@ -19,14 +19,10 @@ use Rattle.rules.specs.Book.{Above, Rising}
 use Rattle.rules.proofs.TableLaws.{count-none}
 use Rattle.rules.proofs.PrefixLaws.{same-self}
 use Rattle.sort_spread.specs.Sort.{partLater, rightNext, merged, msorted, countOf, Leads, InOrder}
-use Rattle.sort_tally.specs.Group.{Group, groupsFrom, groups, groupStarts, counts, partsAt}
+use Rattle.sort_tally.specs.Group.{Has, Climbing, Group, groupsFrom, groups, groupStarts, counts, partsAt}
 use Rattle.sort_order.proofs.PartLaws.{later-one}
 use Rattle.sort_spread.proofs.OrderLaws.{countOf-msorted, inorder-msorted}
 use Rattle.sort_tally.proofs.TallyLaws.{part, later, read, equal-parts, sorted-count, sorted-rising, occurs-count}
-
--- ---- what a list holds
-abbrev pub Has : ℕ → List ℕ → Type 0
-Has a xs = 0 < countOf (eqb a) xs
 
 pub has-cases : (a x : ℕ) (xs : List ℕ) → Has a (x ∷ xs) → (a ≡ x) ⊎ Has a xs
 unfolding countOf
@@ -47,10 +43,6 @@ has-more a x xs h = omega arith
 pub has-none : (a : ℕ) → Has a [] → ⊥
 unfolding countOf
 has-none a h = omega arith
-
--- ---- a list that rises strictly
-abbrev pub Climbing : List ℕ → Type 0
-Climbing xs = InOrder (λ a b. leb b a) xs
 
 pub climbing-above : (z : ℕ) (xs : List ℕ) → Climbing (z ∷ xs) → (a : ℕ) → Has a xs → z < a
 unfolding InOrder Leads

@@ -1,12 +1,13 @@
--- Equal neighbours of a sorted list become one, with how many they are; and the counted parts read back from the groupStarts and the counts.
+-- Equal neighbours of a sorted list become one, with how many they are; and the counted parts read back from the starts and the counts.
 -- Assumes nothing.
 use mathlib.Core.Path.{_≡_}
 use mathlib.Core.Bool.{Bool, cond}
 use mathlib.Core.List.{List, [], _∷_, map}
-use Prim.Native.Nat.{ℕ, _+_}
+use Prim.Native.Nat.{ℕ, _+_, _<_}
+use lib.Dec.{leb, eqb}
 use lib.ListN.{length, take, drop}
 use Rattle.rules.specs.Prefix.{Counted}
-use Rattle.sort_spread.specs.Sort.{partOf}
+use Rattle.sort_spread.specs.Sort.{partOf, countOf, InOrder}
 
 -- the first of some equal ones, and how many they are
 pub record Group : Type 0 where
@@ -50,3 +51,11 @@ entriesAt m c s p k d = entriesFrom m c s (take d p) (take d (drop k p))
 -- the parts that start at some places
 abbrev pub partsAt : ℕ → ℕ → List ℕ → List ℕ → List (List ℕ)
 partsAt m c s xs = map (λ (a : ℕ). partOf m c (drop a s)) xs
+
+-- what a list holds
+abbrev pub Has : ℕ → List ℕ → Type 0
+Has a xs = 0 < countOf (eqb a) xs
+
+-- a list that rises strictly
+abbrev pub Climbing : List ℕ → Type 0
+Climbing xs = InOrder (λ a b. leb b a) xs

@@ -41,7 +41,7 @@ module _ (x : tie.After-list-prefixes) where
   area₀ = now (start .args .area)
 
   abbrev table₀ : List ℕ
-  table₀ = now (start .args .table)
+  table₀ = now (start .args .words)
 
   abbrev area : List ℕ
   area = x .list-prefixes .last .1 .0

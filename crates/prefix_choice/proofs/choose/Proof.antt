@@ -25,7 +25,7 @@ module _ (g : tie.After-group-prefixes) where
   text = now (start .args .text)
 
   abbrev old : List ℕ
-  old = now (start .args .table)
+  old = now (start .args .words)
 
   abbrev at : ℕ
   at = start .args .at

@@ -33,7 +33,7 @@ module _ (c : tie.In-loop Inv-loop μ-loop) where
   area₀ = now (start .args .area)
 
   abbrev table₀ : List ℕ
-  table₀ = now (start .args .table)
+  table₀ = now (start .args .words)
 
   abbrev stop : ℕ
   stop = start .args .v .end
@@ -51,7 +51,7 @@ module _ (s : tie.After-shared Inv-loop μ-loop) where
       × (head inside .loop .w + (span .end - span .start) < 7 * start inside .args .n)
   room =
       listing-room (start inside .args .n) (start inside .args .count) (stop inside) (area₀ inside) (table₀ inside) (start inside .pre .0 .1) (start inside .pre .0 .3) (start inside .pre .0 .4) (start inside .pre .1 .1) (start inside .pre .1 .2)
-      (start inside .args .v .start) (head inside .loop .area) (head inside .loop .table) (head inside .loop .k) (head inside .loop .w) (head inside .loop .i) (head inside .loop .inv) (inside .loop-test .taken) span (s .shared .ensures)
+      (start inside .args .v .start) (head inside .loop .area) (head inside .loop .words) (head inside .loop .k) (head inside .loop .w) (head inside .loop .i) (head inside .loop .inv) (inside .loop-test .taken) span (s .shared .ensures)
 
 table-end-requires : tie.Need-table-end-requires Inv-loop μ-loop
 table-end-requires c κs = search needs
@@ -63,7 +63,7 @@ loop-holds : tie.Need-loop-holds Inv-loop μ-loop
 loop-holds c =
     let s = c .before .before .before .before in
     rw (c .view-start .ensures)
-    (listing-start (s .args .n) (s .args .count) (s .args .v .end) (now (s .args .area)) (now (s .args .table)) (s .pre .0 .1) (s .pre .0 .3) (s .pre .0 .4) (s .pre .1 .1) (s .pre .1 .2)
+    (listing-start (s .args .n) (s .args .count) (s .args .v .end) (now (s .args .area)) (now (s .args .words)) (s .pre .0 .1) (s .pre .0 .3) (s .pre .0 .4) (s .pre .1 .1) (s .pre .1 .2)
     (s .args .v .start) (s .pre .0 .2))
 
 add-loop : tie.Need-add-loop Inv-loop μ-loop
@@ -76,7 +76,7 @@ shared-requires c κs =
       start d .pre .0 .0,
       omega (arith, d .loop-test .taken, start d .pre .0 .3, start d .pre .0 .4, start d .pre .1 .2, l .table-long),
       listing-lies (start d .args .n) (start d .args .count) (stop d) (area₀ d) (table₀ d) (start d .pre .0 .1) (start d .pre .0 .3) (start d .pre .0 .4) (start d .pre .1 .1) (start d .pre .1 .2)
-          (start d .args .v .start) (head d .loop .area) (head d .loop .table) (head d .loop .k) (head d .loop .w) (head d .loop .i) (head d .loop .inv) (d .loop-test .taken),
+          (start d .args .v .start) (head d .loop .area) (head d .loop .words) (head d .loop .k) (head d .loop .w) (head d .loop .i) (head d .loop .inv) (d .loop-test .taken),
     )
 
 sub-len : tie.Need-sub-len Inv-loop μ-loop
@@ -129,7 +129,7 @@ loop-again c =
     let d = inside s in
     rw (ended d .table-end .ensures)
     (listing-put (start d .args .n) (start d .args .count) (stop d) (area₀ d) (table₀ d) (start d .pre .0 .1) (start d .pre .0 .3) (start d .pre .0 .4) (start d .pre .1 .1) (start d .pre .1 .2)
-    (start d .args .v .start) (head d .loop .area) (head d .loop .table) (head d .loop .k) (head d .loop .w) (head d .loop .i) (head d .loop .inv) (d .loop-test .taken) (span s) (s .shared .ensures)
+    (start d .args .v .start) (head d .loop .area) (head d .loop .words) (head d .loop .k) (head d .loop .w) (head d .loop .i) (head d .loop .inv) (d .loop-test .taken) (span s) (s .shared .ensures)
     (span s .end - span s .start) refl (c .before .before .before .before .if1 .taken) _ (p .put-prefix .kept .0) (p .put-prefix .ensures))
 
 loop-less-2 : tie.Need-loop-less-2 Inv-loop μ-loop
@@ -140,7 +140,7 @@ loop-again-2 c =
     let s = c .before .before in
     let d = inside s in
     listing-skip (start d .args .n) (start d .args .count) (stop d) (area₀ d) (table₀ d) (start d .pre .0 .1) (start d .pre .0 .3) (start d .pre .0 .4) (start d .pre .1 .1) (start d .pre .1 .2)
-    (start d .args .v .start) (head d .loop .area) (head d .loop .table) (head d .loop .k) (head d .loop .w) (head d .loop .i) (head d .loop .inv) (d .loop-test .taken) (span s) (s .shared .ensures) (c .if1 .left)
+    (start d .args .v .start) (head d .loop .area) (head d .loop .words) (head d .loop .k) (head d .loop .w) (head d .loop .i) (head d .loop .inv) (d .loop-test .taken) (span s) (s .shared .ensures) (c .if1 .left)
 
 same-length : tie.Need-same-length Inv-loop μ-loop
 same-length c = c .before .loop .inv .area-long

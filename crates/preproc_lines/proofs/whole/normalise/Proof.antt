@@ -33,7 +33,7 @@ module _ (k : tie.After-line-len Inv-loop μ-loop) where
   abbrev len : ℕ
   len = k .line-len .result
 
-  going : Going source (head .loop .area) (head .loop .table) (head .loop .at) (head .loop .to) (head .loop .count)
+  going : Going source (head .loop .area) (head .loop .words) (head .loop .at) (head .loop .to) (head .loop .count)
   going = head .loop .inv .3
 
   short : length source ≤ textMost
@@ -42,7 +42,7 @@ module _ (k : tie.After-line-len Inv-loop μ-loop) where
   inside : head .loop .at ≤ length source
   inside = omega (arith, k .before .loop-test .taken, head .loop .inv .0)
 
-  room : 2 * (head .loop .count) + 1 < length (head .loop .table)
+  room : 2 * (head .loop .count) + 1 < length (head .loop .words)
   room = omega (arith, going .few, inside, head .loop .inv .2, start .pre .3)
 
   within : head .loop .at + len ≤ length source
