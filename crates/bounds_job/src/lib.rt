@@ -2,7 +2,7 @@
 // From detection/license.rs of spdx 0.13.6 (Copyright 2018 Amazon.com, Inc. or its affiliates. All Rights Reserved.
 // SPDX-License-Identifier: Apache-2.0), changed: `optimize_bounds`, with refusals. Assumes nothing.
 ghost use mathlib.Core.Path.{_≡_};
-ghost use Rattle.detection_shelf.specs.Shelves.{shelf, texts, booksOf, Lends, Counted};
+ghost use Rattle.detection_shelf.specs.Shelves.{shelf, texts, booksOf, Lends, CountsOf};
 ghost use Rattle.refusals.specs.Admits.{ViewThrough};
 ghost use mathlib.Core.List.{[], _∷_};
 ghost use Rattle.rules.specs.Jobs.{lent, boundsFound, BoundsDone};
@@ -66,7 +66,7 @@ pub fn bounds_laid<'a>(
     words: &mut [u32],
 ) -> Bounded
     requires { ⌜ ViewThrough (now text) (shelf (now book) (now second)) v k (lent (now area) (now words)) ⌝ }
-    requires { ⌜ Counted (shelf (now book) (now second)) counts ⌝ }
+    requires { ⌜ CountsOf (shelf (now book) (now second)) counts ⌝ }
     ensures { λ r. ⌜ r ≡ boundsFound (now (text .entry)) (texts (shelf (now (book .entry)) (now (second .entry)))) v k ⌝ }
 {
     let class = class_table();

@@ -28,7 +28,7 @@ use Rattle.rules.specs.Book.{number, tableIn, entriesOf, pieces, goOn, front}
 use Rattle.detection_shelf.specs.declared.Counts.{Counts}
 use Rattle.detection_shelf.specs.declared.Shelved.{Shelved}
 use Rattle.detection_shelf.specs.declared.Spot.{Spot}
-use Rattle.detection_shelf.specs.Shelves.{Shelf, texts, Counted, BeforeOn, Stands, bodyIn, textIn, firstSpot, afterOn}
+use Rattle.detection_shelf.specs.Shelves.{Shelf, texts, CountsOf, BeforeOn, Stands, bodyIn, textIn, firstSpot, afterOn}
 use Rattle.detection_shelf.proofs.ShelfLaws.{stands-text, before-both, after-stands}
 use Rattle.preproc_table.specs.Entries.{linesAt}
 use Rattle.floors.specs.declared.Floor.{Floor}
@@ -70,7 +70,7 @@ none-fair : T (unit (noBest .value .score))
 unfolding noBest unit le
 none-fair = tt
 
-pub walk-first : (books : Shelf) (table : Table) (floor : Float) (budget : ℕ) (best : Best) (spot : Spot) (c : Counts) → Counted books c → best ≡ noneYet →
+pub walk-first : (books : Shelf) (table : Table) (floor : Float) (budget : ℕ) (best : Best) (spot : Spot) (c : Counts) → CountsOf books c → best ≡ noneYet →
     spot ≡ firstSpot → Walking books table floor budget best budget spot
 walk-first books table floor budget best spot c s b p =
     rw (b, p) (record {

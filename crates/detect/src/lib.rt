@@ -4,12 +4,12 @@
 ghost use mathlib.Core.Path.{_≡_};
 ghost use Prim.Native.Nat.{_≤_};
 ghost use Rattle.slices.specs.Classes.{classTable};
-ghost use Rattle.detection_shelf.specs.Shelves.{shelf, Counted};
+ghost use Rattle.detection_shelf.specs.Shelves.{shelf, CountsOf};
 ghost use Rattle.license_notes.specs.Laid.{Laid};
 ghost use Rattle.license_views.specs.Tabled.{Tabled, tableOver};
 ghost use Rattle.detect.specs.Bests.{BestOf, BestAbove, BestDone};
 use detect_best::Best;
-use detect_best::beats;
+use detect_best::wins;
 use detect_best::no_best;
 use detect_best::to_beat;
 use detection_shelf::Counts;
@@ -43,7 +43,7 @@ pub fn best_of<'a>(
     budget: Scorings,
 ) -> Chosen
     requires { ⌜ Tabled n (now area) (now words) t ⌝ }
-    requires { ⌜ Counted (shelf (now book) (now second)) texts ⌝ }
+    requires { ⌜ CountsOf (shelf (now book) (now second)) texts ⌝ }
     ensures { λ r. ⌜ BestOf (shelf (now (book .entry)) (now (second .entry))) (tableOver (now (area .entry)) t) floor (budget .count) r ⌝ }
 {
     let mut best = no_best();
@@ -61,7 +61,7 @@ pub fn best_of<'a>(
         let value = c.value;
         let next = Best { text, value };
         spot = after_on(text);
-        if beats(best, next) {
+        if wins(best, next) {
             best = next;
         }
     }
@@ -84,7 +84,7 @@ pub fn best_above<'a>(
 ) -> Chosen
     requires { ⌜ (now class ≡ classTable) × Laid n lines (now area) (now words) ⌝ }
     requires { ⌜ (v .start ≤ v .end) × (v .end ≤ lines) ⌝ }
-    requires { ⌜ Counted (shelf (now book) (now second)) texts ⌝ }
+    requires { ⌜ CountsOf (shelf (now book) (now second)) texts ⌝ }
     ensures { λ r. ⌜ BestAbove n lines (now (area .entry)) (now (words .entry)) (now (area .exit)) (now (words .exit)) v (shelf (now (book .entry)) (now (second .entry))) floor (budget .count) r ⌝ }
 {
     let t = view_table(class, area, words, n, lines, v);
@@ -106,7 +106,7 @@ pub fn best_text<'a>(
 ) -> Chosen
     requires { ⌜ (now class ≡ classTable) × Laid n lines (now area) (now words) ⌝ }
     requires { ⌜ (v .start ≤ v .end) × (v .end ≤ lines) ⌝ }
-    requires { ⌜ Counted (shelf (now book) (now second)) texts ⌝ }
+    requires { ⌜ CountsOf (shelf (now book) (now second)) texts ⌝ }
     ensures { λ r. ⌜ BestDone n lines (now (area .entry)) (now (words .entry)) (now (area .exit)) (now (words .exit)) v (shelf (now (book .entry)) (now (second .entry))) (budget .count) r ⌝ }
 {
     best_above(

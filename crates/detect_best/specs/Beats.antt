@@ -20,7 +20,7 @@ pub record Betters (best next r : Best) : Type 0 where
   pub stands : (books : Shelf) → Stands books (next .text) → ((best .text .text .kind ≡ 0 → ⊥) → Stands books (best .text)) → Stands books (r .text)
 
 -- whether it is the next
-pub record Beats (best next : Best) (r : Bool) : Type 0 where
+pub record Wins (best next : Best) (r : Bool) : Type 0 where
   pub yes : r ≡ true → Betters best next next
   pub no : r ≡ false → Betters best next best
 

@@ -4,7 +4,7 @@
 ghost use mathlib.Core.Path.{_≡_};
 ghost use mathlib.Core.Bool.{false};
 ghost use Rattle.rules.specs.Table.{nought};
-ghost use Rattle.detect_best.specs.Beats.{Beats, toBeat};
+ghost use Rattle.detect_best.specs.Beats.{Wins, toBeat};
 use detection_shelf::Shelved;
 use detection_texts::texts::Text;
 use floors::Floor;
@@ -42,8 +42,8 @@ pub fn no_best() -> Best
 
 // Whether the next text is the better one: where it scores strictly higher, so ties go to the earliest. Its answer is no struct, since most texts
 // do not win, and the best would be copied for each.
-pub fn beats(best: Best, next: Best) -> bool
-    ensures { λ r. ⌜ Beats best next r ⌝ }
+pub fn wins(best: Best, next: Best) -> bool
+    ensures { λ r. ⌜ Wins best next r ⌝ }
 {
     let held = best.text;
     let text = held.text;

@@ -28,7 +28,7 @@ use Rattle.detection_shelf.specs.declared.Shelved.{Shelved}
 use Rattle.detection_shelf.specs.declared.Spot.{Spot}
 use Rattle.detection_shelf.specs.declared.Counts.{Counts}
 use Rattle.detection_texts.specs.Texts.{part, nameAt, Before, TextIs, Found}
-use Rattle.detection_shelf.specs.Shelves.{Shelf, booksOf, Lends, texts, bookIn, ahead, Counted, BeforeOn, Stands, bodyIn, textIn, partHeld, partsOf, firstSpot, afterOn, fitting}
+use Rattle.detection_shelf.specs.Shelves.{Shelf, booksOf, Lends, texts, bookIn, ahead, CountsOf, BeforeOn, Stands, bodyIn, textIn, partHeld, partsOf, firstSpot, afterOn, fitting}
 use Rattle.detection_texts.proofs.TextLaws.{before-first, found-at}
 use Rattle.detection_shelf.specs.Bodies.{tableOfBody}
 
@@ -119,18 +119,18 @@ stands-inside s t h = at (t .second) (h .inside) (h .numbered)
     at false i n = omega (arith, two-length (s .first) (s .second))
     at true i n = omega (arith, two-length (s .first) (s .second))
 
-pub counted-most : (s : Shelf) (c : Counts) → Counted s c → length (texts s) ≤ 2 * storedMost
+pub counted-most : (s : Shelf) (c : Counts) → CountsOf s c → length (texts s) ≤ 2 * storedMost
 counted-most s c h = omega (arith, two-length (s .first) (s .second), sound-most (s .first) (h .sound-first), sound-most (s .second) (h .sound-second))
 
-pub counted-sound : (s : Shelf) (c : Counts) → Counted s c → Each StoredSound (texts s)
+pub counted-sound : (s : Shelf) (c : Counts) → CountsOf s c → Each StoredSound (texts s)
 unfolding allSound
 counted-sound s c h = shelved-sound 0 (s .first ∷ s .second ∷ []) (rw (h .sound-first, h .sound-second))
 
-pub counted-length : (s : Shelf) (c : Counts) → Counted s c → c .all ≡ c .first + length (stored (s .second))
+pub counted-length : (s : Shelf) (c : Counts) → CountsOf s c → c .all ≡ c .first + length (stored (s .second))
 counted-length s c h = omega (arith, two-length (s .first) (s .second), h .first, h .all)
 
 -- ---- the walk
-pub before-both : (s : Shelf) (c : Counts) → Counted s c → BeforeOn s firstSpot
+pub before-both : (s : Shelf) (c : Counts) → CountsOf s c → BeforeOn s firstSpot
 before-both s c h = record { before = before-first (s .first) (h .sound-first); inside = omega arith; numbered = omega arith }
 
 pub after-stands : (s : Shelf) (t : Shelved) → Stands s t → BeforeOn s (afterOn t)

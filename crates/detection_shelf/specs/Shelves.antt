@@ -41,7 +41,7 @@ abbrev pub ahead : Shelf → Bool → ℕ
 ahead s second = cond second (length (stored (s .first))) 0
 
 -- both are sound, and so many texts are theirs
-pub record Counted (s : Shelf) (c : Counts) : Type 0 where
+pub record CountsOf (s : Shelf) (c : Counts) : Type 0 where
   pub sound-first : sound (s .first) ≡ true
   pub sound-second : sound (s .second) ≡ true
   pub first : c .first ≡ length (stored (s .first))

@@ -8,7 +8,7 @@ ghost use lib.Dec.{leb};
 ghost use lib.ListN.{length, take, drop};
 ghost use Rattle.rules.specs.Sizes.{storedMost};
 ghost use Rattle.rules.specs.Book.{partIn};
-ghost use Rattle.detection_shelf.specs.Shelves.{shelf, Counted, BeforeOn, Stands, bodyIn, firstSpot, afterOn, fitting, placeIn};
+ghost use Rattle.detection_shelf.specs.Shelves.{shelf, CountsOf, BeforeOn, Stands, bodyIn, firstSpot, afterOn, fitting, placeIn};
 use detection_texts::texts::Place;
 use detection_texts::texts::Text;
 use detection_texts::texts::after_text;
@@ -61,7 +61,7 @@ pub fn after_on(t: Shelved) -> Spot
 
 // The stored text after a spot: past the last of the first book, the first of the second.
 pub fn next_on(first: &[u8], second: &[u8], counts: Counts, spot: Spot) -> Shelved
-    requires { ⌜ Counted (shelf (now first) (now second)) counts ⌝ }
+    requires { ⌜ CountsOf (shelf (now first) (now second)) counts ⌝ }
     requires { ⌜ BeforeOn (shelf (now first) (now second)) spot × (spot .number < counts .all) ⌝ }
     ensures { λ r. ⌜ Stands (shelf (now (first .entry)) (now (second .entry))) r × (r .number ≡ spot .number) ⌝ }
 {
@@ -93,7 +93,7 @@ pub fn next_on(first: &[u8], second: &[u8], counts: Counts, spot: Spot) -> Shelv
 
 // Stored text k, of the first book or, lowered by its texts, of the second.
 pub fn stored_on(first: &[u8], second: &[u8], counts: Counts, k: u32) -> Shelved
-    requires { ⌜ Counted (shelf (now first) (now second)) counts ⌝ }
+    requires { ⌜ CountsOf (shelf (now first) (now second)) counts ⌝ }
     requires { ⌜ k < counts .all ⌝ }
     ensures { λ r. ⌜ Stands (shelf (now (first .entry)) (now (second .entry))) r × (r .number ≡ k) ⌝ }
 {

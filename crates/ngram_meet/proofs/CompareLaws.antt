@@ -13,8 +13,8 @@ use Rattle.rules.specs.Bytes.{order}
 use Rattle.rules.proofs.OrderLaws.{Compared, compared, compare-is}
 use Rattle.sort_spread.specs.Sort.{endsPart, marksLeft, partOf}
 use Rattle.sort_order.proofs.PartLaws.{part-none, part-ended, part-next}
-use Rattle.ngram_meet.specs.declared.Place.the-variants.{Before, Same, After}
-use Rattle.ngram_meet.specs.Meeting.{placeOf}
+use Rattle.ngram_meet.specs.declared.Side.the-variants.{Before, Same, After}
+use Rattle.ngram_meet.specs.Meeting.{sideOf}
 
 pub record Comparing (s body : List ℕ) (o : Ordering) (to i j left : ℕ) : Type 0 where
   pub within : j ≤ to
@@ -50,13 +50,13 @@ module _ (us vs : List ℕ) (x y : ℕ) (xs ys : List ℕ) (e : us ≡ x ∷ xs)
       go Ordering·eq k = absurd (h k)
       go Ordering·gt k = refl
 
-pub place-less : (x y : ℕ) → x < y → Before ≡ placeOf (compare x y)
+pub place-less : (x y : ℕ) → x < y → Before ≡ sideOf (compare x y)
 place-less x y h = rw (compare-is Ordering·lt x y h)
 
-pub place-more : (x y : ℕ) → (x ≡ y → ⊥) → y ≤ x → After ≡ placeOf (compare x y)
+pub place-more : (x y : ℕ) → (x ≡ y → ⊥) → y ≤ x → After ≡ sideOf (compare x y)
 place-more x y n h = go (compare x y) (compared x y)
   where
-    go : (o : Ordering) → Compared o x y → After ≡ placeOf o
+    go : (o : Ordering) → Compared o x y → After ≡ sideOf o
     go Ordering·lt k = absurd (omega arith)
     go Ordering·eq k = absurd (n k)
     go Ordering·gt k = refl
@@ -67,20 +67,20 @@ module _ {s body : List ℕ} {o : Ordering} {to i j left : ℕ} (c : Comparing s
     more : slice j to body ≡ getD body j 0 ∷ slice (j + 1) to body
     more = slice-next body j to h (c .room)
 
-    short : partOf 32 left (drop i s) ≡ [] → Before ≡ placeOf o
-    short e = ap placeOf (sym (order-less (partOf 32 left (drop i s)) (slice j to body) (getD body j 0) (slice (j + 1) to body) e more) ∙ c .is)
+    short : partOf 32 left (drop i s) ≡ [] → Before ≡ sideOf o
+    short e = ap sideOf (sym (order-less (partOf 32 left (drop i s)) (slice j to body) (getD body j 0) (slice (j + 1) to body) e more) ∙ c .is)
 
-    pub comparing-none : length s ≤ i → Before ≡ placeOf o
+    pub comparing-none : length s ≤ i → Before ≡ sideOf o
     comparing-none k = short (part-none 32 left s i k)
 
     module _ (k : i < length s) where
-      pub comparing-ended : endsPart 32 left (getD s i 0) ≡ true → Before ≡ placeOf o
+      pub comparing-ended : endsPart 32 left (getD s i 0) ≡ true → Before ≡ sideOf o
       comparing-ended t = short (part-ended 32 left s i k t)
 
       module _ (t : endsPart 32 left (getD s i 0) ≡ false) where
-        pub comparing-unlike : (getD s i 0 ≡ getD body j 0 → ⊥) → placeOf (compare (getD s i 0) (getD body j 0)) ≡ placeOf o
+        pub comparing-unlike : (getD s i 0 ≡ getD body j 0 → ⊥) → sideOf (compare (getD s i 0) (getD body j 0)) ≡ sideOf o
         comparing-unlike n =
-            ap placeOf (sym (order-unlike (partOf 32 left (drop i s)) (slice j to body) (getD s i 0) (getD body j 0) (partOf 32 (marksLeft 32 left (getD s i 0)) (drop (i + 1) s)) (slice (j + 1) to body) (part-next 32 left s i k t) more n) ∙ c .is)
+            ap sideOf (sym (order-unlike (partOf 32 left (drop i s)) (slice j to body) (getD s i 0) (getD body j 0) (partOf 32 (marksLeft 32 left (getD s i 0)) (drop (i + 1) s)) (slice (j + 1) to body) (part-next 32 left s i k t) more n) ∙ c .is)
 
         pub comparing-same : getD s i 0 ≡ getD body j 0 → Comparing s body o to (i + 1) (j + 1) (marksLeft 32 left (getD s i 0))
         comparing-same e =
@@ -94,16 +94,16 @@ module _ {s body : List ℕ} {o : Ordering} {to i j left : ℕ} (c : Comparing s
     none : slice j to body ≡ []
     none = slice-done body j to h
 
-    both-over : partOf 32 left (drop i s) ≡ [] → Same ≡ placeOf o
-    both-over e = ap placeOf (sym (order-none (partOf 32 left (drop i s)) (slice j to body) e none) ∙ c .is)
+    both-over : partOf 32 left (drop i s) ≡ [] → Same ≡ sideOf o
+    both-over e = ap sideOf (sym (order-none (partOf 32 left (drop i s)) (slice j to body) e none) ∙ c .is)
 
-    pub comparing-over : length s ≤ i → Same ≡ placeOf o
+    pub comparing-over : length s ≤ i → Same ≡ sideOf o
     comparing-over k = both-over (part-none 32 left s i k)
 
     module _ (k : i < length s) where
-      pub comparing-over-mark : endsPart 32 left (getD s i 0) ≡ true → Same ≡ placeOf o
+      pub comparing-over-mark : endsPart 32 left (getD s i 0) ≡ true → Same ≡ sideOf o
       comparing-over-mark t = both-over (part-ended 32 left s i k t)
 
-      pub comparing-longer : endsPart 32 left (getD s i 0) ≡ false → After ≡ placeOf o
+      pub comparing-longer : endsPart 32 left (getD s i 0) ≡ false → After ≡ sideOf o
       comparing-longer t =
-          ap placeOf (sym (order-more (partOf 32 left (drop i s)) (slice j to body) (getD s i 0) (partOf 32 (marksLeft 32 left (getD s i 0)) (drop (i + 1) s)) (part-next 32 left s i k t) none) ∙ c .is)
+          ap sideOf (sym (order-more (partOf 32 left (drop i s)) (slice j to body) (getD s i 0) (partOf 32 (marksLeft 32 left (getD s i 0)) (drop (i + 1) s)) (part-next 32 left s i k t) none) ∙ c .is)

@@ -28,9 +28,9 @@ use Rattle.rules.proofs.TableLaws.{meet-left, meet-right, meet-both, meet-le, t
 use Rattle.rules.proofs.SoundLaws.{table-sound, sound-some, body-total}
 use Rattle.records.proofs.FrontLaws.{number-take, front-end, front-broken, front-whole}
 use Rattle.sort_tally.specs.Group.{entriesAt}
-use Rattle.ngram_meet.specs.declared.Place.{Place}
-use Rattle.ngram_meet.specs.declared.Place.the-variants.{Before, Same, After}
-use Rattle.ngram_meet.specs.Meeting.{placeOf}
+use Rattle.ngram_meet.specs.declared.Side.{Side}
+use Rattle.ngram_meet.specs.declared.Side.the-variants.{Before, Same, After}
+use Rattle.ngram_meet.specs.Meeting.{sideOf}
 use Rattle.ngram_table.specs.Tables.{tableAt}
 use Rattle.floors.specs.declared.Floor.{Floor}
 use Rattle.ngram_score.specs.Shares.{Useless, Reached}
@@ -121,17 +121,17 @@ unfolding sum
 sum-cons e es = refl
 
 -- where one stands to the other, by the code's answer
-before-is : (o : Ordering) → placeOf o ≡ Before → o ≡ Ordering·lt
+before-is : (o : Ordering) → sideOf o ≡ Before → o ≡ Ordering·lt
 before-is Ordering·lt e = refl
 before-is Ordering·eq e = let z : _≡_ {A = ℕ} 0 1 = cc in absurd (no z)
 before-is Ordering·gt e = let z : _≡_ {A = ℕ} 0 1 = cc in absurd (no z)
 
-same-is : (o : Ordering) → placeOf o ≡ Same → o ≡ Ordering·eq
+same-is : (o : Ordering) → sideOf o ≡ Same → o ≡ Ordering·eq
 same-is Ordering·lt e = let z : _≡_ {A = ℕ} 0 1 = cc in absurd (no z)
 same-is Ordering·eq e = refl
 same-is Ordering·gt e = let z : _≡_ {A = ℕ} 0 1 = cc in absurd (no z)
 
-after-is : (o : Ordering) → placeOf o ≡ After → o ≡ Ordering·gt
+after-is : (o : Ordering) → sideOf o ≡ After → o ≡ Ordering·gt
 after-is Ordering·lt e = let z : _≡_ {A = ℕ} 0 1 = cc in absurd (no z)
 after-is Ordering·eq e = let z : _≡_ {A = ℕ} 0 1 = cc in absurd (no z)
 after-is Ordering·gt e = refl
@@ -170,7 +170,7 @@ module _ {s p body : List ℕ} {k d n rest left m i j : ℕ} (c : Meeting s p bo
   sums : m + meet (e ∷ es) (f ∷ nx .rest) ≡ n
   sums = ap₂ (λ (us vs : List Counted). m + meet us vs) (sym view) (sym (nx .first)) ∙ c .both
 
-  module _ (r : Place) (q : r ≡ placeOf (order (e .bytes) (f .bytes))) where
+  module _ (r : Side) (q : r ≡ sideOf (order (e .bytes) (f .bytes))) where
     pub meeting-before : r ≡ Before → Meeting s p body k d n (rest - e .count) left m (i + 1) j
     meeting-before w =
         let o = before-is (order (e .bytes) (f .bytes)) (sym q ∙ w) in

@@ -12,7 +12,7 @@ ghost use Rattle.rules.specs.Table as words;
 ghost use Rattle.rules.specs.Book.{soundTable, entriesOf, tableIn};
 ghost use Rattle.sort_spread.specs.Sort.{partOf};
 ghost use Rattle.ngram_table.specs.Tables.{tableAt};
-ghost use Rattle.ngram_meet.specs.Meeting.{placeOf};
+ghost use Rattle.ngram_meet.specs.Meeting.{sideOf};
 ghost use Rattle.ngram_score.specs.Shares.{Reached};
 ghost use Rattle.floors.specs.Floors.{Judged};
 use floors::Floor;
@@ -27,38 +27,38 @@ use sort_order::ends_part;
 use sort_order::marks_left;
 
 // Where one byte string stands to another.
-pub enum Place {
+pub enum Side {
     Before,
     Same,
     After,
 }
 
 // Of two bytes that differ.
-fn unlike(x: u8, y: u8) -> Place
+fn unlike(x: u8, y: u8) -> Side
     requires { ⌜ (x ≡ y → ⊥) ⌝ }
-    ensures { λ r. ⌜ r ≡ placeOf (compare x y) ⌝ }
+    ensures { λ r. ⌜ r ≡ sideOf (compare x y) ⌝ }
 {
     if x < y {
-        return Place::Before;
+        return Side::Before;
     }
-    Place::After
+    Side::After
 }
 
 // Where the bigram of the text that starts at a stands to the bytes [from, to) of the body.
-pub fn compare_bigram(text: &[u8], a: usize, body: &[u8], from: usize, to: usize) -> Place
+pub fn compare_bigram(text: &[u8], a: usize, body: &[u8], from: usize, to: usize) -> Side
     requires { ⌜ (from ≤ to) × (to ≤ length (now body)) ⌝ }
-    ensures { λ r. ⌜ r ≡ placeOf (order (partOf 32 2 (drop a (now (text .entry)))) (slice from to (now (body .entry)))) ⌝ }
+    ensures { λ r. ⌜ r ≡ sideOf (order (partOf 32 2 (drop a (now (text .entry)))) (slice from to (now (body .entry)))) ⌝ }
 {
     let mut i = a;
     let mut j = from;
     let mut left = 2;
     while j < to {
         if text.len() <= i {
-            return Place::Before;
+            return Side::Before;
         }
         let x = text[i];
         if ends_part(x, 32, left) {
-            return Place::Before;
+            return Side::Before;
         }
         let y = body[j];
         if x != y {
@@ -69,12 +69,12 @@ pub fn compare_bigram(text: &[u8], a: usize, body: &[u8], from: usize, to: usize
         j = j + 1;
     }
     if text.len() <= i {
-        return Place::Same;
+        return Side::Same;
     }
     if ends_part(text[i], 32, left) {
-        return Place::Same;
+        return Side::Same;
     }
-    Place::After
+    Side::After
 }
 
 // The sum of the smaller counts of the bigrams that the table in p, over the text, shares with the stored one; or, where that is less than
@@ -103,11 +103,11 @@ pub fn meet(text: &[u8], p: &[u32], size: TableSize, body: &[u8], least: u32) ->
         let start = j + 8;
         let end = start + wide(read_u32(body, j + 4));
         match compare_bigram(text, wide(p[i]), body, start, end) {
-            Place::Before => {
+            Side::Before => {
                 rest = rest - p[total + i];
                 i = i + 1;
             }
-            Place::Same => {
+            Side::Same => {
                 let count = p[total + i];
                 let other = read_u32(body, j);
                 m = m + smaller(count, other);
@@ -116,7 +116,7 @@ pub fn meet(text: &[u8], p: &[u32], size: TableSize, body: &[u8], least: u32) ->
                 i = i + 1;
                 j = end;
             }
-            Place::After => {
+            Side::After => {
                 stored = stored - read_u32(body, j);
                 j = end;
             }

@@ -35,7 +35,7 @@ pub fn group_prefixes(text: &[u8], p: &mut [u32], k: usize) -> usize
 }
 
 // Whether group i counts more than group `best`, or as much and starts earlier.
-fn beats(p: &[u32], k: usize, best: usize, i: usize) -> bool
+fn counts_more(p: &[u32], k: usize, best: usize, i: usize) -> bool
     requires { ⌜ (best < k) × (i < k) × (k + k ≤ length (now p)) ⌝ }
     ensures { λ r. ⌜ (r ≡ true → Beaten (now (p .entry)) k best i) × (r ≡ false → Beaten (now (p .entry)) k i best) ⌝ }
 {
@@ -59,7 +59,7 @@ pub fn winner(p: &[u32], k: usize, d: usize) -> usize
     while i < d {
         let j = i;
         i = i + 1;
-        if beats(p, k, best, j) {
+        if counts_more(p, k, best, j) {
             best = j;
         }
     }

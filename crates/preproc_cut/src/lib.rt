@@ -6,7 +6,7 @@ ghost use mathlib.Core.Bool.{true};
 ghost use Prim.Native.Nat.{_≤_, _<_};
 ghost use lib.Dec.{eqb};
 ghost use lib.ListN.{length, take, drop};
-ghost use Rattle.lists.specs.Wrote.{Front};
+ghost use Rattle.lists.specs.Wrote.{InFront};
 ghost use Rattle.rules.specs.Passes.{hit, withoutCopyright};
 ghost use Rattle.rules.specs.Passes;
 ghost use Rattle.slices.specs.Classes.{classTable};
@@ -34,7 +34,7 @@ fn hit_at(class: &[u8; 256], s: &[u8], at: usize, fresh: bool) -> usize
 // one line (B) or the spaces behind different words (C).
 pub fn without_copyright(class: &[u8; 256], buf: &mut [u8], n: usize) -> usize
     requires { ⌜ (now class ≡ classTable) × (n ≤ length (now buf)) ⌝ }
-    ensures { λ r. ⌜ Front (withoutCopyright true true 0 (take n (now (buf .entry)))) r (now (buf .exit)) ⌝ }
+    ensures { λ r. ⌜ InFront (withoutCopyright true true 0 (take n (now (buf .entry)))) r (now (buf .exit)) ⌝ }
 {
     let mut i = 0;
     let mut w = 0;

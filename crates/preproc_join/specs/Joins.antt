@@ -6,7 +6,7 @@ use mathlib.Core.List.{List, [], _∷_, map, _++_}
 use Prim.Native.Nat.{ℕ, _+_, _-_, _*_, _≤_, _<_}
 use lib.ListN.{length, take, drop}
 use lib.Seq.{slice}
-use Rattle.lists.specs.Wrote.{Front}
+use Rattle.lists.specs.Wrote.{InFront}
 use Rattle.rules.specs.Bytes.{starts}
 use Rattle.rules.specs.Prefix.{strip}
 use Rattle.slices.specs.declared.ends.Span.{Span}
@@ -72,5 +72,5 @@ pub record Below (class table : List ℕ) (end : ℕ) (p : Prefix) (to : ℕ) : 
   pub prefix : p .at + p .len ≤ to
 
 pub record Joined (out d₀ : List ℕ) (to r : ℕ) (d : List ℕ) : Type 0 where
-  pub there : Front out r (drop to d)
+  pub there : InFront out r (drop to d)
   pub below : take to d ≡ take to d₀

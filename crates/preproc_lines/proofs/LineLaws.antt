@@ -7,7 +7,7 @@ use Prim.Native.Nat.{ℕ, _+_, _-_, _*_, _≤_}
 use native.Mathlib.Omega.{arith}
 use lib.ListN.{length, take, drop, length-take}
 use lib.Seq.{slice, length-take-le, take-at, drop-at, take-append-le}
-use Rattle.lists.specs.Wrote.{Wrote, Front}
+use Rattle.lists.specs.Wrote.{Wrote, InFront}
 use Rattle.lists.proofs.SliceLaws.{part-rest, part-slice, part-at, slice-part}
 use Rattle.lists.proofs.ChainLaws.{front-of, wrote-behind, wrote-before, wrote-from, wrote-end}
 use Rattle.rules.specs.Bytes.{text, among, space, dropped, keep, runs, trim}
@@ -77,12 +77,12 @@ module _ (src : List ℕ) (to : ℕ) {d₀ d₁ : List ℕ} {n₂ : ℕ} (fits :
         ∙ part-slice (length src) to d₀
 
     -- what they leave, with the part back in its place
-    pub filled : {n₅ : ℕ} (ys post : List ℕ) → length d₂ ≡ length d₁ → Front (signs (runs gap 32 false (take (e - to) (take (length d₂ - to) (drop to d₂))))) n₅ ys →
+    pub filled : {n₅ : ℕ} (ys post : List ℕ) → length d₂ ≡ length d₁ → InFront (signs (runs gap 32 false (take (e - to) (take (length d₂ - to) (drop to d₂))))) n₅ ys →
         Filled src d₀ to (to + n₅) (take to d₂ ++ (ys ++ post))
     unfolding untrimmed
     filled {n₅} ys post long f =
         let l : length (take to d₂) ≡ to = length-take-le to d₂ (omega arith) in
-        let g : Front (signs (runs gap 32 false (urls false (kept src)))) n₅ ys = rw three-part at f in
+        let g : InFront (signs (runs gap 32 false (urls false (kept src)))) n₅ ys = rw three-part at f in
         record {
           low = omega arith;
           high = omega (arith, g .count, signs-length (runs gap 32 false (urls false (kept src))), runs-length gap 32 false (urls false (kept src)), three-length);

@@ -4,7 +4,7 @@
 ghost use mathlib.Core.Bool.{false, not};
 ghost use Prim.Native.Nat.{_≤_};
 ghost use lib.ListN.{length, take};
-ghost use Rattle.lists.specs.Wrote.{Wrote, Front};
+ghost use Rattle.lists.specs.Wrote.{Wrote, InFront};
 ghost use Rattle.rules.specs.Bytes.{keep, runs};
 ghost use Rattle.slices.specs.Classes.{inClass};
 ghost use Rattle.preproc_runs.specs.Capped.{capped};
@@ -32,7 +32,7 @@ pub fn drop_into(class: &[u8; 256], lo: u8, hi: u8, src: &[u8], dst: &mut [u8]) 
 // The bytes of classes lo to hi of the first n, in place: aggressive pass 3. One walk.
 pub fn keep_in(class: &[u8; 256], lo: u8, hi: u8, buf: &mut [u8], n: usize) -> usize
     requires { ⌜ n ≤ length (now buf) ⌝ }
-    ensures { λ r. ⌜ Front (keep (inClass (now (class .entry)) lo hi) (take n (now (buf .entry)))) r (now (buf .exit)) ⌝ }
+    ensures { λ r. ⌜ InFront (keep (inClass (now (class .entry)) lo hi) (take n (now (buf .entry)))) r (now (buf .exit)) ⌝ }
 {
     let mut i = 0;
     let mut w = 0;
@@ -58,7 +58,7 @@ pub fn cap_runs(
     n: usize,
 ) -> usize
     requires { ⌜ n ≤ length (now buf) ⌝ }
-    ensures { λ r. ⌜ Front (capped (inClass (now (class .entry)) lo hi) rep most 0 (take n (now (buf .entry)))) r (now (buf .exit)) ⌝ }
+    ensures { λ r. ⌜ InFront (capped (inClass (now (class .entry)) lo hi) rep most 0 (take n (now (buf .entry)))) r (now (buf .exit)) ⌝ }
 {
     let mut i = 0;
     let mut w = 0;
@@ -85,7 +85,7 @@ pub fn cap_runs(
 // Each run of bytes of classes lo to hi of the first n becomes one rep, in place: aggressive pass 7. One walk.
 pub fn join_runs(class: &[u8; 256], lo: u8, hi: u8, rep: u8, buf: &mut [u8], n: usize) -> usize
     requires { ⌜ n ≤ length (now buf) ⌝ }
-    ensures { λ r. ⌜ Front (runs (inClass (now (class .entry)) lo hi) rep false (take n (now (buf .entry)))) r (now (buf .exit)) ⌝ }
+    ensures { λ r. ⌜ InFront (runs (inClass (now (class .entry)) lo hi) rep false (take n (now (buf .entry)))) r (now (buf .exit)) ⌝ }
 {
     cap_runs(class, lo, hi, rep, 1, buf, n)
 }

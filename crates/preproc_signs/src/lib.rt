@@ -5,7 +5,7 @@ ghost use mathlib.Core.Path.{_≡_};
 ghost use mathlib.Core.Bool.{false};
 ghost use Prim.Native.Nat.{_≤_};
 ghost use lib.ListN.{length, take, getD};
-ghost use Rattle.lists.specs.Wrote.{Front};
+ghost use Rattle.lists.specs.Wrote.{InFront};
 ghost use Rattle.rules.specs.Bytes.{runs};
 ghost use Rattle.rules.specs.Lines.{gap, signs};
 ghost use Rattle.slices.specs.Classes.{classTable};
@@ -53,7 +53,7 @@ fn sign_of(class: &[u8; 256], b: u8) -> u8
 // Line passes 4 and 5, in place, on the first n. One walk.
 pub fn join_signs(class: &[u8; 256], buf: &mut [u8], n: usize) -> usize
     requires { ⌜ (now class ≡ classTable) × (n ≤ length (now buf)) ⌝ }
-    ensures { λ r. ⌜ Front (signs (runs gap 32 false (take n (now (buf .entry))))) r (now (buf .exit)) ⌝ }
+    ensures { λ r. ⌜ InFront (signs (runs gap 32 false (take n (now (buf .entry))))) r (now (buf .exit)) ⌝ }
 {
     let mut i = 0;
     let mut w = 0;

@@ -5,7 +5,7 @@ ghost use mathlib.Core.Path.{_≡_};
 ghost use mathlib.Core.List.{map};
 ghost use Prim.Native.Nat.{_≤_};
 ghost use lib.ListN.{length, take};
-ghost use Rattle.lists.specs.Wrote.{Front};
+ghost use Rattle.lists.specs.Wrote.{InFront};
 ghost use Rattle.rules.specs.Passes.{lowered};
 ghost use Rattle.rules.specs.Passes;
 ghost use Rattle.slices.specs.Classes.{classTable};
@@ -40,7 +40,7 @@ fn lower(class: &[u8; 256], b: u8) -> u8
 // Pass 4: the first n in lower case.
 pub fn lower_in(class: &[u8; 256], buf: &mut [u8], n: usize) -> usize
     requires { ⌜ (now class ≡ classTable) × (n ≤ length (now buf)) ⌝ }
-    ensures { λ r. ⌜ Front (map lowered (take n (now (buf .entry)))) r (now (buf .exit)) ⌝ }
+    ensures { λ r. ⌜ InFront (map lowered (take n (now (buf .entry)))) r (now (buf .exit)) ⌝ }
 {
     let mut i = 0;
     while i < n {
@@ -64,7 +64,7 @@ fn last_passes(class: &[u8; 256], buf: &mut [u8], n: usize) -> Span
 // Passes 2 to 4.
 fn first_passes(class: &[u8; 256], buf: &mut [u8], n: usize) -> usize
     requires { ⌜ (now class ≡ classTable) × (n ≤ length (now buf)) ⌝ }
-    ensures { λ r. ⌜ Front (firstPasses (take n (now (buf .entry)))) r (now (buf .exit)) ⌝ }
+    ensures { λ r. ⌜ InFront (firstPasses (take n (now (buf .entry)))) r (now (buf .exit)) ⌝ }
 {
     let n2 = cap_runs(class, VERTICAL_LOW, VERTICAL_HIGH, b'\n', 2, buf, n);
     let n3 = keep_in(class, KEPT_LOW, KEPT_HIGH, buf, n2);

@@ -6,7 +6,7 @@ use Prim.Native.Nat.{ℕ}
 use native.Mathlib.Omega.{arith}
 use lib.ListN.{take, length-append}
 use lib.Seq.{length-take-le}
-use Rattle.lists.specs.Wrote.{Wrote, Front}
+use Rattle.lists.specs.Wrote.{Wrote, InFront}
 use Rattle.lists.proofs.ChainLaws.{front-of}
 use Rattle.lists.proofs.WriteLaws.{Part, part-puts}
 
@@ -15,9 +15,9 @@ part-wrote p {d = d} {w = w} e k h =
     part-puts p e (omega (arith, k .count, length-append (take w d) p, length-take-le w d (h .at))) (k .bytes) h
 
 -- no answer
-pub front-none : {out : List ℕ} {d : List ℕ} → out ≡ [] → Front out 0 d
+pub front-none : {out : List ℕ} {d : List ℕ} → out ≡ [] → InFront out 0 d
 front-none e = record { within = omega arith; count = rw e; bytes = sym e }
 
 -- a piece written behind what stands at the front
-pub front-more : (p : List ℕ) {out d d′ : List ℕ} {w r : ℕ} → Front out w d → Wrote (take w d ++ p) d r d′ → Front (out ++ p) r d′
+pub front-more : (p : List ℕ) {out d d′ : List ℕ} {w r : ℕ} → InFront out w d → Wrote (take w d ++ p) d r d′ → InFront (out ++ p) r d′
 front-more p f k = rw (f .bytes) at (front-of k)

@@ -3,7 +3,7 @@ ghost use mathlib.Core.Path.{_≡_};
 ghost use Prim.Native.Nat.{_+_, _-_, _≤_, min};
 ghost use lib.ListN.{length};
 ghost use Rattle.rules.specs.Sizes.{textMost};
-ghost use Rattle.lists.specs.Wrote.{Front};
+ghost use Rattle.lists.specs.Wrote.{InFront};
 ghost use Rattle.questions.specs.Fields.{textOf, numberOf};
 use crate::hex::unhex;
 use crate::numbers::number_of;
@@ -24,7 +24,7 @@ fn read_end(start: usize, end: usize, most: usize) -> usize
 // The text that word k stands for, or as much of it as there is room for; answers its length.
 pub fn text_at(line: &[u8], k: usize, text: &mut [u8]) -> usize
     requires { ⌜ length (now text) ≤ textMost ⌝ }
-    ensures { λ r. ⌜ Front (textOf (length (now (text .entry))) k (now (line .entry))) r (now (text .exit)) ⌝ }
+    ensures { λ r. ⌜ InFront (textOf (length (now (text .entry))) k (now (line .entry))) r (now (text .exit)) ⌝ }
 {
     let w = word(line, k);
     let a = w.start;

@@ -36,7 +36,7 @@ use Rattle.rules.proofs.RefusalLaws.{refusal-first, refusal-then, refusal-most}
 use Rattle.preproc_test.specs.declared.Tested.{Tested}
 use Rattle.preproc_test.specs.Counts.{AsTested}
 use Rattle.detection_shelf.specs.declared.Counts.{Counts}
-use Rattle.detection_shelf.specs.Shelves.{Shelf, booksOf, Lends, texts, Counted}
+use Rattle.detection_shelf.specs.Shelves.{Shelf, booksOf, Lends, texts, CountsOf}
 use Rattle.detection_shelf.proofs.ShelfLaws.{lent-read}
 use Rattle.refusals.specs.declared.Admitted.{Admitted}
 use Rattle.refusals.specs.Admits.{Admits, AdmitsBooks, AdmitsView, Through, ViewThrough, ScanThrough}
@@ -152,7 +152,7 @@ module _ (books : Shelf) (two : Bool) (lends : Lends books two) where
         at false e = rw (check-sound (books .first) c x z) e
 
     module _ (w : d .refusal ≡ 0) where
-      pub checks-counted : (n : ℕ) → n ≡ c .texts + d .texts → Counted books (record { first = c .texts; all = n })
+      pub checks-counted : (n : ℕ) → n ≡ c .texts + d .texts → CountsOf books (record { first = c .texts; all = n })
       checks-counted n e =
           record {
             sound-first = check-sound (books .first) c x z;
@@ -302,7 +302,7 @@ view-through t books two lends v k a h =
 
 -- the work below asks this, and no more
 pub view-admitted : (t : List ℕ) (books : Shelf) (two : Bool) → Lends books two → (v : View) (k : ℕ) (a : Areas) → {r : Admitted} → AdmitsView t books two v k a r →
-    r .refusal ≡ 0 → ViewThrough t books v k a × Counted books (r .texts)
+    r .refusal ≡ 0 → ViewThrough t books v k a × CountsOf books (r .texts)
 view-admitted t books two lends v k a h z = (view-through t books two lends v k a (sym (h .number) ∙ z), h .texts z)
 
 -- a refusal leaves both areas as they were

@@ -11,13 +11,13 @@ use Rattle.rules.specs.declared.View.{View}
 use Rattle.rules.specs.Sizes.{textMost, linesMost, byteArea, wordArea}
 use Rattle.rules.specs.Lines.{lineCount}
 use Rattle.rules.specs.Refusal.{Row, refusal, Areas, ofText, ofBooks, ofView, beforeScan, unit, stepZero, resultsNeed}
-use Rattle.detection_shelf.specs.Shelves.{Shelf, booksOf, texts, Counted}
+use Rattle.detection_shelf.specs.Shelves.{Shelf, booksOf, texts, CountsOf}
 use Rattle.refusals.specs.declared.Admitted.{Admitted}
 
 pub record Admits (t : List ℕ) (books : Shelf) (rows : List Row) (r : Admitted) : Type 0 where
   pub number : r .refusal ≡ refusal rows
   pub lines : r .refusal ≡ 0 → r .lines ≡ lineCount t
-  pub texts : r .refusal ≡ 0 → Counted books (r .texts)
+  pub texts : r .refusal ≡ 0 → CountsOf books (r .texts)
 
 -- refusals 1 to 5, which the jobs share: the rows of the books that are lent
 abbrev pub AdmitsBooks : (t : List ℕ) (books : Shelf) (two : Bool) (r : Admitted) → Type 0

@@ -13,7 +13,7 @@ use lib.ListN.{length, take, drop, length-append, length-drop, take-append-drop,
 use lib.Seq.{length-take-le, take-append-le, take-append-add, take-append-seam, drop-at}
 use borrow.Author.Tests.{eq-eqb}
 use borrow.Rule.Slice.PartMut.{putMid}
-use Rattle.lists.specs.Wrote.{Front}
+use Rattle.lists.specs.Wrote.{InFront}
 use Rattle.rules.specs.declared.Compiled.{Compiled}
 use Rattle.rules.specs.Book.{written, compiled}
 use Rattle.rules.specs.Refusal.{refusal, ofCompile}
@@ -38,7 +38,7 @@ head-length : (len kind : ℕ) → length (headOut len kind) ≡ 6
 head-length len kind = omega (arith, length-append (written 4 len) (written 2 kind), length-written 4 len, length-written 2 kind)
 
 module _ (at : ℕ) (b₀ : List ℕ) where
-  pub stays-at : at ≤ length b₀ → Front (take at b₀) at b₀
+  pub stays-at : at ≤ length b₀ → InFront (take at b₀) at b₀
   stays-at h = record { within = h; count = sym (length-take-le at b₀ h); bytes = refl }
 
   -- what is behind the place m was written
@@ -48,7 +48,7 @@ module _ (at : ℕ) (b₀ : List ℕ) where
       take-append-le at (take m b₀) last (omega arith) ∙ sym (take-append-le at (take m b₀) (drop m b₀) (omega arith)) ∙
       ap (take at) (take-append-drop m b₀)
 
-  stays-before : (m : ℕ) (last : List ℕ) → at ≤ m → m ≤ length b₀ → Front (take at b₀) at (take m b₀ ++ last)
+  stays-before : (m : ℕ) (last : List ℕ) → at ≤ m → m ≤ length b₀ → InFront (take at b₀) at (take m b₀ ++ last)
   stays-before m last h k =
       let l = length-append (take m b₀) last in
       let n = length-take-le m b₀ k in
@@ -72,7 +72,7 @@ module _ (at : ℕ) (b₀ : List ℕ) where
     body-length : length body ≡ len
     body-length = ap length (sym is) ∙ length-take-le len last fits
 
-    grows-by : Front (front ++ body) (at + 6 + len) (putAt at head (take (at + 6) b₀ ++ last))
+    grows-by : InFront (front ++ body) (at + 6 + len) (putAt at head (take (at + 6) b₀ ++ last))
     grows-by =
         rw put-is (record {
           within = omega (arith, length-append front last, front-length);
@@ -86,7 +86,7 @@ module _ (at kind : ℕ) (body b₀ last : List ℕ) (room : at + 6 ≤ length b
 
   pub stayed : Grown at kind body b₀ at after
   stayed =
-      stays (subst (λ (x : List ℕ). Front (take at b₀) at x) (sym (put-back (at + 6) b₀ last room)) (stays-before at b₀ (at + 6) last (omega arith) room))
+      stays (subst (λ (x : List ℕ). InFront (take at b₀) at x) (sym (put-back (at + 6) b₀ last room)) (stays-before at b₀ (at + 6) last (omega arith) room))
 
   pub grown : (len : ℕ) (b : List ℕ) → len ≤ length last → len ≡ length body → take len last ≡ body → b ≡ putAt at (headOut len kind) after →
       Grown at kind body b₀ (at + 6 + len) b
@@ -94,7 +94,7 @@ module _ (at kind : ℕ) (body b₀ last : List ℕ) (room : at + 6 ≤ length b
       let head = headOut (length body) kind in
       let q : b ≡ putAt at head (take (at + 6) b₀ ++ last) =
       e ∙ ap (putAt at (headOut len kind)) (put-back (at + 6) b₀ last room) ∙ ap (λ (k : ℕ). putAt at (headOut k kind) (take (at + 6) b₀ ++ last)) n in
-      grows (subst (λ (x : List ℕ). Front ((take at b₀ ++ head) ++ body) (at + 6 + len) x) (sym q)
+      grows (subst (λ (x : List ℕ). InFront ((take at b₀ ++ head) ++ body) (at + 6 + len) x) (sym q)
       (grows-by at b₀ last body head len (head-length (length body) kind) room fits is))
 
 -- how much is lent of a book from a place on

@@ -3,7 +3,7 @@
 use mathlib.Core.List.{List, _++_}
 use Prim.Native.Nat.{ℕ}
 use lib.ListN.{length, take}
-use Rattle.lists.specs.Wrote.{Front}
+use Rattle.lists.specs.Wrote.{InFront}
 use Rattle.rules.specs.Book.{written}
 
 -- the head of a record whose body has so many bytes
@@ -12,5 +12,5 @@ headOut len kind = written 4 len ++ written 2 kind
 
 -- b₀ is the book's array before, `at` its end then, r its end in b
 pub data Grown (at kind : ℕ) (body b₀ : List ℕ) (r : ℕ) (b : List ℕ) : Type 0 where
-  stays : Front (take at b₀) r b → Grown at kind body b₀ r b
-  grows : Front ((take at b₀ ++ headOut (length body) kind) ++ body) r b → Grown at kind body b₀ r b
+  stays : InFront (take at b₀) r b → Grown at kind body b₀ r b
+  grows : InFront ((take at b₀ ++ headOut (length body) kind) ++ body) r b → Grown at kind body b₀ r b

@@ -6,7 +6,7 @@ ghost use mathlib.Core.Bool.{cond};
 ghost use Prim.Native.Nat.{_+_, _*_, _<_, _≤_};
 ghost use lib.Dec.{ltb};
 ghost use lib.ListN.{length};
-ghost use Rattle.lists.specs.Wrote.{Wrote, Front};
+ghost use Rattle.lists.specs.Wrote.{Wrote, InFront};
 ghost use Rattle.slices.specs.Classes.{classTable};
 ghost use Rattle.questions.specs.Fields.{textOf};
 ghost use Rattle.preproc_table.specs.Entries.{linesAt, Apart};
@@ -66,7 +66,7 @@ fn answer_text(
     out: &mut [u8; 16386],
 ) -> usize
     requires { ⌜ (now class ≡ classTable) × (length (now text) ≤ 2048) ⌝ }
-    ensures { λ r. ⌜ Front (answerTo (now (text .entry))) r (now (out .exit)) ⌝ }
+    ensures { λ r. ⌜ InFront (answerTo (now (text .entry))) r (now (out .exit)) ⌝ }
 {
     let t = test_text(text);
     let refusal = t.refusal;
@@ -87,7 +87,7 @@ fn answer_word(
     out: &mut [u8; 16386],
 ) -> usize
     requires { ⌜ (now class ≡ classTable) × (length (now text) ≡ 2048) ⌝ }
-    ensures { λ r. ⌜ Front (answerTo (textOf 2048 1 (now (line .entry)))) r (now (out .exit)) ⌝ }
+    ensures { λ r. ⌜ InFront (answerTo (textOf 2048 1 (now (line .entry)))) r (now (out .exit)) ⌝ }
 {
     let n = text_at(line, 1, text);
     answer_text(class, &text[..n], area, table, out)
@@ -103,7 +103,7 @@ fn answer(
     out: &mut [u8; 16386],
 ) -> usize
     requires { ⌜ now class ≡ classTable ⌝ }
-    ensures { λ r. ⌜ Front (answerOf (now (line .entry))) r (now (out .exit)) ⌝ }
+    ensures { λ r. ⌜ InFront (answerOf (now (line .entry))) r (now (out .exit)) ⌝ }
 {
     if !starts_with(line, 0, b"lines ") {
         return 0;

@@ -9,7 +9,7 @@ use Prim.Native.Nat.{ℕ, _+_, _-_, _*_, _≤_, _<_}
 use native.Mathlib.Omega.{arith}
 use lib.ListN.{length, take, drop, length-append, length-take}
 use lib.Seq.{slice}
-use Rattle.lists.specs.Wrote.{Wrote, Front}
+use Rattle.lists.specs.Wrote.{Wrote, InFront}
 use Rattle.rules.specs.Prefix.{Counted}
 use Rattle.rules.specs.Book.{number, entryForm, entryOf, entriesOf, pieces, soundTable, tableIn}
 use Rattle.rules.proofs.SoundLaws.{table-size, sound-some, body-total}
@@ -36,7 +36,7 @@ pub record Telling (body whole d : List ℕ) (at w : ℕ) : Type 0 where
   pub stored : List Counted
   pub there : pieces entryForm entryOf (drop at body) ≡ some stored
   pub out : List ℕ
-  pub front : Front out w d
+  pub front : InFront out w d
   pub both : out ++ entriesTold stored ≡ whole
   pub room : w ≤ 2 * at
   pub walked : at ≤ length body
@@ -50,7 +50,7 @@ module _ (body : List ℕ) (h : soundTable body (entriesOf body) ≡ true) where
   pub body-long : 8 ≤ length body
   body-long = table-size body (entriesOf body) h
 
-  pub telling-start : (d : List ℕ) (total w : ℕ) → total ≡ number 4 (drop 0 body) → total < 4294967296 → Front (decimal total) w d → 2 * length body + 1 ≤ length d →
+  pub telling-start : (d : List ℕ) (total w : ℕ) → total ≡ number 4 (drop 0 body) → total < 4294967296 → InFront (decimal total) w d → 2 * length body + 1 ≤ length d →
       Telling body (wholeOf body) d 8 w
   unfolding tableOfBody entriesOf
   telling-start d total w e l f k =
@@ -99,7 +99,7 @@ module _ {body whole d : List ℕ} {at w : ℕ} (c : Telling body whole d at w) 
   pub telling-room : w < length d
   telling-room = omega (arith, c .room, c .walked, c .long)
 
-  pub telling-end : length body ≤ at → Front whole w d
+  pub telling-end : length body ≤ at → InFront whole w d
   unfolding entriesTold
   telling-end h =
       let e = entry-end body at (c .stored) (c .there) h in

@@ -4,7 +4,7 @@
 ghost use mathlib.Core.Path.{_≡_};
 ghost use Prim.Native.Nat.{_≤_};
 ghost use lib.ListN.{length};
-ghost use Rattle.lists.specs.Wrote.{Front};
+ghost use Rattle.lists.specs.Wrote.{InFront};
 ghost use Rattle.slices.specs.Classes.{classTable};
 ghost use Rattle.replay_tables.specs.Told.{tableFor, scoreFor, tableAsked, scoreAsked, answerOf};
 
@@ -42,7 +42,7 @@ fn answer_table(
     out: &mut [u8; 98305],
 ) -> usize
     requires { ⌜ length (now body) ≡ 49152 ⌝ }
-    ensures { λ r. ⌜ Front (tableFor (now (text .entry))) r (now (out .exit)) ⌝ }
+    ensures { λ r. ⌜ InFront (tableFor (now (text .entry))) r (now (out .exit)) ⌝ }
 {
     let made = compile(text, area, words, body);
     if made.refusal != 0 {
@@ -65,7 +65,7 @@ fn answer_score(
     out: &mut [u8; 98305],
 ) -> usize
     requires { ⌜ (now class ≡ classTable) × (length (now text) ≤ 2048) × (length (now body) ≡ 49152) ⌝ }
-    ensures { λ r. ⌜ Front (scoreFor start end (now (text .entry)) (now (licence .entry))) r (now (out .exit)) ⌝ }
+    ensures { λ r. ⌜ InFront (scoreFor start end (now (text .entry)) (now (licence .entry))) r (now (out .exit)) ⌝ }
 {
     let made = compile(licence, area, words, body);
     if made.refusal != 0 {
@@ -85,7 +85,7 @@ fn asked_table(
     out: &mut [u8; 98305],
 ) -> usize
     requires { ⌜ length (now text) ≡ 2048 ⌝ }
-    ensures { λ r. ⌜ Front (tableAsked (now (line .entry))) r (now (out .exit)) ⌝ }
+    ensures { λ r. ⌜ InFront (tableAsked (now (line .entry))) r (now (out .exit)) ⌝ }
 {
     let n = text_at(line, 1, text);
     answer_table(&text[..n], area, words, body, out)
@@ -103,7 +103,7 @@ fn asked_score(
     out: &mut [u8; 98305],
 ) -> usize
     requires { ⌜ (now class ≡ classTable) × (length (now text) ≡ 2048) × (length (now licence) ≡ 2048) ⌝ }
-    ensures { λ r. ⌜ Front (scoreAsked (now (line .entry))) r (now (out .exit)) ⌝ }
+    ensures { λ r. ⌜ InFront (scoreAsked (now (line .entry))) r (now (out .exit)) ⌝ }
 {
     let start = number_at(line, 1) as usize;
     let end = number_at(line, 2) as usize;
@@ -134,7 +134,7 @@ fn answer(
     out: &mut [u8; 98305],
 ) -> usize
     requires { ⌜ now class ≡ classTable ⌝ }
-    ensures { λ r. ⌜ Front (answerOf (now (line .entry))) r (now (out .exit)) ⌝ }
+    ensures { λ r. ⌜ InFront (answerOf (now (line .entry))) r (now (out .exit)) ⌝ }
 {
     if starts_with(line, 0, b"table ") {
         return asked_table(line, text, area, words, body, out);

@@ -4,7 +4,7 @@ ghost use mathlib.Core.Bool.{true};
 ghost use lib.Dec.{T};
 ghost use Prim.Native.Nat.{_≤_};
 ghost use lib.ListN.{length};
-ghost use Rattle.lists.specs.Wrote.{Front};
+ghost use Rattle.lists.specs.Wrote.{InFront};
 ghost use Rattle.rules.specs.Book.{soundTable, entriesOf};
 ghost use Rattle.rules.specs.Refusal.{unit};
 ghost use Rattle.slices.specs.Classes.{classTable};
@@ -22,7 +22,7 @@ use rules::View;
 // A score's bits and a newline, written from the front; answers where they end.
 fn put_score(x: f32, out: &mut [u8]) -> usize
     requires { ⌜ T (unit x) × (9 ≤ length (now out)) ⌝ }
-    ensures { λ r. ⌜ Front (bitsTold x) r (now (out .exit)) ⌝ }
+    ensures { λ r. ⌜ InFront (bitsTold x) r (now (out .exit)) ⌝ }
 {
     let bits = f32::to_bits(x);
     let end = put_bits(bits, out, 0);
@@ -41,7 +41,7 @@ pub fn answer_view(
     out: &mut [u8],
 ) -> usize
     requires { ⌜ (now class ≡ classTable) × (length (now text) ≤ 2048) × (soundTable (now body) (entriesOf (now body)) ≡ true) × (9 ≤ length (now out)) ⌝ }
-    ensures { λ r. ⌜ Front (scoreOver start end (now (text .entry)) (tableOfBody (now (body .entry)))) r (now (out .exit)) ⌝ }
+    ensures { λ r. ⌜ InFront (scoreOver start end (now (text .entry)) (tableOfBody (now (body .entry)))) r (now (out .exit)) ⌝ }
 {
     if !view_fits(text, start, end) {
         return 0;

@@ -5,7 +5,7 @@ ghost use mathlib.Core.List.{_++_};
 ghost use Prim.Native.Nat.{_+_, _*_, _≤_};
 ghost use lib.ListN.{length, take, drop};
 ghost use lib.Seq.{slice};
-ghost use Rattle.lists.specs.Wrote.{Wrote, Front};
+ghost use Rattle.lists.specs.Wrote.{Wrote, InFront};
 ghost use Rattle.rules.specs.Book.{number, soundTable, entriesOf};
 ghost use Rattle.detection_shelf.specs.Bodies.{tableOfBody};
 ghost use Rattle.replay_tables.specs.Told.{entryTold, tableTold};
@@ -33,7 +33,7 @@ fn put_entry(body: &[u8], at: usize, len: usize, out: &mut [u8], to: usize) -> u
 // The table of a sound body, and a newline, written from the front; answers where they end.
 pub fn put_table(body: &[u8], out: &mut [u8]) -> usize
     requires { ⌜ (soundTable (now body) (entriesOf (now body)) ≡ true) × (2 * length (now body) + 1 ≤ length (now out)) ⌝ }
-    ensures { λ r. ⌜ Front (tableTold (tableOfBody (now (body .entry)))) r (now (out .exit)) ⌝ }
+    ensures { λ r. ⌜ InFront (tableTold (tableOfBody (now (body .entry)))) r (now (out .exit)) ⌝ }
 {
     let total = read_u32(body, 0);
     let mut w = put_number(total, out, 0);

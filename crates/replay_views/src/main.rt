@@ -4,7 +4,7 @@
 ghost use mathlib.Core.Path.{_≡_};
 ghost use Prim.Native.Nat.{_+_, _*_, _≤_};
 ghost use lib.ListN.{length};
-ghost use Rattle.lists.specs.Wrote.{Front};
+ghost use Rattle.lists.specs.Wrote.{InFront};
 ghost use Rattle.rules.specs.Passes.{aggressive};
 ghost use Rattle.rules.specs.Search.{viewed};
 ghost use Rattle.slices.specs.Classes.{classTable};
@@ -44,7 +44,7 @@ fn put_view(
 ) -> usize
     requires { ⌜ (now class ≡ classTable) × Laid n lines (now area) (now words) × (2 * length (now area) + 2 ≤ length (now out)) ⌝ }
     requires { ⌜ (v .start ≤ v .end) × (v .end ≤ lines) ⌝ }
-    ensures { λ r. ⌜ Front (told (aggressive (viewed (linesAt (now (area .entry)) (now (words .entry)) lines) v))) r (now (out .exit)) ⌝ }
+    ensures { λ r. ⌜ InFront (told (aggressive (viewed (linesAt (now (area .entry)) (now (words .entry)) lines) v))) r (now (out .exit)) ⌝ }
 {
     let p = process(class, area, words, n, lines, v);
     let a = p.start;
@@ -64,7 +64,7 @@ fn answer_view(
     out: &mut [u8; 32898],
 ) -> usize
     requires { ⌜ (now class ≡ classTable) × (length (now text) ≤ 2048) ⌝ }
-    ensures { λ r. ⌜ Front (answerTo start end (now (text .entry))) r (now (out .exit)) ⌝ }
+    ensures { λ r. ⌜ InFront (answerTo start end (now (text .entry))) r (now (out .exit)) ⌝ }
 {
     if !view_fits(text, start, end) {
         return 0;
@@ -91,7 +91,7 @@ fn answer_words(
     out: &mut [u8; 32898],
 ) -> usize
     requires { ⌜ (now class ≡ classTable) × (length (now text) ≡ 2048) ⌝ }
-    ensures { λ r. ⌜ Front (answerIn (now (line .entry))) r (now (out .exit)) ⌝ }
+    ensures { λ r. ⌜ InFront (answerIn (now (line .entry))) r (now (out .exit)) ⌝ }
 {
     let start = number_at(line, 1) as usize;
     let end = number_at(line, 2) as usize;
@@ -109,7 +109,7 @@ fn answer(
     out: &mut [u8; 32898],
 ) -> usize
     requires { ⌜ now class ≡ classTable ⌝ }
-    ensures { λ r. ⌜ Front (answerOf (now (line .entry))) r (now (out .exit)) ⌝ }
+    ensures { λ r. ⌜ InFront (answerOf (now (line .entry))) r (now (out .exit)) ⌝ }
 {
     if !starts_with(line, 0, b"view ") {
         return 0;

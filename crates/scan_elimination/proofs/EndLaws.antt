@@ -34,7 +34,7 @@ use Rattle.detect.specs.declared.Chosen.the-variants as chosen
 use Rattle.detect_best.specs.Beats.{bestIn}
 use Rattle.detect.specs.Bests.{chosenIn, ChosenStands, BestDone}
 use Rattle.detect.proofs.BestLaws.{noneYet, none-is}
-use Rattle.detection_shelf.specs.Shelves.{Shelf, texts, Stands, Counted, bookIn, textIn}
+use Rattle.detection_shelf.specs.Shelves.{Shelf, texts, Stands, CountsOf, bookIn, textIn}
 use Rattle.detection_shelf.proofs.ShelfLaws.{stands-part}
 use Rattle.scan_ranges.specs.declared.Scope.{Scope}
 use Rattle.scan_elimination.specs.declared.Outcome.{Outcome}
@@ -56,15 +56,15 @@ module _ {A : Type 0} (m : Made A) (b : ℕ) where
       ap verdict (afford-whole b (m .list) (overall x ∷ es) (paid-is m b p h .2)) ∙ verdict-after (m .list) (afford (b - length (m .list)) (overall x ∷ es))
 
 -- ---- names
-book-sound : (books : Shelf) (c : Counts) (second : Bool) → Counted books c → sound (bookIn books second) ≡ true
+book-sound : (books : Shelf) (c : Counts) (second : Bool) → CountsOf books c → sound (bookIn books second) ≡ true
 book-sound books c true h = h .sound-second
 book-sound books c false h = h .sound-first
 
-kind-from : (books : Shelf) (c : Counts) (t : Shelved) → Counted books c → Stands books t → 2 ≤ t .text .kind
+kind-from : (books : Shelf) (c : Counts) (t : Shelved) → CountsOf books c → Stands books t → 2 ≤ t .text .kind
 unfolding textIn
 kind-from books c t s h = stands-sound books c t s h .kind-from
 
-pub stands-name : {books : Shelf} {c : Counts} {t : Shelved} → Counted books c → Stands books t → NameFits books t
+pub stands-name : {books : Shelf} {c : Counts} {t : Shelved} → CountsOf books c → Stands books t → NameFits books t
 unfolding namePart textIn
 stands-name {books} {c} {t} s h = record {
   order = h .found .is .name-from;

@@ -7,7 +7,7 @@ ghost use Prim.Native.Nat.{_≤_};
 ghost use lib.ListN.{length};
 ghost use Rattle.rules.specs.Scan.{events};
 ghost use mathlib.Core.List.{[], _∷_};
-ghost use Rattle.detection_shelf.specs.Shelves.{shelf, texts, booksOf, Lends, Counted};
+ghost use Rattle.detection_shelf.specs.Shelves.{shelf, texts, booksOf, Lends, CountsOf};
 ghost use Rattle.refusals.specs.Admits.{ScanThrough};
 ghost use Rattle.rules.specs.Refusal.{stepZero};
 ghost use Rattle.rules.specs.Jobs.{lent, ScanDone};
@@ -99,7 +99,7 @@ pub fn scan_laid<'a>(
     results: &mut [u32],
 ) -> Scanned
     requires { ⌜ ScanThrough (now text) (shelf (now book) (now second)) limits mode (lent (now area) (now words)) (length (now results)) ⌝ }
-    requires { ⌜ Counted (shelf (now book) (now second)) counts ⌝ }
+    requires { ⌜ CountsOf (shelf (now book) (now second)) counts ⌝ }
     ensures { λ r. ⌜ Scans (now (text .entry)) (shelf (now (book .entry)) (now (second .entry))) limits mode budget (now (results .entry)) (now (results .exit)) r ⌝ }
 {
     let class = class_table();

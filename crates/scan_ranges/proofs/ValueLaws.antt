@@ -31,7 +31,7 @@ use Rattle.rules.proofs.TableLaws.{table-proper, stored-proper, value-unit}
 use Rattle.detection_shelf.specs.declared.Shelved.{Shelved}
 use Rattle.detection_shelf.specs.declared.Counts.{Counts}
 use Rattle.detection_shelf.proofs.ShelfLaws.{stands-text, stands-inside, counted-sound}
-use Rattle.detection_shelf.specs.Shelves.{Shelf, texts, Counted, textIn, Stands}
+use Rattle.detection_shelf.specs.Shelves.{Shelf, texts, CountsOf, textIn, Stands}
 
 -- ---- what holds of every value
 module _ (P : Value → Type 0) (scoreAt : ℕ → Made Value) (each : (i : ℕ) → P (scoreAt i .value)) where
@@ -68,7 +68,7 @@ module _ (P : Value → Type 0) (scoreAt : ℕ → Made Value) (each : (i : ℕ)
   search-value l r = search-to (suc (r - l)) (record { left = l; right = r }) (omega arith)
 
 -- ---- the texts of sound books
-pub stands-sound : (books : Shelf) (c : Counts) (t : Shelved) → Counted books c → Stands books t → StoredSound (textIn books t)
+pub stands-sound : (books : Shelf) (c : Counts) (t : Shelved) → CountsOf books c → Stands books t → StoredSound (textIn books t)
 stands-sound books c t s h =
     subst StoredSound (stands-text books t h)
     (each-at StoredSound (texts books) (t .number) noText (stands-inside books t h) (counted-sound books c s))

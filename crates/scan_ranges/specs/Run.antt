@@ -24,7 +24,7 @@ use Rattle.license_notes.specs.Laid.{Laid, Held}
 use Rattle.detection_shelf.specs.declared.Shelved.{Shelved}
 use Rattle.detect.specs.declared.Chosen.{Chosen}
 use Rattle.detect.specs.Bests.{chosenIn, ChosenStands}
-use Rattle.detection_shelf.specs.Shelves.{Shelf, texts, Counted, textIn}
+use Rattle.detection_shelf.specs.Shelves.{Shelf, texts, CountsOf, textIn}
 use Rattle.scan_ranges.specs.declared.Scope.{Scope}
 use Rattle.scan_ranges.specs.declared.Run.{Run}
 
@@ -41,7 +41,7 @@ pub record Scanning (scope : Scope) (class area words : List ℕ) (books : Shelf
   pub classes : class ≡ classTable
   pub laid : Laid (scope .n) (scope .lines) area words
   pub few : scope .lines ≤ linesMost
-  pub counted : Counted books (scope .texts)
+  pub counted : CountsOf books (scope .texts)
   pub some-text : 0 < length (texts books)
 
 -- the bounds of a view against a stored text, paid from the budget; the areas still hold the same lines

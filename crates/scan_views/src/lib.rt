@@ -42,7 +42,7 @@ fn next_step(a: usize, step: u64, n: usize) -> usize
 }
 
 // A score below the threshold ends the walk once there is a pair.
-fn lower(latest: Latest, left: Scorings) -> Walked
+fn below_threshold(latest: Latest, left: Scorings) -> Walked
     ensures { λ r. ⌜ r ≡ lowerIn latest left ⌝ }
 {
     match latest {
@@ -88,7 +88,7 @@ fn see<'a>(
         return Walked::Out;
     };
     if best.value.score < floor {
-        return lower(latest, left);
+        return below_threshold(latest, left);
     }
     let text = best.text;
     Walked::On(Latest::Pair(v, text), left)

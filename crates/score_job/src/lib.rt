@@ -5,7 +5,7 @@ ghost use mathlib.Core.Path.{_≡_};
 ghost use lib.ListN.{getD};
 ghost use Rattle.rules.specs.Lines.{lines};
 ghost use Rattle.rules.specs.Search.{noText, scoreView};
-ghost use Rattle.detection_shelf.specs.Shelves.{shelf, texts, booksOf, Lends, Counted};
+ghost use Rattle.detection_shelf.specs.Shelves.{shelf, texts, booksOf, Lends, CountsOf};
 ghost use Rattle.refusals.specs.Admits.{ViewThrough};
 ghost use mathlib.Core.List.{[], _∷_};
 ghost use Rattle.rules.specs.Jobs.{lent, ScoreDone};
@@ -34,7 +34,7 @@ pub fn score_laid<'a>(
     words: &mut [u32],
 ) -> f32
     requires { ⌜ ViewThrough (now text) (shelf (now book) (now second)) v k (lent (now area) (now words)) ⌝ }
-    requires { ⌜ Counted (shelf (now book) (now second)) counts ⌝ }
+    requires { ⌜ CountsOf (shelf (now book) (now second)) counts ⌝ }
     ensures { λ r. ⌜ r ≡ scoreView (lines (now (text .entry))) (getD (texts (shelf (now (book .entry)) (now (second .entry)))) k noText) v .value .score ⌝ }
 {
     let class = class_table();

@@ -129,20 +129,20 @@ after-on-requires c κs =
     let t = found .next-on .ensures .0 in
     (t .found .below, omega (arith, stands-inside (books f) _ t, counted-most (books f) _ (start f .pre .1)))
 
-beats-requires : tie.Need-beats-requires Inv-loop μ-loop
-beats-requires c κs = search needs
+wins-requires : tie.Need-wins-requires Inv-loop μ-loop
+wins-requires c κs = search needs
 
 loop-less : tie.Need-loop-less Inv-loop μ-loop
 loop-less c = less (c .before .before)
 
 loop-again : tie.Need-loop-again Inv-loop μ-loop
-loop-again c = step (c .before .before) _ (c .before .beats .ensures .yes (c .if3 .taken))
+loop-again c = step (c .before .before) _ (c .before .wins .ensures .yes (c .if3 .taken))
 
 loop-less-2 : tie.Need-loop-less-2 Inv-loop μ-loop
 loop-less-2 c = less (c .before .before)
 
 loop-again-2 : tie.Need-loop-again-2 Inv-loop μ-loop
-loop-again-2 c = step (c .before .before) _ (c .before .beats .ensures .no (c .if3 .left))
+loop-again-2 c = step (c .before .before) _ (c .before .wins .ensures .no (c .if3 .left))
 
 returns-2 : tie.Need-returns-2 Inv-loop μ-loop
 returns-2 c =
@@ -166,7 +166,7 @@ best-of-spec =
     to-beat-requires
     charge-requires
     after-on-requires
-    beats-requires
+    wins-requires
     loop-less
     loop-again
     loop-less-2

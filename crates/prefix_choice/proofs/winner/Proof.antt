@@ -20,8 +20,8 @@ loop-holds c = (omega arith, leading-start _ _)
 add-i : tie.Need-add-i Inv-loop μ-loop
 add-i c = search needs
 
-beats-requires : tie.Need-beats-requires Inv-loop μ-loop
-beats-requires c κs =
+counts-more-requires : tie.Need-counts-more-requires Inv-loop μ-loop
+counts-more-requires c κs =
     let l = c .before .loop .inv .1 .within in
     omega arith
 
@@ -31,7 +31,7 @@ loop-less c = search needs
 loop-again : tie.Need-loop-again Inv-loop μ-loop
 loop-again c =
     let b = c .before in
-    (omega arith, leading-new (b .before .before .loop .inv .1) (b .beats .ensures .0 (c .if1 .taken)))
+    (omega arith, leading-new (b .before .before .loop .inv .1) (b .counts-more .ensures .0 (c .if1 .taken)))
 
 loop-less-2 : tie.Need-loop-less-2 Inv-loop μ-loop
 loop-less-2 c = search needs
@@ -39,7 +39,7 @@ loop-less-2 c = search needs
 loop-again-2 : tie.Need-loop-again-2 Inv-loop μ-loop
 loop-again-2 c =
     let b = c .before in
-    (omega arith, leading-old (b .before .before .loop .inv .1) (b .beats .ensures .1 (c .if1 .left)))
+    (omega arith, leading-old (b .before .before .loop .inv .1) (b .counts-more .ensures .1 (c .if1 .left)))
 
 returns : tie.Need-returns Inv-loop μ-loop
 returns c =
@@ -55,7 +55,7 @@ winner-spec =
     μ-loop
     loop-holds
     add-i
-    beats-requires
+    counts-more-requires
     loop-less
     loop-again
     loop-less-2

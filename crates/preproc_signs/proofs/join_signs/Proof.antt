@@ -5,7 +5,7 @@ use mathlib.Core.List.{List}
 use Prim.Native.Nat.{ℕ, _-_}
 use lib.ListN.{take}
 use lib.Seq.{slice}
-use Rattle.lists.specs.Wrote.{Front}
+use Rattle.lists.specs.Wrote.{InFront}
 use Rattle.lists.proofs.SliceLaws.{slice-done}
 use Rattle.lists.proofs.InPlaceLaws.{Over, over-next, over-put, over-skip, over-end}
 use Rattle.preproc_signs.specs.Signs.{kinds, signIn, joined}
@@ -86,7 +86,7 @@ returns : tie.Need-returns Inv-loop μ-loop
 returns c =
     let a = c .before .before .before .args in
     let o = over-end (join-end _ _ (slice-done _ _ _ (c .loop-test .left))) (c .before .loop .inv) in
-    subst (λ (l : List ℕ). Front l (c .before .loop .w) (c .before .loop .buf)) (rw (c .before .before .before .pre .0) (joined-signs (take (a .n) (a .buf .now)))) o
+    subst (λ (l : List ℕ). InFront l (c .before .loop .w) (c .before .loop .buf)) (rw (c .before .before .before .pre .0) (joined-signs (take (a .n) (a .buf .now)))) o
 
 pub join-signs-spec : {M : Type 1} → statement M
 join-signs-spec =

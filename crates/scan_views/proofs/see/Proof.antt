@@ -38,8 +38,8 @@ returns c =
     let b : tie.After-best-above = search in
     see-out _ _ _ _ _ _ _ (above-as (c .enum-told .given .1) (b .best-above .ensures))
 
-lower-requires : tie.Need-lower-requires
-lower-requires c κs = search needs
+below-threshold-requires : tie.Need-below-threshold-requires
+below-threshold-requires c κs = search needs
 
 same-length-3 : tie.Need-same-length-3
 same-length-3 c = search needs
@@ -50,7 +50,7 @@ same-length-4 c = search needs
 returns-2 : tie.Need-returns-2
 returns-2 c =
     let b : tie.After-best = search in
-    see-low _ _ _ _ _ _ _ _ _ (above-as (b .best .given .1) (sought b .best-above .ensures)) _ (c .before .if1 .taken) (start (sought b) .pre .1 .1) (c .lower .ensures)
+    see-low _ _ _ _ _ _ _ _ _ (above-as (b .best .given .1) (sought b .best-above .ensures)) _ (c .before .if1 .taken) (start (sought b) .pre .1 .1) (c .below-threshold .ensures)
 
 same-length-5 : tie.Need-same-length-5
 same-length-5 c = search needs
@@ -74,7 +74,7 @@ see-spec =
     same-length
     same-length-2
     returns
-    lower-requires
+    below-threshold-requires
     same-length-3
     same-length-4
     returns-2

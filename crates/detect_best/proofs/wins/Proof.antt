@@ -1,10 +1,10 @@
--- `detect_best::beats` meets its contract, arm by arm.
+-- `detect_best::wins` meets its contract, arm by arm.
 -- Assumes nothing.
 use mathlib.Core.Path.{sym}
 use mathlib.Core.Bool.{false≢true}
 use Rattle.detect_best.proofs.BetterLaws.{better-none, better-more, better-less}
-use Rattle.detect_best.proofs.beats.Statement.{statement}
-use Rattle.detect_best.proofs.beats.Tie as tie
+use Rattle.detect_best.proofs.wins.Statement.{statement}
+use Rattle.detect_best.proofs.wins.Tie as tie
 
 returns : tie.Need-returns
 returns c =
@@ -23,5 +23,5 @@ returns-2 c =
       no = λ e. record { is = λ books. better-less books (a .best) (a .next) k e; stands = λ books n b. b k };
     }
 
-pub beats-spec : {M : Type 1} → statement M
-beats-spec = tie.close (tie.spec returns returns-2)
+pub wins-spec : {M : Type 1} → statement M
+wins-spec = tie.close (tie.spec returns returns-2)

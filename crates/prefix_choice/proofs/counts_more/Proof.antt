@@ -1,9 +1,9 @@
--- `prefix_choice::beats` meets its contract.
+-- `prefix_choice::counts_more` meets its contract.
 -- Assumes nothing.
 use Rattle.prefix_choice.proofs.ReachLaws.{told-more, told-less, told-tie}
 use borrow.Author.Needs.{needs}
-use Rattle.prefix_choice.proofs.beats.Statement.{statement}
-use Rattle.prefix_choice.proofs.beats.Tie as tie
+use Rattle.prefix_choice.proofs.counts_more.Statement.{statement}
+use Rattle.prefix_choice.proofs.counts_more.Tie as tie
 
 add-if1 : tie.Need-add-if1
 add-if1 c = search needs
@@ -62,8 +62,8 @@ shared-slice-read-result-2 c = search needs
 returns-3 : tie.Need-returns-3
 returns-3 c = told-tie _ _ _ _ (c .before .before .before .before .before .if1 .left) (c .before .before .if2 .left)
 
-pub beats-spec : {M : Type 1} → statement M
-beats-spec =
+pub counts-more-spec : {M : Type 1} → statement M
+counts-more-spec =
     tie.close
     (tie.spec
     add-if1

@@ -1,11 +1,11 @@
--- `scan_views::lower` meets its contract, arm by arm.
+-- `scan_views::below_threshold` meets its contract, arm by arm.
 -- Assumes nothing.
 use mathlib.Core.Path.{sym, ap}
 use borrow.Author.Needs.{needs}
 use Rattle.scan_views.specs.declared.Latest.{Latest}
 use Rattle.scan_views.specs.Down.{lowerIn}
-use Rattle.scan_views.proofs.lower.Statement.{statement}
-use Rattle.scan_views.proofs.lower.Tie as tie
+use Rattle.scan_views.proofs.below_threshold.Statement.{statement}
+use Rattle.scan_views.proofs.below_threshold.Tie as tie
 
 enum-told : tie.Need-enum-told
 enum-told c = search needs
@@ -21,5 +21,5 @@ returns-2 : tie.Need-returns-2
 unfolding lowerIn
 returns-2 c = sym (ap (λ (l : Latest). lowerIn l (c .before .before .before .args .left)) (c .before .latest .given .1))
 
-pub lower-spec : {M : Type 1} → statement M
-lower-spec = tie.close (tie.spec enum-told enum-known-latest returns returns-2)
+pub below-threshold-spec : {M : Type 1} → statement M
+below-threshold-spec = tie.close (tie.spec enum-told enum-known-latest returns returns-2)
