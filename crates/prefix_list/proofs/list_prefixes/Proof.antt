@@ -98,14 +98,14 @@ add-j c =
     let l = head d .loop .inv in
     omega (arith, ended d .table-end .ensures, l .few, l .within, start d .pre)
 
-cast-table : tie.Need-cast-table Inv-loop μ-loop
-cast-table c = omega (arith, head (inside (c .before .before .before .before .before .before)) .loop .inv .high, start (inside (c .before .before .before .before .before .before)) .pre .1 .0)
+cast-words : tie.Need-cast-words Inv-loop μ-loop
+cast-words c = omega (arith, head (inside (c .before .before .before .before .before .before)) .loop .inv .high, start (inside (c .before .before .before .before .before .before)) .pre .1 .0)
 
-mul-table : tie.Need-mul-table Inv-loop μ-loop
-mul-table c = search needs
+mul-words : tie.Need-mul-words Inv-loop μ-loop
+mul-words c = search needs
 
-slice-write-table : tie.Need-slice-write-table Inv-loop μ-loop
-slice-write-table c =
+slice-write-words : tie.Need-slice-write-words Inv-loop μ-loop
+slice-write-words c =
     let d = inside (c .before .before .before .before .before .before) in
     let l = head d .loop .inv in
     omega (arith, ended d .table-end .ensures, l .few, l .within, l .table-long, start d .pre .0 .3, start d .pre .0 .4, start d .pre .1 .2)
@@ -168,9 +168,9 @@ list-prefixes-spec =
     add-i
     put-prefix-requires
     add-j
-    cast-table
-    mul-table
-    slice-write-table
+    cast-words
+    mul-words
+    slice-write-words
     add-k
     add-w
     add-w-2
