@@ -3,6 +3,7 @@
 pub mod areas;
 pub mod fields;
 pub mod hex;
+pub mod limits;
 pub mod numbers;
 pub mod views;
 pub mod words;

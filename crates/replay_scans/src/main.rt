@@ -15,6 +15,7 @@ use questions::areas::text_area;
 use questions::areas::word_area;
 use questions::fields::number_at;
 use questions::fields::text_at;
+use questions::limits::limit_of;
 use questions::numbers::bits_of;
 use questions::words::mark_at;
 use questions::words::word;
@@ -39,14 +40,6 @@ fn book_area() -> [u8; 65536] {
 
 fn results_area() -> [u32; 8196] {
     [0; 8196]
-}
-
-// The float of these bits. What lies above infinity is no limit: 2.0 stands for it, which the scan refuses.
-fn limit_of(bits: u32) -> f32 {
-    if 2139095040 < bits {
-        return 2.0;
-    }
-    f32::from_bits(bits)
 }
 
 fn bits_at(line: &[u8], k: usize) -> u32 {

@@ -1,4 +1,4 @@
--- `limit_of`: a pattern up to infinity's is no NaN's.
+-- `questions::limits::limit_of`: a pattern up to infinity's is no NaN's.
 -- Assumes nothing.
 use mathlib.Core.Path.{_≡_, _∙_}
 use mathlib.Core.Bool.{false, not}
@@ -9,8 +9,8 @@ use lib.Ieee.{binary32, nanBits, ones, hid, top}
 use lib.Ieee.Bits.{nanBits-above}
 use borrow.Author.Tests.{le-ltb}
 use borrow.Author.Needs.{needs}
-use Rattle.replay_scans.proofs.limit_of.Statement.{statement}
-use Rattle.replay_scans.proofs.limit_of.Tie as tie
+use Rattle.questions.proofs.limits.limit_of.Statement.{statement}
+use Rattle.questions.proofs.limits.limit_of.Tie as tie
 
 no-nan : (n : ℕ) → n ≤ 2139095040 → T (not (nanBits binary32 n))
 no-nan n h =
