@@ -4,16 +4,16 @@ ghost use mathlib.Core.Path.{_≡_};
 ghost use mathlib.Core.List.{[], _∷_};
 ghost use Rattle.rules.specs.Search.{view};
 ghost use Rattle.rules.specs.declared.Mode.the-variants.{Elimination, TopDown};
-ghost use Rattle.chultarvi.specs.Answers.{answerOf};
+ghost use Rattle.answers_c.specs.Answers.{answerOf};
 ghost use Rattle.rules.specs.Jobs.{ScoreDone, BoundsDone, ScanDone, check, CompileDone};
+use answers_c::NoteScanned;
+use answers_c::for_c;
 use bounds_job::bounds_both;
 use bounds_job::bounds_of;
 use compile::compile;
 use detection_check::check_book;
 use rules::Limits;
 use rules::Mode;
-use rules::NAME_MOST;
-use rules::Scanned;
 use rules::View;
 use scan_job::scan;
 use scan_job::scan_both;
@@ -117,41 +117,6 @@ pub extern "C" fn chultarvi_bounds(
         after: b.after,
         score: b.score,
         count: b.count,
-    }
-}
-
-// The answer of every scan: the name that won, zero-filled, and its length; its kind, 0 where none is named; and where the same bytes stand, in the
-// second book or the first, from `at` on.
-#[repr(C)]
-pub struct NoteScanned {
-    pub refusal: u32,
-    pub records: u32,
-    pub count: u64,
-    pub score: f32,
-    pub kind: u32,
-    pub len: u32,
-    pub name: [u8; NAME_MOST],
-    pub second: bool,
-    pub at: usize,
-}
-
-// The part is as long as the name, so one length says both.
-fn for_c(s: Scanned) -> NoteScanned
-    requires { ⌜ s .part .len ≡ s .len ⌝ }
-    ensures { λ r. ⌜ s ≡ answerOf r ⌝ }
-{
-    let name = s.name;
-    let part = s.part;
-    NoteScanned {
-        refusal: s.refusal,
-        records: s.records,
-        count: s.count,
-        score: s.score,
-        kind: s.kind,
-        len: s.len,
-        name,
-        second: part.second,
-        at: part.at,
     }
 }
 

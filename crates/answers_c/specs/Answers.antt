@@ -1,7 +1,7 @@
 -- The answer of a scan as C has it, read as the job's: the part is as long as the name.
 -- Assumes nothing.
 use Rattle.rules.specs.declared.Scanned.{Scanned}
-use Rattle.chultarvi.specs.declared.NoteScanned.{NoteScanned}
+use Rattle.answers_c.specs.declared.NoteScanned.{NoteScanned}
 
 abbrev pub answerOf : NoteScanned → Scanned
 answerOf r = record {

@@ -1,7 +1,7 @@
--- `chultarvi::for_c` meets its contract, field by field; the part's length is the name's.
+-- `answers_c::for_c` meets its contract, field by field; the part's length is the name's.
 -- Assumes nothing.
-use Rattle.chultarvi.proofs.for_c.Statement.{statement}
-use Rattle.chultarvi.proofs.for_c.Tie as tie
+use Rattle.answers_c.proofs.for_c.Statement.{statement}
+use Rattle.answers_c.proofs.for_c.Tie as tie
 
 returns : tie.Need-returns
 returns c =
