@@ -17,8 +17,8 @@ callers() {
 }
 callers ngram_meet scoring 'license_charge'
 callers license_charge charge 'detect'
-callers license_charge charge_exact 'license_bounds replay_tables score_job'
-callers license_charge scorings_of 'bounds_job replay_tables scan_job score_job'
+callers license_charge charge_exact 'license_bounds replay_scores score_work'
+callers license_charge scorings_of 'bounds_work replay_scores scan_job score_work'
 # and none takes them in under another name
 for crate in ngram_meet license_charge; do
     if grep -rnE "use $crate( as |::\*|;)" crates --include='*.rt'; then

@@ -1,11 +1,11 @@
 #!/usr/bin/env python3
 """Records answers of the original: makes lists of questions, asks the oracle, and writes both down.
 
-    oracle/replay.py [--seed N] CRATE..
+    oracle/replay.py [--seed N]
 
-CRATE is `replay_lines`, `replay_views`, `replay_tables` or `replay_scans`, a program that answers such questions with the proved functions.
-crates/CRATE/stdin gets the questions and crates/CRATE/stdout the oracle's answers as they are; `rt check CRATE` runs the program on the one
-and compares what it writes with the other. The seed (default 1) fixes the lists.
+There are four lists, `replay_lines`, `replay_views`, `replay_tables` and `replay_scans`, one behind the other. crates/replay/stdin gets the
+questions and crates/replay/stdout the oracle's answers as they are; `rt check replay` runs the program, which answers such questions with the
+proved functions, on the one and compares what it writes with the other. The seed (default 1) fixes the lists.
 
 Every text is ASCII and has at most 2,048 bytes. They come from four sources, in this order:
 
@@ -303,24 +303,27 @@ def replay_scans(out, rng):
         budgets(out, "eliminate", f"{rng.choice([HALF, met]):08x} {ONE:08x} 1 3", t, stored)
 
 
-LISTS = {f.__name__: f for f in (replay_lines, replay_views, replay_tables, replay_scans)}
+LISTS = (replay_lines, replay_views, replay_tables, replay_scans)
+
+
+def recorded(make, seed):
+    """One list, asked of a store that is empty."""
+    out = List(Oracle())
+    make(out, random.Random(f"{seed} {make.__name__}"))
+    sizes = [sum(len(row) + 1 for row in rows) for rows in (out.questions, out.answers)]
+    print(f"{make.__name__}: {len(out.answers)} questions, {sizes[0]} and {sizes[1]} bytes")
+    return out
 
 
 def main():
     options = argparse.ArgumentParser(description="Records answers of the original.")
     options.add_argument("--seed", default="1", help="another seed gives other lists (default 1)")
-    options.add_argument("crates", nargs="+", choices=LISTS, metavar="CRATE", help=" ".join(LISTS))
     options = options.parse_args()
-    for crate in options.crates:
-        out = List(Oracle())
-        LISTS[crate](out, random.Random(f"{options.seed} {crate}"))
-        folder = os.path.join(compare.REPOSITORY, "crates", crate)
-        os.makedirs(folder, exist_ok=True)
-        for name, rows in (("stdin", out.questions), ("stdout", out.answers)):
-            with open(os.path.join(folder, name), "w", encoding="ascii") as file:
-                file.writelines(f"{row}\n" for row in rows)
-        sizes = [sum(len(row) + 1 for row in rows) for rows in (out.questions, out.answers)]
-        print(f"{crate}: {len(out.answers)} questions, {sizes[0]} and {sizes[1]} bytes")
+    lists = [recorded(make, options.seed) for make in LISTS]
+    folder = os.path.join(compare.REPOSITORY, "crates", "replay")
+    for name, rows in (("stdin", [out.questions for out in lists]), ("stdout", [out.answers for out in lists])):
+        with open(os.path.join(folder, name), "w", encoding="ascii") as file:
+            file.writelines(f"{row}\n" for one in rows for row in one)
     return 0
 
 

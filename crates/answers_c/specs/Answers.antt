@@ -1,10 +1,30 @@
--- The answer of a scan as C has it, read as the job's: the part is as long as the name.
+-- The answers as C has them, read as the jobs'; a scan's part is as long as the name.
 -- Assumes nothing.
+use Rattle.rules.specs.declared.Checked.{Checked}
+use Rattle.rules.specs.declared.Compiled.{Compiled}
+use Rattle.rules.specs.declared.Scored.{Scored}
+use Rattle.rules.specs.declared.Bounded.{Bounded}
 use Rattle.rules.specs.declared.Scanned.{Scanned}
+use Rattle.answers_c.specs.declared.BookChecked.{BookChecked}
+use Rattle.answers_c.specs.declared.TextCompiled.{TextCompiled}
+use Rattle.answers_c.specs.declared.ViewScored.{ViewScored}
+use Rattle.answers_c.specs.declared.BoundsFound.{BoundsFound}
 use Rattle.answers_c.specs.declared.NoteScanned.{NoteScanned}
 
-abbrev pub answerOf : NoteScanned → Scanned
-answerOf r = record {
+abbrev pub checkedOf : BookChecked → Checked
+checkedOf r = record { refusal = r .refusal; texts = r .texts }
+
+abbrev pub compiledOf : TextCompiled → Compiled
+compiledOf r = record { refusal = r .refusal; len = r .len }
+
+abbrev pub scoredOf : ViewScored → Scored
+scoredOf r = record { refusal = r .refusal; score = r .score }
+
+abbrev pub boundedOf : BoundsFound → Bounded
+boundedOf r = record { refusal = r .refusal; first = r .first; after = r .after; score = r .score; count = r .count }
+
+abbrev pub scannedOf : NoteScanned → Scanned
+scannedOf r = record {
   refusal = r .refusal;
   name = r .name;
   len = r .len;

@@ -1,8 +1,80 @@
-// The answer of a scan as C has it: one length for the name and its part. Assumes nothing.
+// The answers of the jobs as C has them: structs of plain numbers, and of a scan one length for the name and its part. Assumes nothing.
 ghost use mathlib.Core.Path.{_≡_};
-ghost use Rattle.answers_c.specs.Answers.{answerOf};
+ghost use Rattle.answers_c.specs.Answers.{checkedOf, compiledOf, scoredOf, boundedOf, scannedOf};
+use rules::Bounded;
+use rules::Checked;
+use rules::Compiled;
 use rules::NAME_MOST;
 use rules::Scanned;
+use rules::Scored;
+
+// The number of the refusal, 0 for none; and N.
+#[repr(C)]
+pub struct BookChecked {
+    pub refusal: u32,
+    pub texts: u32,
+}
+
+pub fn checked_for_c(checked: Checked) -> BookChecked
+    ensures { λ r. ⌜ checked ≡ checkedOf r ⌝ }
+{
+    BookChecked {
+        refusal: checked.refusal,
+        texts: checked.texts,
+    }
+}
+
+// The refusal, and the length of the table body that stands at the front of the output.
+#[repr(C)]
+pub struct TextCompiled {
+    pub refusal: u32,
+    pub len: usize,
+}
+
+pub fn compiled_for_c(compiled: Compiled) -> TextCompiled
+    ensures { λ r. ⌜ compiled ≡ compiledOf r ⌝ }
+{
+    TextCompiled {
+        refusal: compiled.refusal,
+        len: compiled.len,
+    }
+}
+
+#[repr(C)]
+pub struct ViewScored {
+    pub refusal: u32,
+    pub score: f32,
+}
+
+pub fn scored_for_c(scored: Scored) -> ViewScored
+    ensures { λ r. ⌜ scored ≡ scoredOf r ⌝ }
+{
+    ViewScored {
+        refusal: scored.refusal,
+        score: scored.score,
+    }
+}
+
+#[repr(C)]
+pub struct BoundsFound {
+    pub refusal: u32,
+    pub first: u32,
+    pub after: u32,
+    pub score: f32,
+    pub count: u64,
+}
+
+pub fn bounded_for_c(bounded: Bounded) -> BoundsFound
+    ensures { λ r. ⌜ bounded ≡ boundedOf r ⌝ }
+{
+    BoundsFound {
+        refusal: bounded.refusal,
+        first: bounded.first,
+        after: bounded.after,
+        score: bounded.score,
+        count: bounded.count,
+    }
+}
 
 // The answer of every scan: the name that won, zero-filled, and its length; its kind, 0 where none is named; and where the same bytes stand, in the
 // second book or the first, from `at` on.
@@ -20,9 +92,9 @@ pub struct NoteScanned {
 }
 
 // The part is as long as the name, so one length says both.
-pub fn for_c(s: Scanned) -> NoteScanned
+pub fn scanned_for_c(s: Scanned) -> NoteScanned
     requires { ⌜ s .part .len ≡ s .len ⌝ }
-    ensures { λ r. ⌜ s ≡ answerOf r ⌝ }
+    ensures { λ r. ⌜ s ≡ scannedOf r ⌝ }
 {
     let name = s.name;
     let part = s.part;

@@ -15,7 +15,7 @@ use Rattle.rules.specs.Book.{written, compiled}
 use Rattle.rules.specs.Refusal.{Areas}
 use Rattle.rules.specs.Jobs.{scan, resultsAfter}
 use Rattle.rules.proofs.Opened.{opened}
-use Rattle.questions.specs.Hex.{hexGlyph, pairs}
+use Rattle.questions.specs.Hex.{hexGlyph, hexPairs}
 use Rattle.questions.specs.Numbers.{digits, decimal, fourBytes}
 
 -- the marked book
@@ -33,7 +33,7 @@ recordsOf : ℕ → List ℕ → List ℕ
 recordsOf zero r = []
 recordsOf (suc n) r =
     text " ; " ++ decimal (getD r 0 0) ++ text " " ++ decimal (getD r 1 0) ++ text " " ++ decimal (getD r 2 0) ++ text " " ++
-    pairs (fourBytes (getD r 3 0)) ++ recordsOf n (drop 4 r)
+    hexPairs (fourBytes (getD r 3 0)) ++ recordsOf n (drop 4 r)
 
 line : List ℕ → Limits → Mode → ℕ → List ℕ
 line t lim mode budget =
@@ -53,5 +53,5 @@ pub lines-hold :
     second 0 ++ second 1 ++ second 8 ++ second 9 ++ second 19 ++ second 20 ++ second 18446744073709551615 ++
     copies 1 18446744073709551615 ++ copies 1 19 ++ copies 18446744073709551615 18446744073709551615 ≡
     text "12 0 0\n12 1 0\n12 8 0\n12 9 1 ; 0 1 2 3f800000\n12 19 1 ; 0 1 2 3f800000\n0 20 1 ; 0 1 2 3f800000\n0 20 1 ; 0 1 2 3f800000\n0 20 3 ; 0 0 1 3f800000 ; 0 2 3 3f800000 ; 0 4 5 3f800000\n12 19 2 ; 0 0 1 3f800000 ; 0 2 3 3f800000\n0 1 0\n"
-unfolding second copies line recordsOf limits areas book digits decimal fourBytes pairs hexGlyph opened
+unfolding second copies line recordsOf limits areas book digits decimal fourBytes hexPairs hexGlyph opened
 lines-hold = refl

@@ -4,10 +4,18 @@ ghost use mathlib.Core.Path.{_≡_};
 ghost use mathlib.Core.List.{[], _∷_};
 ghost use Rattle.rules.specs.Search.{view};
 ghost use Rattle.rules.specs.declared.Mode.the-variants.{Elimination, TopDown};
-ghost use Rattle.answers_c.specs.Answers.{answerOf};
+ghost use Rattle.answers_c.specs.Answers.{compiledOf, scoredOf, boundedOf, scannedOf};
 ghost use Rattle.rules.specs.Jobs.{ScoreDone, BoundsDone, ScanDone, check, CompileDone};
+use answers_c::BookChecked;
+use answers_c::BoundsFound;
 use answers_c::NoteScanned;
-use answers_c::for_c;
+use answers_c::TextCompiled;
+use answers_c::ViewScored;
+use answers_c::bounded_for_c;
+use answers_c::checked_for_c;
+use answers_c::compiled_for_c;
+use answers_c::scanned_for_c;
+use answers_c::scored_for_c;
 use bounds_job::bounds_both;
 use bounds_job::bounds_of;
 use compile::compile;
@@ -20,29 +28,12 @@ use scan_job::scan_both;
 use score_job::score_both;
 use score_job::score_view;
 
-// The number of the refusal, 0 for none; and N.
-#[repr(C)]
-pub struct BookChecked {
-    pub refusal: u32,
-    pub texts: u32,
-}
-
 #[no_mangle]
 pub extern "C" fn chultarvi_check_book(book: &[u8]) -> BookChecked
     ensures { λ r. ⌜ (r .refusal ≡ check (now (book .entry)) .refusal) × (r .texts ≡ check (now (book .entry)) .texts) ⌝ }
 {
-    let c = check_book(book);
-    BookChecked {
-        refusal: c.refusal,
-        texts: c.texts,
-    }
-}
-
-// The refusal, and the length of the table body that stands at the front of the output.
-#[repr(C)]
-pub struct TextCompiled {
-    pub refusal: u32,
-    pub len: usize,
+    let checked = check_book(book);
+    checked_for_c(checked)
 }
 
 #[no_mangle]
@@ -52,19 +43,10 @@ pub extern "C" fn chultarvi_compile(
     words: &mut [u32],
     out: &mut [u8],
 ) -> TextCompiled
-    ensures { λ r. ⌜ CompileDone (now (text .entry)) (now (area .entry)) (now (area .exit)) (now (words .entry)) (now (words .exit)) (now (out .entry)) (now (out .exit)) (record { refusal = r .refusal; len = r .len }) ⌝ }
+    ensures { λ r. ⌜ CompileDone (now (text .entry)) (now (area .entry)) (now (area .exit)) (now (words .entry)) (now (words .exit)) (now (out .entry)) (now (out .exit)) (compiledOf r) ⌝ }
 {
-    let t = compile(text, area, words, out);
-    TextCompiled {
-        refusal: t.refusal,
-        len: t.len,
-    }
-}
-
-#[repr(C)]
-pub struct ViewScored {
-    pub refusal: u32,
-    pub score: f32,
+    let compiled = compile(text, area, words, out);
+    compiled_for_c(compiled)
 }
 
 // The view [start, end) of the text's lines against the stored text `number`.
@@ -78,23 +60,11 @@ pub extern "C" fn chultarvi_score(
     area: &mut [u8],
     words: &mut [u32],
 ) -> ViewScored
-    ensures { λ r. ⌜ ScoreDone (now (text .entry)) (now (book .entry) ∷ []) (view start end) number (now (area .entry)) (now (area .exit)) (now (words .entry)) (now (words .exit)) (record { refusal = r .refusal; score = r .score }) ⌝ }
+    ensures { λ r. ⌜ ScoreDone (now (text .entry)) (now (book .entry) ∷ []) (view start end) number (now (area .entry)) (now (area .exit)) (now (words .entry)) (now (words .exit)) (scoredOf r) ⌝ }
 {
     let v = View { start, end };
-    let s = score_view(text, book, v, number, area, words);
-    ViewScored {
-        refusal: s.refusal,
-        score: s.score,
-    }
-}
-
-#[repr(C)]
-pub struct BoundsFound {
-    pub refusal: u32,
-    pub first: u32,
-    pub after: u32,
-    pub score: f32,
-    pub count: u64,
+    let scored = score_view(text, book, v, number, area, words);
+    scored_for_c(scored)
 }
 
 #[no_mangle]
@@ -107,17 +77,11 @@ pub extern "C" fn chultarvi_bounds(
     area: &mut [u8],
     words: &mut [u32],
 ) -> BoundsFound
-    ensures { λ r. ⌜ BoundsDone (now (text .entry)) (now (book .entry) ∷ []) (view start end) number (now (area .entry)) (now (area .exit)) (now (words .entry)) (now (words .exit)) (record { refusal = r .refusal; first = r .first; after = r .after; score = r .score; count = r .count }) ⌝ }
+    ensures { λ r. ⌜ BoundsDone (now (text .entry)) (now (book .entry) ∷ []) (view start end) number (now (area .entry)) (now (area .exit)) (now (words .entry)) (now (words .exit)) (boundedOf r) ⌝ }
 {
     let v = View { start, end };
-    let b = bounds_of(text, book, v, number, area, words);
-    BoundsFound {
-        refusal: b.refusal,
-        first: b.first,
-        after: b.after,
-        score: b.score,
-        count: b.count,
-    }
+    let bounded = bounds_of(text, book, v, number, area, words);
+    bounded_for_c(bounded)
 }
 
 #[no_mangle]
@@ -133,12 +97,12 @@ pub extern "C" fn chultarvi_eliminate(
     words: &mut [u32],
     results: &mut [u32],
 ) -> NoteScanned
-    ensures { λ r. ⌜ ScanDone (now (text .entry)) (now (book .entry) ∷ []) (record { threshold = threshold; shallow = shallow }) (Elimination optimize passes) budget (now (area .entry)) (now (area .exit)) (now (words .entry)) (now (words .exit)) (now (results .entry)) (now (results .exit)) (answerOf r) ⌝ }
+    ensures { λ r. ⌜ ScanDone (now (text .entry)) (now (book .entry) ∷ []) (record { threshold = threshold; shallow = shallow }) (Elimination optimize passes) budget (now (area .entry)) (now (area .exit)) (now (words .entry)) (now (words .exit)) (now (results .entry)) (now (results .exit)) (scannedOf r) ⌝ }
 {
     let limits = Limits { threshold, shallow };
     let mode = Mode::Elimination(optimize, passes);
     let s = scan(text, book, limits, mode, budget, area, words, results);
-    for_c(s)
+    scanned_for_c(s)
 }
 
 #[no_mangle]
@@ -153,12 +117,12 @@ pub extern "C" fn chultarvi_top_down(
     words: &mut [u32],
     results: &mut [u32],
 ) -> NoteScanned
-    ensures { λ r. ⌜ ScanDone (now (text .entry)) (now (book .entry) ∷ []) (record { threshold = threshold; shallow = shallow }) (TopDown step) budget (now (area .entry)) (now (area .exit)) (now (words .entry)) (now (words .exit)) (now (results .entry)) (now (results .exit)) (answerOf r) ⌝ }
+    ensures { λ r. ⌜ ScanDone (now (text .entry)) (now (book .entry) ∷ []) (record { threshold = threshold; shallow = shallow }) (TopDown step) budget (now (area .entry)) (now (area .exit)) (now (words .entry)) (now (words .exit)) (now (results .entry)) (now (results .exit)) (scannedOf r) ⌝ }
 {
     let limits = Limits { threshold, shallow };
     let mode = Mode::TopDown(step);
     let s = scan(text, book, limits, mode, budget, area, words, results);
-    for_c(s)
+    scanned_for_c(s)
 }
 
 // The same four over two books, whose texts count on from the first into the second.
@@ -173,14 +137,11 @@ pub extern "C" fn chultarvi_score_both<'a>(
     area: &mut [u8],
     words: &mut [u32],
 ) -> ViewScored
-    ensures { λ r. ⌜ ScoreDone (now (text .entry)) (now (book .entry) ∷ now (second .entry) ∷ []) (view start end) number (now (area .entry)) (now (area .exit)) (now (words .entry)) (now (words .exit)) (record { refusal = r .refusal; score = r .score }) ⌝ }
+    ensures { λ r. ⌜ ScoreDone (now (text .entry)) (now (book .entry) ∷ now (second .entry) ∷ []) (view start end) number (now (area .entry)) (now (area .exit)) (now (words .entry)) (now (words .exit)) (scoredOf r) ⌝ }
 {
     let v = View { start, end };
-    let s = score_both(text, book, second, v, number, area, words);
-    ViewScored {
-        refusal: s.refusal,
-        score: s.score,
-    }
+    let scored = score_both(text, book, second, v, number, area, words);
+    scored_for_c(scored)
 }
 
 #[no_mangle]
@@ -194,17 +155,11 @@ pub extern "C" fn chultarvi_bounds_both<'a>(
     area: &mut [u8],
     words: &mut [u32],
 ) -> BoundsFound
-    ensures { λ r. ⌜ BoundsDone (now (text .entry)) (now (book .entry) ∷ now (second .entry) ∷ []) (view start end) number (now (area .entry)) (now (area .exit)) (now (words .entry)) (now (words .exit)) (record { refusal = r .refusal; first = r .first; after = r .after; score = r .score; count = r .count }) ⌝ }
+    ensures { λ r. ⌜ BoundsDone (now (text .entry)) (now (book .entry) ∷ now (second .entry) ∷ []) (view start end) number (now (area .entry)) (now (area .exit)) (now (words .entry)) (now (words .exit)) (boundedOf r) ⌝ }
 {
     let v = View { start, end };
-    let b = bounds_both(text, book, second, v, number, area, words);
-    BoundsFound {
-        refusal: b.refusal,
-        first: b.first,
-        after: b.after,
-        score: b.score,
-        count: b.count,
-    }
+    let bounded = bounds_both(text, book, second, v, number, area, words);
+    bounded_for_c(bounded)
 }
 
 #[no_mangle]
@@ -221,7 +176,7 @@ pub extern "C" fn chultarvi_eliminate_both<'a>(
     words: &mut [u32],
     results: &mut [u32],
 ) -> NoteScanned
-    ensures { λ r. ⌜ ScanDone (now (text .entry)) (now (book .entry) ∷ now (second .entry) ∷ []) (record { threshold = threshold; shallow = shallow }) (Elimination optimize passes) budget (now (area .entry)) (now (area .exit)) (now (words .entry)) (now (words .exit)) (now (results .entry)) (now (results .exit)) (answerOf r) ⌝ }
+    ensures { λ r. ⌜ ScanDone (now (text .entry)) (now (book .entry) ∷ now (second .entry) ∷ []) (record { threshold = threshold; shallow = shallow }) (Elimination optimize passes) budget (now (area .entry)) (now (area .exit)) (now (words .entry)) (now (words .exit)) (now (results .entry)) (now (results .exit)) (scannedOf r) ⌝ }
 {
     let limits = Limits { threshold, shallow };
     let mode = Mode::Elimination(optimize, passes);
@@ -236,7 +191,7 @@ pub extern "C" fn chultarvi_eliminate_both<'a>(
         words,
         results,
     );
-    for_c(s)
+    scanned_for_c(s)
 }
 
 #[no_mangle]
@@ -252,7 +207,7 @@ pub extern "C" fn chultarvi_top_down_both<'a>(
     words: &mut [u32],
     results: &mut [u32],
 ) -> NoteScanned
-    ensures { λ r. ⌜ ScanDone (now (text .entry)) (now (book .entry) ∷ now (second .entry) ∷ []) (record { threshold = threshold; shallow = shallow }) (TopDown step) budget (now (area .entry)) (now (area .exit)) (now (words .entry)) (now (words .exit)) (now (results .entry)) (now (results .exit)) (answerOf r) ⌝ }
+    ensures { λ r. ⌜ ScanDone (now (text .entry)) (now (book .entry) ∷ now (second .entry) ∷ []) (record { threshold = threshold; shallow = shallow }) (TopDown step) budget (now (area .entry)) (now (area .exit)) (now (words .entry)) (now (words .exit)) (now (results .entry)) (now (results .exit)) (scannedOf r) ⌝ }
 {
     let limits = Limits { threshold, shallow };
     let mode = Mode::TopDown(step);
@@ -267,5 +222,5 @@ pub extern "C" fn chultarvi_top_down_both<'a>(
         words,
         results,
     );
-    for_c(s)
+    scanned_for_c(s)
 }

@@ -14,7 +14,7 @@ fn book_area() -> [u8; 14357] {
 }
 
 // An empty table of this kind, into zeroes: its length is 8.
-fn put_text(book: &mut [u8], at: usize, kind: u8)
+fn put_empty(book: &mut [u8], at: usize, kind: u8)
     requires { ⌜ at + 14 ≤ length (now book) ⌝ }
 {
     book[at] = 8;
@@ -39,10 +39,10 @@ fn texts_of_one_licence(texts: usize)
     book[0] = 1;
     book[4] = 1;
     book[6] = b'A';
-    put_text(&mut book, 7, 2);
+    put_empty(&mut book, 7, 2);
     let mut i = 1;
     while i < texts {
-        put_text(&mut book, 7 + 14 * i, 3);
+        put_empty(&mut book, 7 + 14 * i, 3);
         i += 1;
     }
     let n = 7 + 14 * texts;

@@ -45,10 +45,10 @@ use Rattle.detect.specs.Bests.{chosenIn, ChosenStands, Alike, same, Chos
 use Rattle.detect.proofs.AlikeLaws.{better-unit, alike-next, alike-lowest}
 
 -- ---- none yet
-abbrev pub noneYet : Best
-noneYet = record { text = record { second = false; number = 0; text = record { number = 0; kind = 0; name = 0; past = 0; body = 0; end = 0 } }; value = record { score = nought; m = 0; t = 0 } }
+abbrev pub noBestYet : Best
+noBestYet = record { text = record { second = false; number = 0; text = record { number = 0; kind = 0; name = 0; past = 0; body = 0; end = 0 } }; value = record { score = nought; m = 0; t = 0 } }
 
-pub none-is : (books : Shelf) → bestIn books noneYet ≡ noBest
+pub none-is : (books : Shelf) → bestIn books noBestYet ≡ noBest
 unfolding bestIn textIn noBest noText tableIn entriesOf pieces recurse turns goOn front number
 none-is books = refl
 
@@ -70,7 +70,7 @@ none-fair : T (unit (noBest .value .score))
 unfolding noBest unit le
 none-fair = tt
 
-pub walk-first : (books : Shelf) (table : Table) (floor : Float) (budget : ℕ) (best : Best) (spot : Spot) (c : Counts) → CountsOf books c → best ≡ noneYet →
+pub walk-first : (books : Shelf) (table : Table) (floor : Float) (budget : ℕ) (best : Best) (spot : Spot) (c : Counts) → CountsOf books c → best ≡ noBestYet →
     spot ≡ firstSpot → Walking books table floor budget best budget spot
 walk-first books table floor budget best spot c s b p =
     rw (b, p) (record {

@@ -3,7 +3,7 @@
 --     rest-next                  an entry that is sound
 --     rest-bad, rest-over        one that is not, and one that exceeds the largest total
 --     rest-end                   with none to come
--- A run over the entries at `at`, after the entry body[last..at] (`Run`), has the same laws: run-start, run-next, run-bad, run-over, run-end,
+-- A run over the entries at `at`, after the entry body[last..at] (`EntryRun`), has the same laws: run-start, run-next, run-bad, run-over, run-end,
 -- run-broken.
 -- Assumes nothing.
 use mathlib.Core.Path.{_≡_, refl, sym, ap, _∙_}
@@ -21,7 +21,7 @@ use Rattle.rules.specs.Bytes.{rises, split}
 use Rattle.rules.specs.Prefix.{Counted}
 use Rattle.rules.specs.Book.{number, also, sum, twoTerms, soundEntries, soundTable, entriesOf}
 use Rattle.rules.proofs.BoolLaws.{and-left}
-use Rattle.records.proofs.StepLaws.{entriesFrom, EntryHere}
+use Rattle.records.proofs.StepLaws.{entriesBehind, EntryHere}
 use Rattle.detection_bodies.proofs.ByteLaws.{and-false}
 
 unfoldable pub tableRest : List ℕ → List ℕ → ℕ → ℕ → Option (List Counted) → Bool
@@ -77,15 +77,15 @@ rest-end body last s n h =
 abbrev pub part : List ℕ → ℕ → ℕ → List ℕ
 part body from to = take (to - from) (drop from body)
 
-pub record Run (body : List ℕ) (at last s n : ℕ) : Type 0 where
+pub record EntryRun (body : List ℕ) (at last s n : ℕ) : Type 0 where
   pub headed : 8 ≤ length body
   pub within : at ≤ length body
   pub behind : last ≤ at
   pub most : s ≤ totalMost
   pub count : n ≤ s
-  pub rest : tableRest body (part body last at) s n (entriesFrom body at) ≡ soundTable body (entriesOf body)
+  pub rest : tableRest body (part body last at) s n (entriesBehind body at) ≡ soundTable body (entriesOf body)
 
-pub run-start : (body : List ℕ) → 8 ≤ length body → Run body 8 8 0 0
+pub run-start : (body : List ℕ) → 8 ≤ length body → EntryRun body 8 8 0 0
 unfolding entriesOf
 run-start body h =
     record {
@@ -94,38 +94,38 @@ run-start body h =
       behind = omega arith;
       most = omega arith;
       count = omega arith;
-      rest = sym (rest-start body (entriesFrom body 8) h);
+      rest = sym (rest-start body (entriesBehind body 8) h);
     }
 
 -- the entry that stands at body[start..start + len]
 abbrev pub entryIn : List ℕ → ℕ → ℕ → ℕ → Counted
 entryIn body count start len = record { bytes = part body start (start + len); count = count }
 
-module _ {body : List ℕ} {at last s n : ℕ} (r : Run body at last s n) where
-  pub run-end : entriesFrom body at ≡ some [] → soundTable body (entriesOf body) ≡ (eqb (number 4 body) s && eqb (number 4 (drop 4 body)) n)
+module _ {body : List ℕ} {at last s n : ℕ} (r : EntryRun body at last s n) where
+  pub run-end : entriesBehind body at ≡ some [] → soundTable body (entriesOf body) ≡ (eqb (number 4 body) s && eqb (number 4 (drop 4 body)) n)
   run-end e = sym (r .rest) ∙ ap (tableRest body (part body last at) s n) e ∙ rest-end body (part body last at) s n (r .most)
 
-  pub run-broken : entriesFrom body at ≡ none → soundTable body (entriesOf body) ≡ false
+  pub run-broken : entriesBehind body at ≡ none → soundTable body (entriesOf body) ≡ false
   unfolding tableRest
   run-broken e = sym (r .rest) ∙ ap (tableRest body (part body last at) s n) e
 
   module _ (c start len : ℕ) (h : EntryHere body at c start len) where
-    is : entriesFrom body at ≡ also (entryIn body c start len) (entriesFrom body (start + len))
+    is : entriesBehind body at ≡ also (entryIn body c start len) (entriesBehind body (start + len))
     is =
         let k : len ≡ start + len - start = omega arith in
-        h .is ∙ ap (λ (m : ℕ). also (record { bytes = take m (drop start body); count = c }) (entriesFrom body (start + len))) k
+        h .is ∙ ap (λ (m : ℕ). also (record { bytes = take m (drop start body); count = c }) (entriesBehind body (start + len))) k
 
     pub run-bad : entrySound (part body last at) (entryIn body c start len) ≡ false → soundTable body (entriesOf body) ≡ false
     run-bad e =
         sym (r .rest) ∙ ap (tableRest body (part body last at) s n) is ∙
-        rest-bad body (part body last at) s n (entryIn body c start len) (entriesFrom body (start + len)) e
+        rest-bad body (part body last at) s n (entryIn body c start len) (entriesBehind body (start + len)) e
 
     pub run-over : totalMost < s + c → soundTable body (entriesOf body) ≡ false
     run-over l =
         sym (r .rest) ∙ ap (tableRest body (part body last at) s n) is ∙
-        rest-over body (part body last at) s n (entryIn body c start len) (entriesFrom body (start + len)) l
+        rest-over body (part body last at) s n (entryIn body c start len) (entriesBehind body (start + len)) l
 
-    pub run-next : entrySound (part body last at) (entryIn body c start len) ≡ true → s + c ≤ totalMost → Run body (start + len) start (s + c) (n + 1)
+    pub run-next : entrySound (part body last at) (entryIn body c start len) ≡ true → s + c ≤ totalMost → EntryRun body (start + len) start (s + c) (n + 1)
     run-next e l =
         let two = twoTerms (split 32 (part body start (start + len))) in
         let pos : 0 < c = ltb-true 0 c (and-left (ltb 0 c) two (and-left (ltb 0 c && two) (rises (part body last at) (part body start (start + len))) e)) in
@@ -135,6 +135,6 @@ module _ {body : List ℕ} {at last s n : ℕ} (r : Run body at last s n) where
           behind = omega arith;
           most = l;
           count = omega (arith, r .count);
-          rest = sym (rest-next body (part body last at) s n (entryIn body c start len) (entriesFrom body (start + len)) e) ∙
+          rest = sym (rest-next body (part body last at) s n (entryIn body c start len) (entriesBehind body (start + len)) e) ∙
               sym (ap (tableRest body (part body last at) s n) is) ∙ r .rest;
         }

@@ -14,7 +14,7 @@ use records::pieces::EntryAt;
 use records::pieces::entry_at;
 use rules::NAME_MOST;
 use rules::TOTAL_MOST;
-use slices::two::above;
+use slices_order::above;
 
 pub fn within(lo: u16, hi: u16, x: u16) -> bool
     ensures { λ r. ⌜ r ≡ withinB lo hi x ⌝ }

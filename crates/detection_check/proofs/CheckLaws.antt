@@ -119,16 +119,16 @@ module _ (book : List ℕ) (w : Walk) (kind start len : ℕ) where
   abbrev this : Record
   this = record { kind = kind; body = take len (drop start book) }
 
-  abbrev pub lent : Record
-  lent = record { kind = kind; body = take (start + len - start) (drop start book) }
+  abbrev pub lentRecord : Record
+  lentRecord = record { kind = kind; body = take (start + len - start) (drop start book) }
 
-  same : lent ≡ this
+  same : lentRecord ≡ this
   same = let k : start + len - start ≡ len = omega arith in rw k
 
   abbrev Stepping : Step → Type 0
   Stepping r = Stepped book w (verdictBefore book w this (start + len)) r
 
-  pub step-bad : (c : Checked) → c ≡ refused → recordSound (w .kind) (nameIn book w) lent ≡ false → Stepping (Done c)
+  pub step-bad : (c : Checked) → c ≡ refused → recordSound (w .kind) (nameIn book w) lentRecord ≡ false → Stepping (Done c)
   unfolding verdictOf verdictBefore
   step-bad c e h =
       record {
@@ -144,7 +144,7 @@ module _ (book : List ℕ) (w : Walk) (kind start len : ℕ) where
         on = ended c;
       }
 
-  module _ (n : ℕ) (q : n ≡ counted (storedKind kind) (w .texts)) (most : n ≤ storedMost) (h : recordSound (w .kind) (nameIn book w) lent ≡ true)
+  module _ (n : ℕ) (q : n ≡ counted (storedKind kind) (w .texts)) (most : n ≤ storedMost) (h : recordSound (w .kind) (nameIn book w) lentRecord ≡ true)
       (within : Within book w) (later : w .at < start + len) (fits : start + len ≤ length book) where
     moved : verdictBefore book w this (start + len) ≡
         bookVerdict kind (cond (eqb kind 1) (take len (drop start book)) (nameIn book w)) n (recordsOf (drop (start + len) book))
@@ -189,11 +189,11 @@ module _ (book : List ℕ) (w : Walk) where
   step-broken c h e = record { same = e ∙ sym (ap (bookVerdict (w .kind) (nameIn book w) (w .texts)) h); on = ended c }
 
 -- ---- the walk: its bookVerdict is the book's
-pub record Walked (book : List ℕ) (w : Walk) : Type 0 where
+pub record CheckWalk (book : List ℕ) (w : Walk) : Type 0 where
   pub within : Within book w
   pub all : verdictAt book w ≡ check book
 
-pub walked-start : (book : List ℕ) → length book ≤ bookMost → Walked book (record { at = 0; kind = 0; name = 0; past = 0; texts = 0 })
+pub walked-start : (book : List ℕ) → length book ≤ bookMost → CheckWalk book (record { at = 0; kind = 0; name = 0; past = 0; texts = 0 })
 unfolding verdictAt
 walked-start book h =
     record {
@@ -201,14 +201,14 @@ walked-start book h =
       all = sym (verdict-start book h);
     }
 
-module _ (book : List ℕ) (w : Walk) (r : Step) (walked : Walked book w) (s : Stepped book w (verdictAt book w) r) where
+module _ (book : List ℕ) (w : Walk) (r : Step) (walked : CheckWalk book w) (s : Stepped book w (verdictAt book w) r) where
   pub walked-on : (v : Walk) → r ≡ Next v → w .at < v .at
   walked-on v e = later v (rw e at (s .on))
     where
       later : (v : Walk) → Onward book w (Next v) → w .at < v .at
       later v (onward u within l) = l
 
-  pub walked-next : (v : Walk) → r ≡ Next v → Walked book v
+  pub walked-next : (v : Walk) → r ≡ Next v → CheckWalk book v
   unfolding verdictOf
   walked-next v e = record { within = inside v (rw e at (s .on)); all = ap (verdictOf book) (sym e) ∙ s .same ∙ walked .all }
     where

@@ -18,7 +18,7 @@ use records::reader::read;
 use rules::BOOK_MOST;
 use rules::Checked;
 use rules::STORED_MOST;
-use slices::two::above;
+use slices_order::above;
 
 // Before the record at `at`: the kind of the record before (0 at the start), the name that it stands under, book[name..past],
 // and how many stored texts came before.

@@ -1,20 +1,18 @@
 -- A row of two books: what stands in one of them is the row's.
 --     text-known, stands-text      the text found is the definition's, in its book and over both
---     stands-part, part-fits       its name stands where the definition has it; a part that lies in its book fits
+--     stands-part                  its name stands where the definition has it
 --     stands-inside, stands-few    its number
 --     before-both, after-stands    before the first text of all, and after any
 --     lent-read, counted-sound     the lent books are read as these two; their texts are sound
 -- Assumes nothing.
 use mathlib.Core.Path.{_≡_, refl, sym, ap, _∙_, subst}
-use mathlib.Core.Bool.{Bool, true, false, cond}
+use mathlib.Core.Bool.{Bool, true, false}
 use mathlib.Core.List.{List, [], _∷_, _++_, append-nil}
 use mathlib.Core.Option.{Option}
 use Prim.Native.Nat.{ℕ, _+_, _-_, _*_, _≤_, _<_}
 use native.Mathlib.Omega.{arith}
 use lib.ListN.{length, getD, List·getD-append}
 use lib.Seq.{getD-append-add}
-use lib.Dec.{leb}
-use borrow.Author.Tests.{leb-true, leb-false, le-leb, lt-leb}
 use Rattle.rules.specs.Sizes.{storedMost}
 use Rattle.rules.specs.Search.{Stored, noText}
 use Rattle.rules.specs.declared.Named.{Named}
@@ -28,7 +26,7 @@ use Rattle.detection_shelf.specs.declared.Shelved.{Shelved}
 use Rattle.detection_shelf.specs.declared.Spot.{Spot}
 use Rattle.detection_shelf.specs.declared.Counts.{Counts}
 use Rattle.detection_texts.specs.Texts.{part, nameAt, Before, TextIs, Found}
-use Rattle.detection_shelf.specs.Shelves.{Shelf, booksOf, Lends, texts, bookIn, ahead, CountsOf, BeforeOn, Stands, bodyIn, textIn, partHeld, partsOf, firstSpot, afterOn, fitting}
+use Rattle.detection_shelf.specs.Shelves.{Shelf, booksOf, Lends, texts, bookIn, ahead, CountsOf, BeforeOn, Stands, bodyIn, textIn, partHeld, partsOf, firstSpot, afterOn}
 use Rattle.detection_texts.proofs.TextLaws.{before-first, found-at}
 use Rattle.detection_shelf.specs.Bodies.{tableOfBody}
 
@@ -107,10 +105,6 @@ stands-part s t h = at (t .second) (h .found .named (t .second)) (h .inside) (h 
         ap (λ (k : ℕ). getD (ones ++ (others ++ [])) k noPart) e ∙ getD-append-add ones (others ++ []) (t .text .number) noPart ∙
         ap (λ (l : List Named). getD l (t .text .number) noPart) (append-nil others) ∙ f
 
--- a part that lies in its book is handed back as it is
-pub part-fits : (a b : List ℕ) (p : Named) → p .at + p .len ≤ length (cond (p .second) b a) → fitting a b p ≡ p
-part-fits a b p h = rw (le-leb (p .at + p .len) (length (cond (p .second) b a)) h)
-
 -- ---- its number
 pub stands-inside : (s : Shelf) (t : Shelved) → Stands s t → t .number < length (texts s)
 stands-inside s t h = at (t .second) (h .inside) (h .numbered)
@@ -153,14 +147,6 @@ pub body-fits : (s : Shelf) (t : Shelved) (b : Bool) → Stands s t → t .secon
 body-fits s t b h e =
     let i = h .found .is in
     subst (λ (x : Bool). (t .text .body ≤ t .text .end) × (t .text .end ≤ length (bookIn s x))) e (omega (arith, i .body-from), i .body-to)
-
--- ---- without a sum
-pub inside-of : (start len n : ℕ) → start ≤ n → leb len (n - start) ≡ leb (start + len) n
-inside-of start len n h = at (leb (start + len) n) refl
-  where
-    at : (t : Bool) → leb (start + len) n ≡ t → leb len (n - start) ≡ t
-    at true q = let l = leb-true (start + len) n q in le-leb len (n - start) (omega arith)
-    at false q = let l = leb-false (start + len) n q in lt-leb len (n - start) (omega arith)
 
 pub stored-table : (books : Shelf) (t : Shelved) (k : ℕ) → Stands books t → t .number ≡ k → getD (texts books) k noText .table ≡ tableOfBody (bodyIn books t)
 unfolding textIn tableOfBody

@@ -1,15 +1,13 @@
--- Two lent books read as one row of stored texts, which count on from the first into the second: a text of theirs, a place between two,
--- and where a name stands.
+-- Two lent books read as one row of stored texts, which count on from the first into the second: a text of theirs, and a place between two.
 -- Assumes nothing.
 use mathlib.Core.Path.{_≡_}
 use Prim.Native.Nat.{ℕ, _+_, _≤_, _<_}
 use mathlib.Core.Bool.{Bool, true, false, cond}
 use mathlib.Core.List.{List, [], _∷_}
-use lib.Dec.{leb}
 use lib.ListN.{length}
 use Rattle.rules.specs.declared.Named.{Named}
 use Rattle.rules.specs.Search.{Stored}
-use Rattle.rules.specs.Book.{entriesOf, tableIn, stored, sound, shelved, noPart, nameParts}
+use Rattle.rules.specs.Book.{entriesOf, tableIn, stored, sound, shelved, nameParts}
 use Rattle.detection_shelf.specs.declared.Counts.{Counts}
 use Rattle.detection_shelf.specs.declared.Shelved.{Shelved}
 use Rattle.detection_shelf.specs.declared.Spot.{Spot}
@@ -84,14 +82,3 @@ firstSpot = record { second = false; number = 0; place = firstPlace }
 
 abbrev pub afterOn : Shelved → Spot
 afterOn t = record { second = t .second; number = t .number + 1; place = afterText (t .text) }
-
--- ---- a name's part: one that does not lie in its book is the empty one at the first's start
-abbrev pub lies : List ℕ → List ℕ → Named → Bool
-lies a b p = leb (p .at + p .len) (length (cond (p .second) b a))
-
-abbrev pub fitting : List ℕ → List ℕ → Named → Named
-fitting a b p = cond (lies a b p) p noPart
-
--- the place of the byte at start, from the place of the first: a block and an offset in it
-abbrev pub placeIn : ℕ × ℕ → ℕ → ℕ × ℕ
-placeIn p start = (p .0, start + p .1)

@@ -2,20 +2,16 @@
 // From detection.rs of spdx 0.13.6 (Copyright 2018 Amazon.com, Inc. or its affiliates. All Rights Reserved.
 // SPDX-License-Identifier: Apache-2.0), changed: the store is two books of records. Assumes nothing.
 ghost use mathlib.Core.Path.{_≡_};
-ghost use mathlib.Core.Bool.{cond};
-ghost use Prim.Native.Nat.{_+_, _*_, _≤_, _<_};
-ghost use lib.Dec.{leb};
-ghost use lib.ListN.{length, take, drop};
+ghost use Prim.Native.Nat.{_+_, _*_, _<_};
 ghost use Rattle.rules.specs.Sizes.{storedMost};
-ghost use Rattle.rules.specs.Book.{partIn};
-ghost use Rattle.detection_shelf.specs.Shelves.{shelf, CountsOf, BeforeOn, Stands, bodyIn, firstSpot, afterOn, fitting, placeIn};
+ghost use Rattle.detection_shelf.specs.Shelves.{shelf, CountsOf, BeforeOn, Stands, bodyIn, firstSpot, afterOn};
+use detection_part::cut;
 use detection_texts::texts::Place;
 use detection_texts::texts::Text;
 use detection_texts::texts::after_text;
 use detection_texts::texts::first_place;
 use detection_texts::texts::next_text;
 use detection_texts::texts::stored_at;
-use rules::Named;
 
 // How many texts the first book stores, and how many both do.
 pub struct Counts {
@@ -113,16 +109,6 @@ pub fn stored_on(first: &[u8], second: &[u8], counts: Counts, k: u32) -> Shelved
     }
 }
 
-// len bytes of s from start on, and where they stand.
-fn cut<'a>(s: &'a [u8], start: usize, len: usize) -> &'a [u8]
-    requires { ⌜ start + len ≤ length (now s) ⌝ }
-    ensures bytes { λ r. ⌜ now r ≡ take len (drop start (now (s .entry))) ⌝ }
-    ensures place { λ r. ⌜ r .ptr ≡ placeIn (s .entry .ptr) start ⌝ }
-{
-    let end = start + len;
-    &s[start..end]
-}
-
 // The body of a stored text's table, in its book.
 pub fn body_of<'a>(first: &'a [u8], second: &'a [u8], t: Shelved) -> &'a [u8]
     requires { ⌜ Stands (shelf (now first) (now second)) t ⌝ }
@@ -136,34 +122,4 @@ pub fn body_of<'a>(first: &'a [u8], second: &'a [u8], t: Shelved) -> &'a [u8]
     } else {
         cut(first, start, end - start)
     }
-}
-
-// len bytes from start on lie within n.
-fn inside(start: usize, len: usize, n: usize) -> bool
-    ensures { λ r. ⌜ r ≡ leb (start + len) n ⌝ }
-{
-    if n < start {
-        return false;
-    }
-    len <= n - start
-}
-
-// A name's bytes where they stand: a part of the first book or of the second, also where both hold the same bytes. One that does not lie
-// in its book is the empty part at the first's start.
-pub fn name_part<'a>(first: &'a [u8], second: &'a [u8], p: Named) -> &'a [u8]
-    ensures bytes { λ r. ⌜ now r ≡ partIn (now (first .entry)) (now (second .entry)) (fitting (now (first .entry)) (now (second .entry)) p) ⌝ }
-    ensures place { λ r. ⌜ r .ptr ≡ placeIn (cond (fitting (now (first .entry)) (now (second .entry)) p .second) (second .entry .ptr) (first .entry .ptr)) (fitting (now (first .entry)) (now (second .entry)) p .at) ⌝ }
-{
-    let at = p.at;
-    let len = p.len;
-    if p.second {
-        if inside(at, len, second.len()) {
-            return cut(second, at, len);
-        }
-        return cut(first, 0, 0);
-    }
-    if inside(at, len, first.len()) {
-        return cut(first, at, len);
-    }
-    cut(first, 0, 0)
 }

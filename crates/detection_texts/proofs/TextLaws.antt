@@ -20,20 +20,20 @@ use borrow.Author.Tests.{leb-true, ne-eqb}
 use Rattle.rules.specs.Sizes.{bookMost, storedMost, nameMost}
 use Rattle.rules.specs.Search.{Stored, noText}
 use Rattle.rules.specs.Bytes.{within, rises}
-use Rattle.rules.specs.Book.{number, Record, recordsOf, also, entriesOf, soundBody, storedKind, follows, soundRecords, tableIn, storedIn, storedOf, storedFrom as numberedFrom, stored, namesIn, noPart, namesOf, filled, sound, At, recordAt, nextPlace}
+use Rattle.rules.specs.Book.{number, Record, recordsOf, also, entriesOf, soundBody, storedKind, follows, soundRecords, tableIn, storedIn, storedOf, storedFrom, stored, namesIn, noPart, namesOf, filled, sound, At, recordAt, nextPlace}
 use Rattle.rules.specs.declared.Named.{Named}
 use Rattle.rules.proofs.BoolLaws.{and-left, and-right}
 use Rattle.rules.proofs.DownLaws.{each-at}
 use Rattle.rules.proofs.SoundLaws.{StoredSound, sound-stored, sound-some, body-total, table-size}
 use Rattle.records.proofs.StepLaws.{RecordHere, record-here, record-end, record-broken}
-use Rattle.detection_texts.specs.Texts.{part, storedFrom, nameAt, namesFrom, allSound, soundBodies, Before, firstPlace, passedBy, setOut, atRecord, pastRecord, Found, Under}
+use Rattle.detection_texts.specs.Texts.{part, storedLeft, nameAt, namesFrom, eachBodySound, soundBodies, Before, firstPlace, passedBy, setOut, atRecord, pastRecord, Found, Under}
 use Rattle.detection_texts.specs.declared.texts.Place.{Place}
 use Rattle.detection_texts.specs.declared.texts.Text.{Text}
 use Rattle.detection_texts.specs.declared.texts.Way.{Way}
 
 -- ---- a sound book's records have sound bodies
-all-sound : (rs : List Record) (a : ℕ) (name : List ℕ) → soundRecords a name rs ≡ true → allSound rs ≡ true
-unfolding soundRecords allSound
+all-sound : (rs : List Record) (a : ℕ) (name : List ℕ) → soundRecords a name rs ≡ true → eachBodySound rs ≡ true
+unfolding soundRecords eachBodySound
 all-sound [] a name h = refl
 all-sound (r ∷ rs) a name h =
     let f = follows a (r .kind) in
@@ -44,7 +44,7 @@ all-sound (r ∷ rs) a name h =
     rw b (all-sound rs (r .kind) under (and-right (f && soundBody r && n) more h))
 
 pub before-first : (book : List ℕ) → sound book ≡ true → Before book firstPlace
-unfolding sound stored numberedFrom soundBodies filled storedOf storedFrom namesOf namesFrom
+unfolding sound stored storedFrom soundBodies filled storedOf storedLeft namesOf namesFrom
 before-first book h =
     let l = leb (length book) bookMost in
     let f = filled (recordsOf book) in
@@ -63,7 +63,7 @@ before-first book h =
     bodies none h = h
     bodies (some rs) h = all-sound rs 0 [] h
 
-    texts : (o : Option (List Record)) → storedFrom 0 [] o ≡ storedOf 0 o
+    texts : (o : Option (List Record)) → storedLeft 0 [] o ≡ storedOf 0 o
     texts none = refl
     texts (some rs) = refl
 
@@ -73,18 +73,18 @@ before-first book h =
 
 -- ---- one record, and what is left
 bodies-cons : (r : Record) (o : Option (List Record)) → soundBodies (also r o) ≡ true → (soundBody r ≡ true) × (soundBodies o ≡ true)
-unfolding soundBodies also allSound
+unfolding soundBodies also eachBodySound
 bodies-cons r none h = absurd (false≢true h)
-bodies-cons r (some rs) h = (and-left (soundBody r) (allSound rs) h, and-right (soundBody r) (allSound rs) h)
+bodies-cons r (some rs) h = (and-left (soundBody r) (eachBodySound rs) h, and-right (soundBody r) (eachBodySound rs) h)
 
 abbrev storedAs : ℕ → List ℕ → Record → Stored
 storedAs n name r = record { number = n; name = name; kind = r .kind; table = tableIn (r .body) (entriesOf (r .body)) }
 
 stored-cons : (n : ℕ) (name : List ℕ) (r : Record) (o : Option (List Record)) → soundBodies o ≡ true →
-    storedFrom n name (also r o) ≡
+    storedLeft n name (also r o) ≡
     cond (storedKind (r .kind)) (storedAs n name r ∷ []) [] ++
-    storedFrom (cond (storedKind (r .kind)) (suc n) n) (cond (eqb (r .kind) 1) (r .body) name) o
-unfolding storedFrom also storedIn soundBodies
+    storedLeft (cond (storedKind (r .kind)) (suc n) n) (cond (eqb (r .kind) 1) (r .body) name) o
+unfolding storedLeft also storedIn soundBodies
 stored-cons n name r none h = absurd (false≢true h)
 stored-cons n name r (some rs) h = refl
 
@@ -98,9 +98,9 @@ names-cons second place p r (some rs) h = refl
 
 module _ (book : List ℕ) (p : Place) (b : Before book p) where
   pub not-done : p .number < length (stored book) → recordsOf (drop (p .at) book) ≡ some [] → ⊥
-  unfolding storedFrom storedIn
+  unfolding storedLeft storedIn
   not-done l e =
-      let n : 0 ≡ length (drop (p .number) (stored book)) = ap length (ap (storedFrom (p .number) (part book (p .name) (p .past))) (sym e) ∙ b .texts) in
+      let n : 0 ≡ length (drop (p .number) (stored book)) = ap length (ap (storedLeft (p .number) (part book (p .name) (p .past))) (sym e) ∙ b .texts) in
       omega (arith, length-drop (p .number) (stored book), n)
 
   pub not-broken : recordsOf (drop (p .at) book) ≡ none → ⊥
@@ -122,9 +122,9 @@ module _ (book : List ℕ) (p : Place) (b : Before book p) where
 
     after : drop (p .number) (stored book) ≡
         cond (storedKind kind) (storedAs (p .number) (part book (p .name) (p .past)) this ∷ []) [] ++
-        storedFrom (cond (storedKind kind) (suc (p .number)) (p .number)) (cond (eqb kind 1) (take len (drop start book)) (part book (p .name) (p .past))) left
+        storedLeft (cond (storedKind kind) (suc (p .number)) (p .number)) (cond (eqb kind 1) (take len (drop start book)) (part book (p .name) (p .past))) left
     after =
-        sym (b .texts) ∙ ap (storedFrom (p .number) (part book (p .name) (p .past))) (h .is) ∙
+        sym (b .texts) ∙ ap (storedLeft (p .number) (part book (p .name) (p .past))) (h .is) ∙
         stored-cons (p .number) (part book (p .name) (p .past)) this left (sounds .1)
 
     long : length (take len (drop start book)) ≡ len
@@ -150,7 +150,7 @@ module _ (book : List ℕ) (p : Place) (b : Before book p) where
     unfolding passedBy
     before-next q = at (eqb kind 1) refl
       where
-        texts : storedFrom (p .number) (cond (eqb kind 1) (take len (drop start book)) (part book (p .name) (p .past))) left ≡ drop (p .number) (stored book)
+        texts : storedLeft (p .number) (cond (eqb kind 1) (take len (drop start book)) (part book (p .name) (p .past))) left ≡ drop (p .number) (stored book)
         texts = sym (rw q at after)
 
         names : (second : Bool) → namesFrom second (start + len) (cond (eqb kind 1) (nameAt second start (start + len)) (nameAt second (p .name) (p .past))) left ≡
@@ -186,7 +186,7 @@ module _ (book : List ℕ) (p : Place) (b : Before book p) where
       unfolding storedKind within
       other = ne-eqb kind 1 (λ e. false≢true (ap storedKind (sym e) ∙ q))
 
-      cons : drop (p .number) (stored book) ≡ storedAs (p .number) (part book (p .name) (p .past)) this ∷ storedFrom (suc (p .number)) (part book (p .name) (p .past)) left
+      cons : drop (p .number) (stored book) ≡ storedAs (p .number) (part book (p .name) (p .past)) this ∷ storedLeft (suc (p .number)) (part book (p .name) (p .past)) left
       cons = rw (q, other) at after
 
       first : getD (stored book) (p .number) noText ≡ storedAs (p .number) (part book (p .name) (p .past)) this
@@ -194,9 +194,9 @@ module _ (book : List ℕ) (p : Place) (b : Before book p) where
           ap (λ (k : ℕ). getD (stored book) k noText) (sym (add-zero (p .number))) ∙ sym (getD-drop (p .number) (stored book) 0 noText) ∙
           ap (λ (s : List Stored). getD s 0 noText) cons
 
-      rest : storedFrom (p .number + 1) (part book (p .name) (p .past)) left ≡ drop (p .number + 1) (stored book)
+      rest : storedLeft (p .number + 1) (part book (p .name) (p .past)) left ≡ drop (p .number + 1) (stored book)
       rest =
-          ap (λ (k : ℕ). storedFrom k (part book (p .name) (p .past)) left) (add-one (p .number)) ∙ sym (ap (drop 1) cons) ∙ drop-drop 1 (p .number) (stored book)
+          ap (λ (k : ℕ). storedLeft k (part book (p .name) (p .past)) left) (add-one (p .number)) ∙ sym (ap (drop 1) cons) ∙ drop-drop 1 (p .number) (stored book)
 
       cons-names : (second : Bool) → drop (p .number) (namesOf second (recordsOf book)) ≡
           nameAt second (p .name) (p .past) ∷ namesFrom second (start + len) (nameAt second (p .name) (p .past)) left
@@ -265,28 +265,28 @@ module _ (p : Place) (kind start end : ℕ) where
 
 -- ---- the way to the next text, record after record
 -- what is left of the book, one more while it goes on
-unfoldable pub ahead : List ℕ → Way → ℕ
-ahead book w = cond (w .going) (suc (length book - w .place .at)) 0
+unfoldable pub wayLeft : List ℕ → Way → ℕ
+wayLeft book w = cond (w .going) (suc (length book - w .place .at)) 0
 
 pub under-first : (book : List ℕ) (p : Place) → Before book p → p .number < length (stored book) → Under book (p .number) (setOut p)
 under-first book p b l = record { on = λ _. (b, refl, l); off = λ e. absurd (false≢true (sym e)) }
 
-pub ahead-on : (book : List ℕ) (w : Way) → w .going ≡ true → ahead book w ≡ suc (length book - w .place .at)
-unfolding ahead
-ahead-on book w e = rw e
+pub way-left-on : (book : List ℕ) (w : Way) → w .going ≡ true → wayLeft book w ≡ suc (length book - w .place .at)
+unfolding wayLeft
+way-left-on book w e = rw e
 
 -- one more record: it can be passed, the way stands as it should, and less is ahead
-pub record On (book : List ℕ) (n : ℕ) (p : Place) (a : At) : Type 0 where
+pub record OneMore (book : List ℕ) (n : ℕ) (p : Place) (a : At) : Type 0 where
   pub fits : nextPlace (p .at) a ≤ length book
   pub under : Under book n (pastRecord p a)
-  pub less : ahead book (pastRecord p a) < suc (length book - p .at)
+  pub less : wayLeft book (pastRecord p a) < suc (length book - p .at)
 
 module _ (book : List ℕ) (n : ℕ) (p : Place) (b : Before book p) (same : p .number ≡ n) (l : n < length (stored book)) where
   short : p .number < length (stored book)
   short = omega (arith, same, l)
 
-  on-whole : (kind start len : ℕ) → RecordHere book (p .at) kind start len → (t : Bool) → storedKind kind ≡ t → On book n p (At.whole kind start len)
-  unfolding nextPlace pastRecord atRecord ahead
+  on-whole : (kind start len : ℕ) → RecordHere book (p .at) kind start len → (t : Bool) → storedKind kind ≡ t → OneMore book n p (At.whole kind start len)
+  unfolding nextPlace pastRecord atRecord wayLeft
   on-whole kind start len h true e =
       record {
         fits = h .fits;
@@ -305,10 +305,10 @@ module _ (book : List ℕ) (n : ℕ) (p : Place) (b : Before book p) (same : p .
         less = rw e (omega (arith, h .later, h .fits, q));
       }
 
-  pub on-record : On book n p (recordAt book (p .at))
+  pub on-record : OneMore book n p (recordAt book (p .at))
   on-record = at (recordAt book (p .at)) refl
     where
-      at : (a : At) → recordAt book (p .at) ≡ a → On book n p a
+      at : (a : At) → recordAt book (p .at) ≡ a → OneMore book n p a
       at At.end e = absurd (not-done book p b short (record-end book (p .at) e))
       at (At.whole kind start len) e = on-whole kind start len (record-here book (p .at) kind start len e) (storedKind kind) refl
       at At.broken e = absurd (not-broken book p b (record-broken book (p .at) e))

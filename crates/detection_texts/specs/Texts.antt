@@ -20,9 +20,9 @@ abbrev pub part : List ℕ → ℕ → ℕ → List ℕ
 part book from to = take (to - from) (drop from book)
 
 -- the stored texts of the records that are left, from number n on, under `name`
-unfoldable pub storedFrom : ℕ → List ℕ → Option (List Record) → List Stored
-storedFrom n name none = []
-storedFrom n name (some rs) = storedIn n name rs
+unfoldable pub storedLeft : ℕ → List ℕ → Option (List Record) → List Stored
+storedLeft n name none = []
+storedLeft n name (some rs) = storedIn n name rs
 
 -- the name book[from..to] of one of two books, and where the names of those texts stand, the next record at `place`
 abbrev pub nameAt : Bool → ℕ → ℕ → Named
@@ -33,13 +33,13 @@ namesFrom second place p none = []
 namesFrom second place p (some rs) = namesIn second place p rs
 
 -- each of them has a sound body
-unfoldable pub allSound : List Record → Bool
-allSound [] = true
-allSound (r ∷ rs) = soundBody r && allSound rs
+unfoldable pub eachBodySound : List Record → Bool
+eachBodySound [] = true
+eachBodySound (r ∷ rs) = soundBody r && eachBodySound rs
 
 unfoldable pub soundBodies : Option (List Record) → Bool
 soundBodies none = false
-soundBodies (some rs) = allSound rs
+soundBodies (some rs) = eachBodySound rs
 
 -- p stands before stored text p.number: those that are left are those from there on
 pub record Before (book : List ℕ) (p : Place) : Type 0 where
@@ -48,7 +48,7 @@ pub record Before (book : List ℕ) (p : Place) : Type 0 where
   pub past : p .past ≤ length book
   pub few : length (stored book) ≤ storedMost
   pub bodies : soundBodies (recordsOf (drop (p .at) book)) ≡ true
-  pub texts : storedFrom (p .number) (part book (p .name) (p .past)) (recordsOf (drop (p .at) book)) ≡ drop (p .number) (stored book)
+  pub texts : storedLeft (p .number) (part book (p .name) (p .past)) (recordsOf (drop (p .at) book)) ≡ drop (p .number) (stored book)
   pub names : (second : Bool) → namesFrom second (p .at) (nameAt second (p .name) (p .past)) (recordsOf (drop (p .at) book)) ≡ drop (p .number) (namesOf second (recordsOf book))
 
 -- r is the stored text t: its table's body lent as a part gives t's table

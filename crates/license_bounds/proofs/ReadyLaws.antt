@@ -20,8 +20,8 @@ unfolding scoreAt scoreView scored
 once ls s ends fixed i = refl
 
 -- a stored text whose table is this body's
-abbrev pub textOf : List ℕ → Stored
-textOf body = record { number = 0; name = []; kind = 0; table = tableOfBody body }
+abbrev pub bodyText : List ℕ → Stored
+bodyText body = record { number = 0; name = []; kind = 0; table = tableOfBody body }
 
 pub spans-in : (lines : ℕ) (ends : Bool) (fixed l r m k : ℕ) → Spans lines ends fixed l r → l ≤ m → k ≤ r → Spans lines ends fixed m k
 unfolding Spans

@@ -11,7 +11,7 @@ use Rattle.rules.specs.Prefix.{strip, withoutPrefix}
 use Rattle.rules.specs.Passes.{aggressive}
 use Rattle.rules.specs.Search.{viewed}
 use Rattle.rules.specs.Lines.{size}
-use Rattle.slices.specs.declared.ends.Span.{Span}
+use Rattle.slices.specs.declared.ends.ByteSpan.{ByteSpan}
 use Rattle.slices.specs.Classes.{classTable}
 use Rattle.preproc_table.specs.Entries.{tableEnd, viewStart, linesAt, Apart}
 use Rattle.preproc_table.proofs.EntryLaws.{lines-viewed, lines-kept, lines-below, apart-below}
@@ -75,7 +75,7 @@ view-ready n lines class area words v c laid o h =
     }
 
 -- after pass 1 has chosen in area₁ and words₁, the rest of the passes leaves its text in area
-pub process-done : (n lines : ℕ) (v : View) (area₀ words₀ area₁ words₁ area : List ℕ) (r : Span) → v .start ≤ v .end → v .end ≤ lines →
+pub process-done : (n lines : ℕ) (v : View) (area₀ words₀ area₁ words₁ area : List ℕ) (r : ByteSpan) → v .start ≤ v .end → v .end ≤ lines →
     Held n lines area₀ words₀ area₁ words₁ → length area ≡ length area₁ → view.ViewProcessed (viewAt area₁ words₁ v) n area₁ r area →
     Processed n lines v area₀ words₀ r area words₁
 process-done n lines v area₀ words₀ area₁ words₁ area r o h held long p =

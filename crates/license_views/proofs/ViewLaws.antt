@@ -17,7 +17,7 @@ use Rattle.preproc_table.specs.Entries.{tableEnd, viewStart, linesAt}
 use Rattle.preproc_table.proofs.EntryLaws.{lines-below, apart-below}
 use Rattle.ngram_table.specs.Tables.{tableAt}
 use Rattle.license_views.specs.declared.Viewed.{Viewed}
-use Rattle.slices.specs.declared.ends.Span.{Span}
+use Rattle.slices.specs.declared.ends.ByteSpan.{ByteSpan}
 use Rattle.prefix_list.specs.Listing.{plainLines}
 use Rattle.license_notes.specs.Laid.{Held}
 use Rattle.license_views.specs.Tabled.{Processed, Tabled, tableOver}
@@ -30,7 +30,7 @@ behind-put a xs ys h =
     append-nil ys
 
 -- ---- the table of a view
-module _ {n lines : ℕ} {v : View} {area₀ words₀ : List ℕ} {r : Span} {area words : List ℕ} (p : Processed n lines v area₀ words₀ r area words) where
+module _ {n lines : ℕ} {v : View} {area₀ words₀ : List ℕ} {r : ByteSpan} {area words : List ℕ} (p : Processed n lines v area₀ words₀ r area words) where
   text-few : length (slice (r .start) (r .end) area) ≤ 3 * n + 3
   text-few =
       let ls = linesAt area₀ words₀ lines in

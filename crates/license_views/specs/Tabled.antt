@@ -13,11 +13,11 @@ use Rattle.preproc_table.specs.Entries.{tableEnd, linesAt}
 use Rattle.ngram_table.specs.Tables.{tableAt}
 use Rattle.rules.specs.Passes.{aggressive}
 use Rattle.license_views.specs.declared.Viewed.{Viewed}
-use Rattle.slices.specs.declared.ends.Span.{Span}
+use Rattle.slices.specs.declared.ends.ByteSpan.{ByteSpan}
 use Rattle.license_notes.specs.Laid.{Held}
 
 -- the processed text of a view is area[start..end], above the lines; the areas still hold the lines
-pub record Processed (n lines : ℕ) (v : View) (area₀ words₀ : List ℕ) (r : Span) (area words : List ℕ) : Type 0 where
+pub record Processed (n lines : ℕ) (v : View) (area₀ words₀ : List ℕ) (r : ByteSpan) (area words : List ℕ) : Type 0 where
   pub order : r .start ≤ r .end
   pub high : r .end ≤ length area
   pub bytes : slice (r .start) (r .end) area ≡ aggressive (viewed (linesAt area₀ words₀ lines) v)

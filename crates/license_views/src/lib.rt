@@ -16,7 +16,7 @@ use preproc_table::table_end;
 use preproc_view::process::process_plain;
 use preproc_view::process::process_stripped;
 use rules::View;
-use slices::ends::Span;
+use slices::ends::ByteSpan;
 
 // A view's processed text, area[start..end], and its table's size.
 pub struct Viewed {
@@ -34,7 +34,7 @@ pub fn process(
     n: usize,
     lines: usize,
     v: View,
-) -> Span
+) -> ByteSpan
     requires { ⌜ (now class ≡ classTable) × Laid n lines (now area) (now words) ⌝ }
     requires { ⌜ (v .start ≤ v .end) × (v .end ≤ lines) ⌝ }
     ensures { λ r. ⌜ Processed n lines v (now (area .entry)) (now (words .entry)) r (now (area .exit)) (now (words .exit)) ⌝ }

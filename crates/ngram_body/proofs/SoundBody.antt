@@ -29,10 +29,10 @@ use Rattle.ngram_body.proofs.BodyLaws.{length-entry}
 
 -- ---- entries read back
 -- the count and the length fit four bytes
-abbrev pub Fits : Counted → Type 0
-Fits e = (e .count < 256 ^ 4) × (length (e .bytes) < 256 ^ 4)
+abbrev pub FitsFour : Counted → Type 0
+FitsFour e = (e .count < 256 ^ 4) × (length (e .bytes) < 256 ^ 4)
 
-module _ (e : Counted) (rest : List ℕ) (f : Fits e) where
+module _ (e : Counted) (rest : List ℕ) (f : FitsFour e) where
   abbrev c : List ℕ
   c = written 4 (e .count)
 
@@ -85,14 +85,14 @@ module _ (e : Counted) (rest : List ℕ) (f : Fits e) where
       ∙ ap (goOn entryOf (pieces entryForm entryOf)) q
       ∙ ap₂ (λ (x : Counted) (t : List ℕ). also x (pieces entryForm entryOf t)) the-entry the-rest
 
-pub pieces-again : (es : List Counted) → Each Fits es → pieces entryForm entryOf (entriesOut es) ≡ some es
+pub pieces-again : (es : List Counted) → Each FitsFour es → pieces entryForm entryOf (entriesOut es) ≡ some es
 unfolding entriesOut entryOut goOn also
 pieces-again [] f =
     pieces-step entryForm entryOf (omega arith) [] ∙ ap (goOn entryOf (pieces entryForm entryOf)) (front-end entryForm [] 0 (omega arith))
 pieces-again (e ∷ es) f = pieces-entry e (entriesOut es) (f .0) ∙ ap (also e) (pieces-again es (f .1))
 
 -- ---- the body read back
-module _ (t : Table) (f : Each Fits (t .entries)) (h : t .total < 256 ^ 4) (d : length (t .entries) < 256 ^ 4) where
+module _ (t : Table) (f : Each FitsFour (t .entries)) (h : t .total < 256 ^ 4) (d : length (t .entries) < 256 ^ 4) where
   abbrev out : List ℕ
   out = tableOut t
 
@@ -179,7 +179,7 @@ module _ (P : List ℕ → Type 0) where
   tallied-each [] q = tt
   tallied-each (g ∷ gs) q = tally-each g (tallied gs) (q .0) (tallied-each gs (q .1))
 
-entries-fit : (es : List Counted) → sum es < 256 ^ 4 → Each (λ (e : Counted). length (e .bytes) < 256 ^ 4) es → Each Fits es
+entries-fit : (es : List Counted) → sum es < 256 ^ 4 → Each (λ (e : Counted). length (e .bytes) < 256 ^ 4) es → Each FitsFour es
 unfolding sum
 entries-fit [] h q = tt
 entries-fit (e ∷ es) h q = ((omega arith, q .0), entries-fit es (omega arith) (q .1))
@@ -242,7 +242,7 @@ module _ (s : List ℕ) (h : length s < 256 ^ 4) (n : length (bigrams s) ≤ tot
   summed : sum (tallied (bigrams s)) ≡ length (bigrams s)
   summed = tallied-sum (bigrams s)
 
-  fit : Each Fits (tallied (bigrams s))
+  fit : Each FitsFour (tallied (bigrams s))
   fit =
       entries-fit (tallied (bigrams s)) (omega (arith, summed))
       (tallied-each (λ g. length g < 256 ^ 4) (bigrams s) (bigrams-short s (256 ^ 4) h))

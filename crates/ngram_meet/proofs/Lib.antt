@@ -1,2 +1,1 @@
-pub mod CompareLaws
 pub mod MeetLaws

@@ -28,9 +28,9 @@ use Rattle.rules.proofs.TableLaws.{meet-left, meet-right, meet-both, meet-le, t
 use Rattle.rules.proofs.SoundLaws.{table-sound, sound-some, body-total}
 use Rattle.records.proofs.FrontLaws.{number-take, front-end, front-broken, front-whole}
 use Rattle.sort_tally.specs.Group.{entriesAt}
-use Rattle.ngram_meet.specs.declared.Side.{Side}
-use Rattle.ngram_meet.specs.declared.Side.the-variants.{Before, Same, After}
-use Rattle.ngram_meet.specs.Meeting.{sideOf}
+use Rattle.ngram_order.specs.declared.Side.{Side}
+use Rattle.ngram_order.specs.declared.Side.the-variants.{Before, Same, After}
+use Rattle.ngram_order.specs.Sides.{sideOf}
 use Rattle.ngram_table.specs.Tables.{tableAt}
 use Rattle.floors.specs.declared.Floor.{Floor}
 use Rattle.ngram_score.specs.Shares.{Useless, Reached}
@@ -45,7 +45,7 @@ entryEnd body j = j + 8 + number 4 (drop (j + 4) body)
 abbrev pub storedEntry : List ℕ → ℕ → Counted
 storedEntry body j = record { bytes = slice (j + 8) (entryEnd body j) body; count = number 4 (drop j body) }
 
-pub record Next (body : List ℕ) (j : ℕ) (fs : List Counted) : Type 0 where
+pub record NextEntry (body : List ℕ) (j : ℕ) (fs : List Counted) : Type 0 where
   pub rest : List Counted
   pub fits : entryEnd body j ≤ length body
   pub first : fs ≡ storedEntry body j ∷ rest
@@ -68,7 +68,7 @@ module _ (body : List ℕ) (j : ℕ) where
       λ i. record { bytes = b i; count = k i }
 
   opened : (fs : List Counted) (o : Option (List Counted)) → pieces entryForm entryOf (drop (entryEnd body j) body) ≡ o →
-      entryEnd body j ≤ length body → also (entryOf cut) o ≡ some fs → Next body j fs
+      entryEnd body j ≤ length body → also (entryOf cut) o ≡ some fs → NextEntry body j fs
   unfolding also
   opened fs none q h e = let z : _≡_ {A = ℕ} 0 1 = cc in absurd (no z)
   opened fs (some rest) q h e =
@@ -78,11 +78,11 @@ module _ (body : List ℕ) (j : ℕ) where
   step : pieces entryForm entryOf (drop j body) ≡ goOn entryOf (pieces entryForm entryOf) (front entryForm (drop j body))
   step = pieces-step entryForm entryOf (omega arith) (drop j body)
 
-  pub entry-next : (fs : List Counted) → pieces entryForm entryOf (drop j body) ≡ some fs → j < length body → Next body j fs
+  pub entry-next : (fs : List Counted) → pieces entryForm entryOf (drop j body) ≡ some fs → j < length body → NextEntry body j fs
   unfolding goOn
   entry-next fs e h = go (leb (entryEnd body j) (length body)) refl
     where
-      go : (t : Bool) → leb (entryEnd body j) (length body) ≡ t → Next body j fs
+      go : (t : Bool) → leb (entryEnd body j) (length body) ≡ t → NextEntry body j fs
       go true t =
           let k = leb-true (entryEnd body j) (length body) t in
           let q : front entryForm (drop j body) ≡ whole cut (drop (entryEnd body j) body) = front-whole entryForm body j h k in
@@ -137,7 +137,7 @@ after-is Ordering·eq e = let z : _≡_ {A = ℕ} 0 1 = cc in absurd (no z)
 after-is Ordering·gt e = refl
 
 module _ {s p body : List ℕ} {k d n rest left m i j : ℕ} (c : Meeting s p body k d n rest left m i j) (h : i < d) (l : j < length body) where
-  abbrev nx : Next body j (c .stored)
+  abbrev nx : NextEntry body j (c .stored)
   nx = entry-next body j (c .stored) (c .there) l
 
   pub meeting-fits : entryEnd body j ≤ length body
@@ -296,10 +296,10 @@ meeting-start s p body k d left l r b t h q =
 -- ---- the value of the two tables
 module _ (s p body : List ℕ) (k d b : ℕ) (t : tableAt s p k d ≡ tableOf (bigrams s)) (h : soundTable body (entriesOf body) ≡ true)
     (q : b ≡ number 4 body) where
-  abbrev pub shared : ℕ
-  shared = meet (tallied (bigrams s)) (tableIn body (entriesOf body) .entries)
+  abbrev pub sharedCount : ℕ
+  sharedCount = meet (tallied (bigrams s)) (tableIn body (entriesOf body) .entries)
 
-  pub shared-limits : (shared ≤ k) × (shared ≤ b) × (b ≤ totalMost)
+  pub shared-limits : (sharedCount ≤ k) × (sharedCount ≤ b) × (b ≤ totalMost)
   shared-limits =
       let fs = tableIn body (entriesOf body) .entries in
       let sound = table-sound body (entriesOf body) h in
@@ -310,15 +310,15 @@ module _ (s p body : List ℕ) (k d b : ℕ) (t : tableAt s p k d ≡ tableOf (b
       let w = body-total body (entriesOf body) h in
       (omega arith, omega arith, omega arith)
 
-  value-is : _≡_ {A = Value} (record { score = score shared k b; m = shared; t = k + b }) (valueOf (tableOf (bigrams s)) (tableIn body (entriesOf body)))
+  value-is : _≡_ {A = Value} (record { score = score sharedCount k b; m = sharedCount; t = k + b }) (valueOf (tableOf (bigrams s)) (tableIn body (entriesOf body)))
   unfolding valueOf tableOf
   value-is =
       let a = view-total s p k d t in
       let w = q ∙ sym (body-total body (entriesOf body) h) in
-      λ i. record { score = score shared (a i) (w i); m = shared; t = a i + w i }
+      λ i. record { score = score sharedCount (a i) (w i); m = sharedCount; t = a i + w i }
 
-  pub value-judged : (floor : Floor) (w m : ℕ) (v : Value) → k ≤ totalMost → Useless floor k b w → Reached w shared m →
+  pub value-judged : (floor : Floor) (w m : ℕ) (v : Value) → k ≤ totalMost → Useless floor k b w → Reached w sharedCount m →
       v ≡ record { score = score m k b; m = m; t = k + b } → Judged floor (valueOf (tableOf (bigrams s)) (tableIn body (entriesOf body))) v
   value-judged floor w m v A u r e =
       let l = shared-limits in
-      rw (e, ← value-is) (judged floor k b A (l .2) w shared m (l .0) (l .1) u r)
+      rw (e, ← value-is) (judged floor k b A (l .2) w sharedCount m (l .0) (l .1) u r)

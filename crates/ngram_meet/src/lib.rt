@@ -3,19 +3,17 @@
 // SPDX-License-Identifier: Apache-2.0), changed: both tables are sorted, so no entry is looked up. Assumes nothing.
 ghost use mathlib.Core.Path.{_≡_};
 ghost use mathlib.Core.Bool.{true};
-ghost use Prim.Native.Nat.{_+_, _≤_, compare};
-ghost use lib.ListN.{length, drop};
-ghost use lib.Seq.{slice};
+ghost use Prim.Native.Nat.{_+_, _≤_};
+ghost use lib.ListN.{length};
 ghost use Rattle.rules.specs.Sizes.{totalMost};
-ghost use Rattle.rules.specs.Bytes.{order};
 ghost use Rattle.rules.specs.Table as words;
 ghost use Rattle.rules.specs.Book.{soundTable, entriesOf, tableIn};
-ghost use Rattle.sort_spread.specs.Sort.{partOf};
 ghost use Rattle.ngram_table.specs.Tables.{tableAt};
-ghost use Rattle.ngram_meet.specs.Meeting.{sideOf};
 ghost use Rattle.ngram_score.specs.Shares.{Reached};
 ghost use Rattle.floors.specs.Floors.{Judged};
 use floors::Floor;
+use ngram_order::Side;
+use ngram_order::compare_bigram;
 use ngram_score::smaller;
 use ngram_score::useless;
 use ngram_score::value;
@@ -23,59 +21,6 @@ use ngram_table::TableSize;
 use records::numbers::read_u32;
 use rules::Value;
 use slices::wide::wide;
-use sort_order::ends_part;
-use sort_order::marks_left;
-
-// Where one byte string stands to another.
-pub enum Side {
-    Before,
-    Same,
-    After,
-}
-
-// Of two bytes that differ.
-fn unlike(x: u8, y: u8) -> Side
-    requires { ⌜ (x ≡ y → ⊥) ⌝ }
-    ensures { λ r. ⌜ r ≡ sideOf (compare x y) ⌝ }
-{
-    if x < y {
-        return Side::Before;
-    }
-    Side::After
-}
-
-// Where the bigram of the text that starts at a stands to the bytes [from, to) of the body.
-pub fn compare_bigram(text: &[u8], a: usize, body: &[u8], from: usize, to: usize) -> Side
-    requires { ⌜ (from ≤ to) × (to ≤ length (now body)) ⌝ }
-    ensures { λ r. ⌜ r ≡ sideOf (order (partOf 32 2 (drop a (now (text .entry)))) (slice from to (now (body .entry)))) ⌝ }
-{
-    let mut i = a;
-    let mut j = from;
-    let mut left = 2;
-    while j < to {
-        if text.len() <= i {
-            return Side::Before;
-        }
-        let x = text[i];
-        if ends_part(x, 32, left) {
-            return Side::Before;
-        }
-        let y = body[j];
-        if x != y {
-            return unlike(x, y);
-        }
-        left = marks_left(left, x, 32);
-        i = i + 1;
-        j = j + 1;
-    }
-    if text.len() <= i {
-        return Side::Same;
-    }
-    if ends_part(text[i], 32, left) {
-        return Side::Same;
-    }
-    Side::After
-}
 
 // The sum of the smaller counts of the bigrams that the table in p, over the text, shares with the stored one; or, where that is less than
 // `least`, something that is no more. `rest` and `stored` are what is still to come of the two tables' counts: the sum gains no more than

@@ -59,7 +59,7 @@ fn about(score: f32, t: u32, most: u32) -> u32
 }
 
 // Whether m shared beats the floor.
-fn enough(floor: Floor, m: u32, a: u32, b: u32) -> bool
+fn shares_beat(floor: Floor, m: u32, a: u32, b: u32) -> bool
     requires { ⌜ (m ≤ a) × (m ≤ b) × (a ≤ totalMost) × (b ≤ totalMost) ⌝ }
     ensures { λ r. ⌜ r ≡ floors.beats floor (words.score m a b) ⌝ }
 {
@@ -73,17 +73,17 @@ pub fn useless(floor: Floor, a: u32, b: u32) -> u32
     ensures { λ r. ⌜ Useless floor a b r ⌝ }
 {
     let most = smaller(a, b);
-    if !enough(floor, most, a, b) {
+    if !shares_beat(floor, most, a, b) {
         return most + 1;
     }
     let near = about(floor.score, a + b, most);
-    if !enough(floor, near, a, b) {
+    if !shares_beat(floor, near, a, b) {
         return near + 1;
     }
     if near == 0 {
         return 0;
     }
-    if !enough(floor, near - 1, a, b) {
+    if !shares_beat(floor, near - 1, a, b) {
         return near;
     }
     0

@@ -1,12 +1,11 @@
--- Where the bigrams of a text start (`startsFrom`), and that the parts that start there are its bigrams (`starts-parts`).
+-- Where the bigrams of a text start (`startsOfWords`), and that the parts that start there are its bigrams (`starts-parts`).
 --     marking-start, marking-space, marking-word, marking-end     the loop that writes the starts: `Marking`
 --     bigrams-short    none is longer than the text
---     bigrams-half     no more than half of its bytes, where no word is empty
 -- Assumes nothing.
 use mathlib.Core.Path.{_≡_, refl, sym, ap, _∙_}
 use mathlib.Core.Bool.{Bool, true, false, cond}
 use mathlib.Core.List.{List, [], _∷_, _++_, append-nil}
-use Prim.Native.Nat.{ℕ, suc, _+_, _*_, _-_, _≤_, _<_}
+use Prim.Native.Nat.{ℕ, suc, _+_, _-_, _≤_, _<_}
 use native.Mathlib.Omega.{arith}
 use lib.Dec.{eqb}
 use lib.ListN.{length, take, drop, set, getD, length-append}
@@ -22,24 +21,24 @@ use Rattle.sort_tally.specs.Group.{partsAt, entriesAt}
 use Rattle.ngram_table.specs.Tables.{tableAt}
 
 -- the starts of the words that a space ends, where the word at hand starts at w, and xs stands at i
-unfoldable pub startsFrom : ℕ → ℕ → List ℕ → List ℕ
-startsFrom w i [] = []
-startsFrom w i (x ∷ xs) =
-    let next = w ∷ startsFrom (i + 1) (i + 1) xs in
-    let same = startsFrom w (i + 1) xs in
+unfoldable pub startsOfWords : ℕ → ℕ → List ℕ → List ℕ
+startsOfWords w i [] = []
+startsOfWords w i (x ∷ xs) =
+    let next = w ∷ startsOfWords (i + 1) (i + 1) xs in
+    let same = startsOfWords w (i + 1) xs in
     cond (eqb x 32) next same
 
 module _ (w i x : ℕ) (l xs : List ℕ) (e : l ≡ x ∷ xs) where
-  pub starts-space : eqb x 32 ≡ true → startsFrom w i l ≡ w ∷ startsFrom (i + 1) (i + 1) xs
-  unfolding startsFrom
+  pub starts-space : eqb x 32 ≡ true → startsOfWords w i l ≡ w ∷ startsOfWords (i + 1) (i + 1) xs
+  unfolding startsOfWords
   starts-space t = rw (e, t)
 
-  pub starts-word : eqb x 32 ≡ false → startsFrom w i l ≡ startsFrom w (i + 1) xs
-  unfolding startsFrom
+  pub starts-word : eqb x 32 ≡ false → startsOfWords w i l ≡ startsOfWords w (i + 1) xs
+  unfolding startsOfWords
   starts-word t = rw (e, t)
 
-pub starts-end : (w i : ℕ) (l : List ℕ) → l ≡ [] → startsFrom w i l ≡ []
-unfolding startsFrom
+pub starts-end : (w i : ℕ) (l : List ℕ) → l ≡ [] → startsOfWords w i l ≡ []
+unfolding startsOfWords
 starts-end w i l e = rw e
 
 -- ---- a word: no space in it
@@ -78,17 +77,17 @@ unfolding pairs
 pairs-on a b ls ws e = rw e
 
 -- u is read of the word at w
-parts-from : (s u xs : List ℕ) (w i : ℕ) → drop w s ≡ u ++ xs → i ≡ w + length u → Free u → partsAt 32 2 s (startsFrom w i xs) ≡ pairs (split 32 (u ++ xs))
-unfolding startsFrom
+parts-from : (s u xs : List ℕ) (w i : ℕ) → drop w s ≡ u ++ xs → i ≡ w + length u → Free u → partsAt 32 2 s (startsOfWords w i xs) ≡ pairs (split 32 (u ++ xs))
+unfolding startsOfWords
 parts-from s u [] w i d e f = sym (ap pairs (split-word u [] [] [] f (unfold split in refl)) ∙ unfold pairs in refl)
 parts-from s u (x ∷ xs) w i d e f =
     go (eqb x 32) refl (parts-from s [] xs (i + 1) (i + 1)) (parts-from s (u ++ x ∷ []) xs w (i + 1))
   where
     go : (t : Bool) → eqb x 32 ≡ t →
-        (drop (i + 1) s ≡ xs → i + 1 ≡ i + 1 + 0 → Unit {0} → partsAt 32 2 s (startsFrom (i + 1) (i + 1) xs) ≡ pairs (split 32 xs)) →
+        (drop (i + 1) s ≡ xs → i + 1 ≡ i + 1 + 0 → Unit {0} → partsAt 32 2 s (startsOfWords (i + 1) (i + 1) xs) ≡ pairs (split 32 xs)) →
         (drop w s ≡ (u ++ x ∷ []) ++ xs → i + 1 ≡ w + length (u ++ x ∷ []) → Free (u ++ x ∷ []) →
-        partsAt 32 2 s (startsFrom w (i + 1) xs) ≡ pairs (split 32 ((u ++ x ∷ []) ++ xs))) →
-        partsAt 32 2 s (cond t (w ∷ startsFrom (i + 1) (i + 1) xs) (startsFrom w (i + 1) xs)) ≡ pairs (split 32 (u ++ x ∷ xs))
+        partsAt 32 2 s (startsOfWords w (i + 1) xs) ≡ pairs (split 32 ((u ++ x ∷ []) ++ xs))) →
+        partsAt 32 2 s (cond t (w ∷ startsOfWords (i + 1) (i + 1) xs) (startsOfWords w (i + 1) xs)) ≡ pairs (split 32 (u ++ x ∷ xs))
     go true t next same =
         let sp : x ≡ 32 = eqb-true x 32 t in
         let d′ : drop w s ≡ u ++ 32 ∷ xs = rw sp at d in
@@ -101,7 +100,7 @@ parts-from s u (x ∷ xs) w i d e f =
         let a : (u ++ x ∷ []) ++ xs ≡ u ++ x ∷ xs = append-snoc u x xs in
         same (d ∙ sym a) (omega (arith, length-append u (x ∷ []))) (free-more u x f t) ∙ rw a
 
-pub starts-parts : (s : List ℕ) → partsAt 32 2 s (startsFrom 0 0 s) ≡ bigrams s
+pub starts-parts : (s : List ℕ) → partsAt 32 2 s (startsOfWords 0 0 s) ≡ bigrams s
 unfolding bigrams
 starts-parts s = parts-from s [] s 0 0 refl refl tt
 
@@ -109,21 +108,21 @@ length-parts : (s xs : List ℕ) → length (partsAt 32 2 s xs) ≡ length xs
 length-parts s [] = refl
 length-parts s (x ∷ xs) = ap suc (length-parts s xs)
 
-pub starts-many : (s : List ℕ) → length (startsFrom 0 0 s) ≡ length (bigrams s)
-starts-many s = sym (length-parts s (startsFrom 0 0 s)) ∙ ap length (starts-parts s)
+pub starts-many : (s : List ℕ) → length (startsOfWords 0 0 s) ≡ length (bigrams s)
+starts-many s = sym (length-parts s (startsOfWords 0 0 s)) ∙ ap length (starts-parts s)
 
 -- ---- the loop: k starts are written, and i bytes are read
 pub record Marking (s p₀ p : List ℕ) (k word i : ℕ) : Type 0 where
   pub within : i ≤ length s
-  pub part : Part (startsFrom 0 0 s) (startsFrom word i (drop i s)) p₀ p k
+  pub part : Part (startsOfWords 0 0 s) (startsOfWords word i (drop i s)) p₀ p k
 
 pub marking-start : (s p : List ℕ) → length (bigrams s) ≤ length p → Marking s p p 0 0 0
-marking-start s p h = record { within = omega arith; part = part-start (startsFrom 0 0 s) p (omega (arith, starts-many s)) }
+marking-start s p h = record { within = omega arith; part = part-start (startsOfWords 0 0 s) p (omega (arith, starts-many s)) }
 
 module _ {s p₀ p : List ℕ} {k word i : ℕ} (m : Marking s p₀ p k word i) where
   module _ (h : i < length s) where
     module _ (t : eqb (getD s i 0) 32 ≡ true) where
-      to-come : startsFrom word i (drop i s) ≡ word ∷ startsFrom (i + 1) (i + 1) (drop (i + 1) s)
+      to-come : startsOfWords word i (drop i s) ≡ word ∷ startsOfWords (i + 1) (i + 1) (drop (i + 1) s)
       to-come = starts-space word i (getD s i 0) (drop i s) (drop (i + 1) s) (drop-next s i h) t
 
       pub marking-room : k < length p
@@ -140,7 +139,7 @@ module _ {s p₀ p : List ℕ} {k word i : ℕ} (m : Marking s p₀ p k word i) 
       (k ≡ length (bigrams s)) × (partsAt 32 2 s (take k p) ≡ bigrams s) × (drop k p ≡ drop k p₀)
   marking-end h =
       let w = part-end (starts-end word i (drop i s) (drop-done s i h)) (m .part) in
-      (w .count ∙ starts-many s, rw (w .bytes, take-at (startsFrom 0 0 s) (drop k p₀) k (sym (w .count))) (starts-parts s), m .part .back)
+      (w .count ∙ starts-many s, rw (w .bytes, take-at (startsOfWords 0 0 s) (drop k p₀) k (sym (w .count))) (starts-parts s), m .part .back)
 
 -- the table that stands there
 pub table-is : (s p : List ℕ) (k d : ℕ) (xs : List ℕ) → k ≡ length (bigrams s) → entriesAt 32 2 s p k d ≡ tallied (partsAt 32 2 s xs) →
@@ -149,11 +148,6 @@ unfolding tableAt tableOf
 table-is s p k d xs n e q =
     let es = e ∙ ap tallied q in
     λ i. record { total = n i; entries = es i }
-
--- ---- no empty word
-abbrev pub Filled : List (List ℕ) → Type 0
-Filled [] = Unit {0}
-Filled (w ∷ ws) = (0 < length w) × Filled ws
 
 -- the bytes of the words, and one for each
 sizes : List (List ℕ) → ℕ
@@ -172,19 +166,6 @@ split-sizes (x ∷ s) = go (eqb x 32) (split-sizes s)
     go : (t : Bool) → sizes (split 32 s) ≡ length s + 1 → sizes (cond t ([] ∷ split 32 s) (onFirst x (split 32 s))) ≡ length (x ∷ s) + 1
     go true e = omega arith
     go false e = omega (arith, on-first-sizes x (split 32 s) (partOf 32 1 s) (drop 1 (split 32 s)) (split-first s))
-
-filled-sizes : (ws : List (List ℕ)) → Filled ws → 2 * length (pairs ws) ≤ sizes ws - 1
-unfolding pairs sizes
-filled-sizes [] f = omega arith
-filled-sizes (a ∷ []) f = omega arith
-filled-sizes (a ∷ b ∷ ws) f =
-    let x = f .0 in
-    let y = f .1 .0 in
-    omega (arith, filled-sizes (b ∷ ws) (f .1))
-
-pub bigrams-half : (s : List ℕ) → Filled (split 32 s) → 2 * length (bigrams s) ≤ length s
-unfolding bigrams
-bigrams-half s f = omega (arith, filled-sizes (split 32 s) f, split-sizes s)
 
 -- no bigram is longer than the text
 pairs-short : (ws : List (List ℕ)) (n : ℕ) → sizes ws ≤ n → Each (λ (g : List ℕ). length g < n) (pairs ws)

@@ -20,7 +20,7 @@ use Rattle.sort_tally.specs.Group.{Group, groupStarts, counts, entriesAt, parts
 use Rattle.sort_order.proofs.PartLaws.{part-front, part-short}
 use Rattle.sort_tally.proofs.TallyLaws.{part, entries-read, groups-tallied}
 use Rattle.sort_tally.specs.Group.{Has, Climbing}
-use Rattle.sort_tally.proofs.StableLaws.{has-cases, has-here, has-more, has-none, climbing-skip, Kept, grouped, covered, group-has, group-count}
+use Rattle.sort_tally.proofs.StableLaws.{has-cases, has-here, has-more, has-none, climbing-skip, Represented, grouped, covered, group-has, group-count}
 use Rattle.prefix_list.specs.Listing.{plain}
 use Rattle.prefix_choice.specs.Choice.{Beaten, Grouping}
 use Rattle.prefix_choice.proofs.ReachLaws.{part-plain}
@@ -158,7 +158,7 @@ module _ (text p : List ℕ) (k d : ℕ) (ls : List (List ℕ)) (xs : List ℕ) 
     under : (a : ℕ) → Has a xs → (seen a ≤ seen best) × (seen a ≡ seen best → best ≤ a)
     under a l = at (covered 10 1 text k xs (t .listed .climbing) fits a l)
       where
-        at : Kept 10 1 text (groupStarts gs) a → (seen a ≤ seen best) × (seen a ≡ seen best → best ≤ a)
+        at : Represented 10 1 text (groupStarts gs) a → (seen a ≤ seen best) × (seen a ≡ seen best → best ≤ a)
         at r =
             let j : ℕ = r .at in
             let b : j < d = omega (arith, r .within, long) in

@@ -12,10 +12,10 @@ use lib.ListN.{length, take, drop, set, length-set, length-drop}
 use lib.Seq.{slice, slice-empty, paste, length-paste, take-paste, take-suc-set, take-take, drop-append-le, length-take-le, take-append-le}
 use borrow.Author.Tests.{lt-ltb, le-ltb}
 use Rattle.lists.proofs.SliceLaws.{part-at}
-use Rattle.slices.specs.declared.ends.Span.{Span}
+use Rattle.slices.specs.declared.ends.ByteSpan.{ByteSpan}
 use Rattle.preproc_table.specs.Entries.{startAt, endAt, lineAt, Apart}
 use Rattle.preproc_table.proofs.EntryLaws.{start-same, end-same, line-same}
-use Rattle.prefix_list.specs.Listing.{listed, startsFrom, Lies, Shared, ListStands}
+use Rattle.prefix_list.specs.Listing.{listed, startsFrom, PairLies, Shared, ListStands}
 use Rattle.prefix_list.proofs.ShareLaws.{rest, both, prefixes-step, prefixes-done}
 
 -- a prefix and a newline behind what stands
@@ -65,7 +65,7 @@ module _ (n count stop : ℕ) (area₀ table₀ : List ℕ) (apart : Apart n (4 
     abbrev from-end : (j : ℕ) → j < n + 1 → endAt table j ≡ endAt table₀ j
     from-end = end-same (n + 1) (2 * n + 2) (omega arith) table table₀ (l .table-low)
 
-    pub listing-lies : Lies area table i
+    pub listing-lies : PairLies area table i
     listing-lies =
         let a : i < n + 1 = omega arith in
         let b : i + 1 < n + 1 = omega arith in
@@ -76,7 +76,7 @@ module _ (n count stop : ℕ) (area₀ table₀ : List ℕ) (apart : Apart n (4 
           next-high = omega (arith, from-end (i + 1) b, apart .high (i + 1) (omega arith), l .area-long);
         }
 
-    module _ (s : Span) (sh : Shared area table i s) where
+    module _ (s : ByteSpan) (sh : Shared area table i s) where
       below : s .end ≤ endAt table₀ i
       below = omega (arith, sh .high, from-end i (omega arith))
 

@@ -14,10 +14,10 @@ use Rattle.rules.specs.Bytes.{space, trim, same}
 use Rattle.rules.specs.Prefix.{common, prefixes}
 use Rattle.rules.specs.Table.{occurs}
 use Rattle.slices.specs.Ends.{Bare}
-use Rattle.slices.specs.declared.ends.Span.{Span}
+use Rattle.slices.specs.declared.ends.ByteSpan.{ByteSpan}
 use Rattle.slices.proofs.EndLaws.{bare-within, bare-trim}
 use Rattle.preproc_table.specs.Entries.{startAt, endAt, lineAt, linesFrom, Apart}
-use Rattle.prefix_list.specs.Listing.{Lies, Shared, Home}
+use Rattle.prefix_list.specs.Listing.{PairLies, Shared, Home}
 
 pub common-front : (a b : List ℕ) → take (length (common a b)) a ≡ common a b
 unfolding common
@@ -43,7 +43,7 @@ common-short (x ∷ xs) (y ∷ ys) = go (eqb x y) (common-short xs ys)
 -- the span s of the first k bytes of the line, which are those in common
 module _ (area table : List ℕ) (i start end next stop k : ℕ)
     (e₁ : start ≡ startAt table i) (e₂ : end ≡ endAt table i) (e₃ : next ≡ startAt table (i + 1)) (e₄ : stop ≡ endAt table (i + 1))
-    (lies : Lies area table i)
+    (lies : PairLies area table i)
     (e₅ : k ≡ length (common (take (end - start) (drop start area)) (take (stop - next) (drop next area)))) where
   abbrev line : List ℕ
   line = take (end - start) (drop start area)
@@ -60,7 +60,7 @@ module _ (area table : List ℕ) (i start end next stop k : ℕ)
   front : take k line ≡ common line other
   front = rw e₅ (common-front line other)
 
-  module _ (s : Span) (p : ℕ → Bool) (b : Bare p (take k line) s) where
+  module _ (s : ByteSpan) (p : ℕ → Bool) (b : Bare p (take k line) s) where
     kept : s .end ≤ k
     kept = omega (arith, bare-within b .1, length-take-le k line shared-short)
 
@@ -124,7 +124,7 @@ module _ (area table : List ℕ) (i stop : ℕ) where
       go false = refl
 
 -- neighbours lie in the area
-pub lies-of : {n : ℕ} {table : List ℕ} {count : ℕ} (area : List ℕ) (i : ℕ) → Apart n (4 * n) table count → i + 1 < count → 4 * n ≤ length area → Lies area table i
+pub lies-of : {n : ℕ} {table : List ℕ} {count : ℕ} (area : List ℕ) (i : ℕ) → Apart n (4 * n) table count → i + 1 < count → 4 * n ≤ length area → PairLies area table i
 lies-of {n} {table} {count} area i a h l =
     record {
       order = a .order i (omega arith);
@@ -134,7 +134,7 @@ lies-of {n} {table} {count} area i a h l =
     }
 
 -- ---- where a prefix was taken from
-pub home-there : {n : ℕ} {area table : List ℕ} {count : ℕ} (i : ℕ) (w : List ℕ) (r : Span) → Apart n (4 * n) table count → i + 1 < count → Shared area table i r →
+pub home-there : {n : ℕ} {area table : List ℕ} {count : ℕ} (i : ℕ) (w : List ℕ) (r : ByteSpan) → Apart n (4 * n) table count → i + 1 < count → Shared area table i r →
     slice (r .start) (r .end) area ≡ w → Home n area w r
 home-there i w r a h s e =
     record {
@@ -145,7 +145,7 @@ home-there i w r a h s e =
     }
 
 module _ (area table : List ℕ) (i stop : ℕ) (w : List ℕ) where
-  pub home-next : (r : Span) → i + 1 < stop → Shared area table i r → same (take (r .end - r .start) (drop (r .start) area)) w ≡ false →
+  pub home-next : (r : ByteSpan) → i + 1 < stop → Shared area table i r → same (take (r .end - r .start) (drop (r .start) area)) w ≡ false →
       0 < occurs w (rest area table stop i) → 0 < occurs w (rest area table stop (i + 1))
   home-next r h s n o =
       let e : same (both area table i) w ≡ false = rw (← s .bytes, ← part-slice (r .start) (r .end) area) n in

@@ -6,14 +6,14 @@ use mathlib.Core.List.{List, [], _∷_, _++_}
 use Prim.Native.Nat.{ℕ, _+_, _*_, _≤_}
 use lib.ListN.{length, take}
 use lib.Seq.{slice}
-use Rattle.slices.specs.declared.ends.Span.{Span}
+use Rattle.slices.specs.declared.ends.ByteSpan.{ByteSpan}
 use Rattle.rules.specs.Bytes.{newline, every, trim}
 use Rattle.rules.specs.Prefix.{common}
 use Rattle.preproc_table.specs.Entries.{tableEnd, viewStart, startAt, endAt, lineAt}
 use Rattle.prefix_list.specs.declared.Listed.{Listed}
 
 -- the span r, in the lines' region, holds the bytes w
-pub record Home (n : ℕ) (area w : List ℕ) (r : Span) : Type 0 where
+pub record Home (n : ℕ) (area w : List ℕ) (r : ByteSpan) : Type 0 where
   pub low : n ≤ r .start
   pub order : r .start ≤ r .end
   pub high : r .end ≤ viewStart n
@@ -37,14 +37,14 @@ startsFrom a [] = []
 startsFrom a (q ∷ qs) = a ∷ startsFrom (a + length q + 1) qs
 
 -- the entries of lines i and i + 1 lie in the area
-pub record Lies (area table : List ℕ) (i : ℕ) : Type 0 where
+pub record PairLies (area table : List ℕ) (i : ℕ) : Type 0 where
   pub order : startAt table i ≤ endAt table i
   pub high : endAt table i ≤ length area
   pub next-order : startAt table (i + 1) ≤ endAt table (i + 1)
   pub next-high : endAt table (i + 1) ≤ length area
 
 -- the span r, inside line i, holds what lines i and i + 1 have in common, trimmed
-pub record Shared (area table : List ℕ) (i : ℕ) (r : Span) : Type 0 where
+pub record Shared (area table : List ℕ) (i : ℕ) (r : ByteSpan) : Type 0 where
   pub low : startAt table i ≤ r .start
   pub order : r .start ≤ r .end
   pub high : r .end ≤ endAt table i

@@ -9,7 +9,7 @@ ghost use Rattle.rules.specs.Prefix.{prefixes};
 ghost use Rattle.rules.specs.Table.{occurs};
 ghost use Rattle.slices.specs.Classes.{classTable};
 ghost use Rattle.preproc_table.specs.Entries.{viewStart, linesFrom, Apart};
-ghost use Rattle.prefix_list.specs.Listing.{Home, Lies, Shared, ListStands};
+ghost use Rattle.prefix_list.specs.Listing.{Home, PairLies, Shared, ListStands};
 ghost use mathlib.Core.List.{[], _∷_, _++_};
 ghost use Rattle.rules.specs.Sizes.{textMost, byteArea, wordArea};
 use preproc_table::line_end;
@@ -20,10 +20,10 @@ use rules::View;
 use slices::class::SPACE_HIGH;
 use slices::class::SPACE_LOW;
 use slices::copy::copy_up;
-use slices::ends::Span;
+use slices::ends::ByteSpan;
 use slices::ends::bare;
-use slices::two::common_len;
-use slices::two::equal;
+use slices_order::common_len;
+use slices_order::equal;
 
 // The first place in the view's lines where the prefix that stands from a up to b was taken from. Linear in the view's lines. The list
 // is written over by the joined view, and the lines stay.
@@ -36,7 +36,7 @@ pub fn home(
     v: View,
     a: usize,
     b: usize,
-) -> Span
+) -> ByteSpan
     requires { ⌜ (now class ≡ classTable) × Apart n (viewStart n) (now table) count × (v .start ≤ v .end) × (v .end ≤ count) × (2 * count ≤ length (now table)) × (viewStart n ≤ length (now area)) ⌝ }
     requires { ⌜ (a ≤ b) × (b ≤ length (now area)) × (0 < occurs (slice a b (now area)) (prefixes (linesFrom (now area) (now table) (v .start) (v .end - v .start)))) ⌝ }
     ensures { λ r. ⌜ Home n (now (area .entry)) (slice a b (now (area .entry))) r ⌝ }
@@ -53,7 +53,7 @@ pub fn home(
             return s;
         }
     }
-    Span { start: n, end: n }
+    ByteSpan { start: n, end: n }
 }
 
 // How the list stands: k prefixes, up to the byte `end` of the area.
@@ -63,8 +63,8 @@ pub struct Listed {
 }
 
 // What lines i and i + 1 have in common, trimmed, as bytes of line i. Linear in line i.
-pub fn shared(class: &[u8; 256], area: &[u8], table: &[u32], i: usize) -> Span
-    requires { ⌜ (now class ≡ classTable) × (2 * i + 3 < length (now table)) × Lies (now area) (now table) i ⌝ }
+pub fn shared(class: &[u8; 256], area: &[u8], table: &[u32], i: usize) -> ByteSpan
+    requires { ⌜ (now class ≡ classTable) × (2 * i + 3 < length (now table)) × PairLies (now area) (now table) i ⌝ }
     ensures { λ r. ⌜ Shared (now (area .entry)) (now (table .entry)) i r ⌝ }
 {
     let start = line_start(table, i);
@@ -75,7 +75,7 @@ pub fn shared(class: &[u8; 256], area: &[u8], table: &[u32], i: usize) -> Span
     let line = &area[start..end];
     let k = common_len(line, &area[next..stop]);
     let s = bare(class, SPACE_LOW, SPACE_HIGH, &line[..k]);
-    Span {
+    ByteSpan {
         start: start + s.start,
         end: start + s.end,
     }

@@ -159,19 +159,19 @@ pub spaced-within : (s : List ℕ) (at : ℕ) → at ≤ length s → at + space
 spaced-within s at h = omega (arith, spaced-length (drop at s), length-drop at s)
 
 -- a walk over the items from `at` on, which is at i
-pub record Listed (s : List ℕ) (at i : ℕ) : Type 0 where
+pub record ItemWalk (s : List ℕ) (at i : ℕ) : Type 0 where
   pub from : at ≤ i
   pub within : i ≤ length s
   pub count : i - at + items 0 (drop i s) ≡ items 0 (drop at s)
 
-pub listed-start : (s : List ℕ) (at : ℕ) → at ≤ length s → Listed s at at
+pub listed-start : (s : List ℕ) (at : ℕ) → at ≤ length s → ItemWalk s at at
 listed-start s at h = record { from = omega arith; within = h; count = omega arith }
 
 module _ {s : List ℕ} {at i n : ℕ} (e : n ≡ spaced (drop i s)) where
-  pub listed-end : n ≡ 0 → Listed s at i → i - at ≡ items 0 (drop at s)
+  pub listed-end : n ≡ 0 → ItemWalk s at i → i - at ≡ items 0 (drop at s)
   listed-end z l = omega (arith, items-none (drop i s) (sym e ∙ z))
 
-  pub listed-more : (n ≡ 0 → ⊥) → Listed s at i → Listed s at (i + n)
+  pub listed-more : (n ≡ 0 → ⊥) → ItemWalk s at i → ItemWalk s at (i + n)
   listed-more p l =
       let m : items 0 (drop i s) ≡ n + items 0 (drop (i + n) s) =
       items-more (drop i s) (λ z. p (e ∙ z)) ∙ rw (← e, drop-drop n i s) in

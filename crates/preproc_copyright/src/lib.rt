@@ -16,7 +16,7 @@ use slices::class::in_class;
 use slices::lead::byte_run;
 use slices::lead::line_len;
 use slices::lead::run_len;
-use slices::two::starts_with;
+use slices_order::starts_with;
 
 // After k bytes one line of spaces, `copyright` and anything, then two newlines. Reads the line only where `copyright` begins it, and
 // so each line once: from the two newlines before it.

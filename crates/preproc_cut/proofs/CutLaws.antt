@@ -18,9 +18,9 @@ use Rattle.rules.specs.Passes.{hitA, hitB, hitC, orElse, hit, withoutCopyright}
 use Rattle.rules.proofs.HitLaws.{Taken, hit-size}
 
 -- ---- where a hit can start
-pub inside : (s : List ℕ) → hit false false s ≡ hitA false s
+pub hit-inside : (s : List ℕ) → hit false false s ≡ hitA false s
 unfolding hit hitB hitC orElse
-inside s = at (hitA false s)
+hit-inside s = at (hitA false s)
   where
     at : (a : ℕ) → orElse a (orElse 0 0) ≡ a
     at zero = refl
@@ -28,7 +28,7 @@ inside s = at (hitA false s)
 
 pub inside-none : (s : List ℕ) (at : ℕ) → at < length s → (getD s at 0 ≡ 10 → ⊥) → hit false false (drop at s) ≡ 0
 unfolding hitA text starts
-inside-none s at h e = inside (drop at s) ∙ rw (drop-next s at h, ne-eqb 10 (getD s at 0) (λ q. e (sym q)))
+inside-none s at h e = hit-inside (drop at s) ∙ rw (drop-next s at h, ne-eqb 10 (getD s at 0) (λ q. e (sym q)))
 
 -- ---- k bytes belong to a hit already: what follows them, where the last of them tells whether a line starts
 skip : (start fresh : Bool) (k : ℕ) (l : List ℕ) → k < length l →

@@ -12,7 +12,7 @@ use Rattle.lists.proofs.WriteLaws.{Part, part-count, part-from, part-put, part-
 use Rattle.rules.specs.Bytes.{starts, trim, join}
 use Rattle.rules.specs.Prefix.{strip}
 use Rattle.rules.proofs.HitLaws.{starts-length}
-use Rattle.slices.specs.declared.ends.Span.{Span}
+use Rattle.slices.specs.declared.ends.ByteSpan.{ByteSpan}
 use Rattle.slices.specs.Classes.{classTable, spaceIn}
 use Rattle.slices.specs.Ends.{Bare}
 use Rattle.slices.proofs.EndLaws.{bare-within, bare-trim}
@@ -55,7 +55,7 @@ module _ (area table : List ℕ) (i : ℕ) (p : Prefix) where
     unfolding left lineAt
     left-plain f k = record { low = omega arith; order = omega arith; high = omega arith; bytes = rw (f, ← u, ← v) }
 
-    module _ (t : List ℕ) (k : ℕ) (s : Span) (q : Past area a e (p .at) (p .len) k) (b : Bare (spaceIn t) (take (e - k) (drop k area)) s) where
+    module _ (t : List ℕ) (k : ℕ) (s : ByteSpan) (q : Past area a e (p .at) (p .len) k) (b : Bare (spaceIn t) (take (e - k) (drop k area)) s) where
       pub left-within : (s .start ≤ s .end) × (k + s .end ≤ e)
       left-within =
           let w = bare-within b in
@@ -75,7 +75,7 @@ module _ (area table : List ℕ) (i : ℕ) (p : Prefix) where
             bytes = rw (f, ← u, ← v) (r ∙ ap trim (part-slice k e area ∙ q .rest));
           }
 
-  pub left-length : {r : Span} → endAt table i ≤ length area → Left area table i p r → length (left area p (lineAt area table i)) ≡ r .end - r .start
+  pub left-length : {r : ByteSpan} → endAt table i ≤ length area → Left area table i p r → length (left area p (lineAt area table i)) ≡ r .end - r .start
   left-length {r} h l = ap length (sym (l .bytes)) ∙ length-slice (r .start) (r .end) area (omega (arith, l .high))
 
 -- an area that is the same up to `to` has the same there
@@ -108,7 +108,7 @@ module _ (area table : List ℕ) (i end : ℕ) (p : Prefix) where
       rw q
 
 -- ---- what is left of line i, copied
-module _ {class area table : List ℕ} {i : ℕ} {p : Prefix} {to : ℕ} {s : Span} (q : Puts class area table i p to) (l : Left area table i p s) where
+module _ {class area table : List ℕ} {i : ℕ} {p : Prefix} {to : ℕ} {s : ByteSpan} (q : Puts class area table i p to) (l : Left area table i p s) where
   within : endAt table i ≤ length area
   within = omega (arith, q .below, q .room)
 

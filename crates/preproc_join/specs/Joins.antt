@@ -9,7 +9,7 @@ use lib.Seq.{slice}
 use Rattle.lists.specs.Wrote.{InFront}
 use Rattle.rules.specs.Bytes.{starts}
 use Rattle.rules.specs.Prefix.{strip}
-use Rattle.slices.specs.declared.ends.Span.{Span}
+use Rattle.slices.specs.declared.ends.ByteSpan.{ByteSpan}
 use Rattle.slices.specs.Classes.{classTable}
 use Rattle.preproc_table.specs.Entries.{startAt, endAt, lineAt, linesFrom}
 use Rattle.preproc_join.specs.declared.Prefix.{Prefix}
@@ -31,7 +31,7 @@ unfoldable pub left : List ℕ → Prefix → List ℕ → List ℕ
 left area p l = cond (p .strip) (strip (bytesOf area p) l) l
 
 -- it stands in r, within the line
-pub record Left (area table : List ℕ) (i : ℕ) (p : Prefix) (r : Span) : Type 0 where
+pub record Left (area table : List ℕ) (i : ℕ) (p : Prefix) (r : ByteSpan) : Type 0 where
   pub low : startAt table i ≤ r .start
   pub order : r .start ≤ r .end
   pub high : r .end ≤ endAt table i

@@ -14,9 +14,9 @@ use preproc_table::line_start;
 use slices::class::SPACE_HIGH;
 use slices::class::SPACE_LOW;
 use slices::copy::copy_up;
-use slices::ends::Span;
+use slices::ends::ByteSpan;
 use slices::ends::bare;
-use slices::two::starts_with;
+use slices_order::starts_with;
 
 // Whether a prefix is to be stripped, and where its bytes stand.
 pub struct Prefix {
@@ -38,7 +38,7 @@ fn past_prefix(area: &[u8], a: usize, e: usize, at: usize, len: usize) -> usize
 }
 
 // What is left of line i.
-fn line_part(class: &[u8; 256], area: &[u8], table: &[u32], i: usize, p: Prefix) -> Span
+fn line_part(class: &[u8; 256], area: &[u8], table: &[u32], i: usize, p: Prefix) -> ByteSpan
     requires { ⌜ (now class ≡ classTable) × (2 * i + 1 < length (now table)) × (startAt (now table) i ≤ endAt (now table) i) × (endAt (now table) i ≤ length (now area)) × (p .at + p .len ≤ length (now area)) ⌝ }
     ensures { λ r. ⌜ Left (now (area .entry)) (now (table .entry)) i p r ⌝ }
 {
@@ -47,12 +47,12 @@ fn line_part(class: &[u8; 256], area: &[u8], table: &[u32], i: usize, p: Prefix)
     if p.strip {
         let k = past_prefix(area, a, e, p.at, p.len);
         let s = bare(class, SPACE_LOW, SPACE_HIGH, &area[k..e]);
-        return Span {
+        return ByteSpan {
             start: k + s.start,
             end: k + s.end,
         };
     }
-    Span { start: a, end: e }
+    ByteSpan { start: a, end: e }
 }
 
 // What is left of line i, copied to `to`; answers where it ends.

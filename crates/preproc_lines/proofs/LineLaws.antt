@@ -13,7 +13,7 @@ use Rattle.lists.proofs.ChainLaws.{front-of, wrote-behind, wrote-before, wrote-
 use Rattle.rules.specs.Bytes.{text, among, space, dropped, keep, runs, trim}
 use Rattle.rules.specs.Lines.{urls, gap, signs, lineBy, line}
 use Rattle.rules.proofs.GrowthLaws.{keep-length, runs-length, urls-length}
-use Rattle.slices.specs.declared.ends.Span.{Span}
+use Rattle.slices.specs.declared.ends.ByteSpan.{ByteSpan}
 use Rattle.slices.specs.Ends.{Bare}
 use Rattle.slices.proofs.EndLaws.{bare-within, bare-trim}
 use Rattle.preproc_lines.specs.Placed.{untrimmed, Filled, Placed}
@@ -77,10 +77,10 @@ module _ (src : List ℕ) (to : ℕ) {d₀ d₁ : List ℕ} {n₂ : ℕ} (fits :
         ∙ part-slice (length src) to d₀
 
     -- what they leave, with the part back in its place
-    pub filled : {n₅ : ℕ} (ys post : List ℕ) → length d₂ ≡ length d₁ → InFront (signs (runs gap 32 false (take (e - to) (take (length d₂ - to) (drop to d₂))))) n₅ ys →
+    pub fill-done : {n₅ : ℕ} (ys post : List ℕ) → length d₂ ≡ length d₁ → InFront (signs (runs gap 32 false (take (e - to) (take (length d₂ - to) (drop to d₂))))) n₅ ys →
         Filled src d₀ to (to + n₅) (take to d₂ ++ (ys ++ post))
     unfolding untrimmed
-    filled {n₅} ys post long f =
+    fill-done {n₅} ys post long f =
         let l : length (take to d₂) ≡ to = length-take-le to d₂ (omega arith) in
         let g : InFront (signs (runs gap 32 false (urls false (kept src)))) n₅ ys = rw three-part at f in
         record {
@@ -91,7 +91,7 @@ module _ (src : List ℕ) (to : ℕ) {d₀ d₁ : List ℕ} {n₂ : ℕ} (fits :
         }
 
 -- ---- pass 6: the ends
-module _ {src d₀ d : List ℕ} {to r : ℕ} {p : ℕ → Bool} {s : Span} (f : Filled src d₀ to r d) (b : Bare p (take (r - to) (drop to d)) s) where
+module _ {src d₀ d : List ℕ} {to r : ℕ} {p : ℕ → Bool} {s : ByteSpan} (f : Filled src d₀ to r d) (b : Bare p (take (r - to) (drop to d)) s) where
   pub bare-most : (s .start ≤ s .end) × (to + s .end ≤ r)
   bare-most =
       let w = bare-within b in

@@ -1,4 +1,4 @@
--- The walk over a text's lines. `Going text area table at to count`: `count` lines are there, the text is done up to `at`, and the next line
+-- The walk over a text's lines. `Normalising text area table at to count`: `count` lines are there, the text is done up to `at`, and the next line
 -- goes to `to`.
 --     going-start     with none done
 --     piece-within, piece-length     the next line lies in the text, as long as it was counted
@@ -21,7 +21,7 @@ use Rattle.lists.proofs.SliceLaws.{slice-within}
 use Rattle.rules.specs.Bytes.{newline, lead, lineLen, split, onFirst}
 use Rattle.rules.specs.Lines.{line, lines}
 use Rattle.rules.proofs.RefusalLaws.{lines-count}
-use Rattle.slices.specs.declared.ends.Span.{Span}
+use Rattle.slices.specs.declared.ends.ByteSpan.{ByteSpan}
 use Rattle.slices.proofs.EndLaws.{lead-most}
 use Rattle.preproc_lines.specs.Placed.{Placed}
 use Rattle.preproc_table.specs.Entries.{startAt, endAt, lineAt, linesFrom, linesAt, entrySet, Apart}
@@ -79,7 +79,7 @@ rest-next at t h =
     ∙ ap (λ (ls : List (List ℕ)). take (lineLen (drop at t)) (drop at t) ∷ ls) (rest-drop at (lineLen (drop at t) + 1) t h)
 
 -- ---- the walk
-pub record Going (text area table : List ℕ) (at to count : ℕ) : Type 0 where
+pub record Normalising (text area table : List ℕ) (at to count : ℕ) : Type 0 where
   pub few : count ≤ at
   pub within : at ≤ length text + 1
   pub low : length text ≤ to
@@ -89,7 +89,7 @@ pub record Going (text area table : List ℕ) (at to count : ℕ) : Type 0 where
   pub apart : Apart (length text) (4 * length text) table count
   pub there : linesAt area table count ++ map line (restOf at text) ≡ lines text
 
-pub going-start : (text area table : List ℕ) → Going text area table 0 (length text) 0
+pub going-start : (text area table : List ℕ) → Normalising text area table 0 (length text) 0
 unfolding linesAt linesFrom lines
 going-start text area table =
     record {
@@ -128,7 +128,7 @@ module _ (text : List ℕ) (at m : ℕ) (e : m ≡ lineLen (drop at text)) (h : 
       let k : at + m - at ≡ m = omega arith in
       rw k (length-take-le m (drop at text) (omega (arith, piece-within, length-drop at text)))
 
-  module _ {area area′ table : List ℕ} {to count : ℕ} {r : Span} (g : Going text area table at to count) (p : Placed piece area to r area′) (room : 2 * count + 1 < length table) where
+  module _ {area area′ table : List ℕ} {to count : ℕ} {r : ByteSpan} (g : Normalising text area table at to count) (p : Placed piece area to r area′) (room : 2 * count + 1 < length table) where
     abbrev now-written : List ℕ
     now-written = entrySet table count (r .start) (r .end)
 
@@ -180,7 +180,7 @@ module _ (text : List ℕ) (at m : ℕ) (e : m ≡ lineLen (drop at text)) (h : 
         last-line′ : lineAt area′ now-written (0 + count) ≡ line (take (lineLen (drop at text)) (drop at text))
         last-line′ = let z : 0 + count ≡ count = omega arith in rw z last-line
 
-    pub going-on : Going text area′ now-written (at + m + 1) (r .end + 1) (count + 1)
+    pub going-on : Normalising text area′ now-written (at + m + 1) (r .end + 1) (count + 1)
     going-on =
         record {
           few = omega (arith, g .few);
@@ -198,7 +198,7 @@ module _ (text : List ℕ) (at m : ℕ) (e : m ≡ lineLen (drop at text)) (h : 
             let k : at + m + 1 ≡ at + (lineLen (drop at text) + 1) = omega (arith, e) in
             rw (step-lines, append-assoc, k) (ap (λ (ls : List (List ℕ)). linesAt area table count ++ map line ls) (sym (rest-next at text h)) ∙ g .there)
 
-pub going-end : {text area table : List ℕ} {at to count : ℕ} → length text < at → Going text area table at to count → Normalised text area table count
+pub going-end : {text area table : List ℕ} {at to count : ℕ} → length text < at → Normalising text area table at to count → Normalised text area table count
 unfolding linesAt
 going-end {text} {area} {table} {at} {to} {count} h g =
     let e : linesFrom area table 0 count ≡ lines text = rw (rest-none at text h, append-nil) at (g .there) in

@@ -8,7 +8,7 @@ use lib.ListN.{length}
 use lib.Seq.{slice}
 use Rattle.rules.specs.Bytes.{dropped, keep, runs}
 use Rattle.rules.specs.Lines.{urls, gap, signs, line}
-use Rattle.slices.specs.declared.ends.Span.{Span}
+use Rattle.slices.specs.declared.ends.ByteSpan.{ByteSpan}
 
 -- what line passes 2 to 5 make of a line
 unfoldable pub untrimmed : List ℕ → List ℕ
@@ -22,7 +22,7 @@ pub record Filled (src d₀ : List ℕ) (to r : ℕ) (d : List ℕ) : Type 0 whe
   pub same : slice (length src) to d ≡ slice (length src) to d₀
 
 -- the span r, at or behind `to`, holds the line that src becomes; between the scratch front and `to` nothing changed
-pub record Placed (src d₀ : List ℕ) (to : ℕ) (r : Span) (d : List ℕ) : Type 0 where
+pub record Placed (src d₀ : List ℕ) (to : ℕ) (r : ByteSpan) (d : List ℕ) : Type 0 where
   pub low : to ≤ r .start
   pub order : r .start ≤ r .end
   pub high : r .end ≤ to + 3 * length src

@@ -13,7 +13,7 @@ use slices::class::DROPPED_HIGH;
 use slices::class::DROPPED_LOW;
 use slices::class::SPACE_HIGH;
 use slices::class::SPACE_LOW;
-use slices::ends::Span;
+use slices::ends::ByteSpan;
 use slices::ends::bare;
 
 // Line passes 2 to 5 over src, made from `to` on; answers where that ends. A constant number of walks.
@@ -29,13 +29,13 @@ pub fn fill_line(class: &[u8; 256], src: &[u8], area: &mut [u8], to: usize) -> u
 }
 
 // Line passes 2 to 6 over src, made from `to` on; answers where the trimmed line stands.
-pub fn put_line(class: &[u8; 256], src: &[u8], area: &mut [u8], to: usize) -> Span
+pub fn put_line(class: &[u8; 256], src: &[u8], area: &mut [u8], to: usize) -> ByteSpan
     requires { ⌜ (now class ≡ classTable) × (length (now src) ≤ to) × (to + 3 * length (now src) ≤ length (now area)) ⌝ }
     ensures { λ r. ⌜ Placed (now (src .entry)) (now (area .entry)) to r (now (area .exit)) ⌝ }
 {
     let end = fill_line(class, src, area, to);
     let s = bare(class, SPACE_LOW, SPACE_HIGH, &area[to..end]);
-    Span {
+    ByteSpan {
         start: to + s.start,
         end: to + s.end,
     }

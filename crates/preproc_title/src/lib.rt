@@ -11,7 +11,7 @@ use slices::class::SPACE_HIGH;
 use slices::class::SPACE_LOW;
 use slices::lead::line_len;
 use slices::lead::other_len;
-use slices::two::starts_with;
+use slices_order::starts_with;
 
 // The line ends here, or goes on with ` copyright`.
 fn title_end(s: &[u8], at: usize) -> bool

@@ -14,7 +14,7 @@ use slices::class::SPACE_HIGH;
 use slices::class::SPACE_LOW;
 use slices::class::in_class;
 use slices::copy::put;
-use slices::two::starts_with;
+use slices_order::starts_with;
 
 // At the place stands a byte that is no space.
 fn solid_at(class: &[u8; 256], s: &[u8], at: usize) -> bool

@@ -11,7 +11,7 @@ use Rattle.lists.specs.Wrote.{InFront}
 use Rattle.lists.proofs.SliceLaws.{part-slice, part-rest, slice-shift, slice-first}
 use Rattle.rules.specs.Bytes.{within, space, word, keep, runs, trim}
 use Rattle.rules.specs.Passes.{lowered, withoutTitle, withoutCopyright, passes}
-use Rattle.slices.specs.declared.ends.Span.{Span}
+use Rattle.slices.specs.declared.ends.ByteSpan.{ByteSpan}
 use Rattle.slices.specs.Classes.{classTable, keptIn, spaceIn, verticalIn}
 use Rattle.slices.specs.Ends.{Bare}
 use Rattle.slices.proofs.EndLaws.{bare-within, bare-trim}
@@ -29,7 +29,7 @@ module _ (t : List ℕ) (e : t ≡ classTable) where
       ap (λ (l : List ℕ). map lowered (keep (λ x. word x || space x) l)) (vertical-capped 0 s)
 
   -- what is bare of the spaces around it, of the first n
-  pub last-row : (s : List ℕ) {d : List ℕ} {n : ℕ} {r : Span} → InFront (runs (spaceIn t) 32 false (withoutCopyright true true 0 s)) n d →
+  pub last-row : (s : List ℕ) {d : List ℕ} {n : ℕ} {r : ByteSpan} → InFront (runs (spaceIn t) 32 false (withoutCopyright true true 0 s)) n d →
       Bare (spaceIn t) (take n d) r → StandsAt (lastPasses s) d r
   unfolding lastPasses
   last-row s {d} {n} {r} f b =
@@ -46,7 +46,7 @@ module _ (t : List ℕ) (e : t ≡ classTable) where
       }
 
 -- what stands in a part d that was lent from t on stands there in the whole; e stands behind the part
-pub stands-lent : {out : List ℕ} {r : Span} (t : ℕ) (b d e : List ℕ) → t ≤ length b → StandsAt out d r →
+pub stands-lent : {out : List ℕ} {r : ByteSpan} (t : ℕ) (b d e : List ℕ) → t ≤ length b → StandsAt out d r →
     StandsAt out (take t b ++ (d ++ e)) (record { start = t + r .start; end = t + r .end })
 stands-lent {out} {r} t b d e h p =
     let k : length (take t b) ≡ t = length-take-le t b h in
@@ -59,7 +59,7 @@ stands-lent {out} {r} t b d e h p =
     }
 
 -- the title's bytes go, and the last passes work behind them, on the part that is lent
-pub whole-row : (s b d e : List ℕ) (m title : ℕ) (r : Span) → InFront (firstPasses s) m b → title ≤ length (take m b) →
+pub whole-row : (s b d e : List ℕ) (m title : ℕ) (r : ByteSpan) → InFront (firstPasses s) m b → title ≤ length (take m b) →
     withoutTitle (take m b) ≡ drop title (take m b) →
     StandsAt (lastPasses (take (m - title) (take (length b - title) (drop title b)))) d r →
     StandsAt (passes s) (take title b ++ (d ++ e)) (record { start = title + r .start; end = title + r .end })

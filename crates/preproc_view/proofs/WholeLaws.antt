@@ -14,7 +14,7 @@ use Rattle.rules.specs.Prefix.{strip, withoutPrefix}
 use Rattle.rules.specs.Passes.{passes, aggressive}
 use Rattle.rules.proofs.BoolLaws.{cond-of}
 use Rattle.rules.proofs.GrowthLaws.{trim-length}
-use Rattle.slices.specs.declared.ends.Span.{Span}
+use Rattle.slices.specs.declared.ends.ByteSpan.{ByteSpan}
 use Rattle.preproc_table.specs.Entries.{viewStart, startAt, endAt, lineAt, linesFrom, Apart}
 use Rattle.preproc_join.specs.declared.Prefix.{Prefix}
 use Rattle.preproc_join.specs.Joins.{bytesOf, left, viewLines, Below, Joined}
@@ -75,7 +75,7 @@ module _ {class area table : List ℕ} {n : ℕ} {v : View} {p : Prefix} (q : Re
   ready-room = omega (arith, q .room, q .order, join-fits area table p (q .apart) (v .start) (v .end - v .start) (omega (arith, q .order)))
 
   -- joined from where a view begins, and then the passes on the part that is lent from there on
-  pub all-passes : {to : ℕ} → to ≡ viewStart n → {len : ℕ} (b d e : List ℕ) {r : Span} →
+  pub all-passes : {to : ℕ} → to ≡ viewStart n → {len : ℕ} (b d e : List ℕ) {r : ByteSpan} →
       Joined (join (viewLines area table (v .start) (v .end) p)) area to len b → to ≤ length b →
       StandsAt (passes (take len (take (length b - to) (drop to b)))) d r →
       ViewProcessed (viewAt area table v) n area (record { start = to + r .start; end = to + r .end }) (take to b ++ (d ++ e))

@@ -8,7 +8,7 @@ use Rattle.rules.specs.declared.View.{View}
 use Rattle.rules.specs.Sizes.{byteArea}
 use Rattle.rules.specs.Prefix.{withoutPrefix}
 use Rattle.rules.specs.Passes.{aggressive}
-use Rattle.slices.specs.declared.ends.Span.{Span}
+use Rattle.slices.specs.declared.ends.ByteSpan.{ByteSpan}
 use Rattle.slices.specs.Classes.{classTable}
 use Rattle.preproc_table.specs.Entries.{viewStart, linesFrom, Apart}
 use Rattle.preproc_join.specs.declared.Prefix.{Prefix}
@@ -33,7 +33,7 @@ pub record StripsAs (area : List ℕ) (n : ℕ) (ls : List (List ℕ)) (p : Pref
   pub lines : withoutPrefix ls ≡ map (left area p) ls
 
 -- the processed text stands in r, behind the lines, and what stands below 4n is as it was
-pub record ViewProcessed (ls : List (List ℕ)) (n : ℕ) (d₀ : List ℕ) (r : Span) (d : List ℕ) : Type 0 where
+pub record ViewProcessed (ls : List (List ℕ)) (n : ℕ) (d₀ : List ℕ) (r : ByteSpan) (d : List ℕ) : Type 0 where
   pub stands : StandsAt (aggressive ls) d r
   pub behind : viewStart n ≤ r .start
   pub below : take (viewStart n) d ≡ take (viewStart n) d₀

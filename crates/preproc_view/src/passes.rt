@@ -23,7 +23,7 @@ use slices::class::UPPER;
 use slices::class::VERTICAL_HIGH;
 use slices::class::VERTICAL_LOW;
 use slices::class::in_class;
-use slices::ends::Span;
+use slices::ends::ByteSpan;
 use slices::ends::bare;
 
 // A byte in lower case.
@@ -52,7 +52,7 @@ pub fn lower_in(class: &[u8; 256], buf: &mut [u8], n: usize) -> usize
 }
 
 // Passes 6 to 8: where the result stands among the first n.
-fn last_passes(class: &[u8; 256], buf: &mut [u8], n: usize) -> Span
+fn last_passes(class: &[u8; 256], buf: &mut [u8], n: usize) -> ByteSpan
     requires { ⌜ (now class ≡ classTable) × (n ≤ length (now buf)) ⌝ }
     ensures { λ r. ⌜ StandsAt (lastPasses (take n (now (buf .entry)))) (now (buf .exit)) r ⌝ }
 {
@@ -72,7 +72,7 @@ fn first_passes(class: &[u8; 256], buf: &mut [u8], n: usize) -> usize
 }
 
 // Passes 2 to 8: where the processed text stands. The title only moves its start.
-pub fn passes(class: &[u8; 256], buf: &mut [u8], n: usize) -> Span
+pub fn passes(class: &[u8; 256], buf: &mut [u8], n: usize) -> ByteSpan
     requires { ⌜ (now class ≡ classTable) × (n ≤ length (now buf)) ⌝ }
     ensures { λ r. ⌜ StandsAt (Passes.passes (take n (now (buf .entry)))) (now (buf .exit)) r ⌝ }
 {
@@ -80,7 +80,7 @@ pub fn passes(class: &[u8; 256], buf: &mut [u8], n: usize) -> Span
     let title = title_len(class, &buf[..n4]);
     let m = n4 - title;
     let s = last_passes(class, &mut buf[title..], m);
-    Span {
+    ByteSpan {
         start: title + s.start,
         end: title + s.end,
     }

@@ -14,7 +14,7 @@ use preproc_join::Prefix;
 use preproc_join::join_lines;
 use preproc_table::view_start;
 use rules::View;
-use slices::ends::Span;
+use slices::ends::ByteSpan;
 
 // Where the processed text of the view stands, with what pass 1 strips. Linear in the bytes of the view's lines.
 fn process_with(
@@ -24,21 +24,27 @@ fn process_with(
     n: usize,
     v: View,
     p: Prefix,
-) -> Span
+) -> ByteSpan
     requires { ⌜ Ready (now class) (now area) (now table) n v × StripsAs (now area) n (viewAt (now area) (now table) v) p ⌝ }
     ensures { λ r. ⌜ ViewProcessed (viewAt (now (area .entry)) (now (table .entry)) v) n (now (area .entry)) r (now (area .exit)) ⌝ }
 {
     let to = view_start(n);
     let len = join_lines(class, area, table, v.start, v.end, p, to);
     let s = passes(class, &mut area[to..], len);
-    Span {
+    ByteSpan {
         start: to + s.start,
         end: to + s.end,
     }
 }
 
 // The same where pass 1 strips nothing.
-pub fn process_plain(class: &[u8; 256], area: &mut [u8], table: &[u32], n: usize, v: View) -> Span
+pub fn process_plain(
+    class: &[u8; 256],
+    area: &mut [u8],
+    table: &[u32],
+    n: usize,
+    v: View,
+) -> ByteSpan
     requires { ⌜ Ready (now class) (now area) (now table) n v × (withoutPrefix (viewAt (now area) (now table) v) ≡ viewAt (now area) (now table) v) ⌝ }
     ensures { λ r. ⌜ ViewProcessed (viewAt (now (area .entry)) (now (table .entry)) v) n (now (area .entry)) r (now (area .exit)) ⌝ }
 {
@@ -59,7 +65,7 @@ pub fn process_stripped(
     v: View,
     s: usize,
     e: usize,
-) -> Span
+) -> ByteSpan
     requires { ⌜ Ready (now class) (now area) (now table) n v × (s ≤ e) × (e ≤ viewStart n) × (withoutPrefix (viewAt (now area) (now table) v) ≡ map (strip (slice s e (now area))) (viewAt (now area) (now table) v)) ⌝ }
     ensures { λ r. ⌜ ViewProcessed (viewAt (now (area .entry)) (now (table .entry)) v) n (now (area .entry)) r (now (area .exit)) ⌝ }
 {

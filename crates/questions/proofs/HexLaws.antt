@@ -13,7 +13,7 @@ use Rattle.lists.specs.Tables.{tab}
 use Rattle.lists.proofs.TableLaws.{tab-at}
 use Rattle.rules.specs.Bytes.{every}
 use Rattle.rules.proofs.BoolLaws.{and-left, and-right}
-use Rattle.questions.specs.Hex.{hexValue, hexByte, unhexed, hexGlyph, pairs, hexed}
+use Rattle.questions.specs.Hex.{hexValue, hexByte, unhexed, hexGlyph, hexPairs, hexed}
 
 module _ (s : List ℕ) (i : ℕ) where
   pub unhex-next : i + 1 < length s → unhexed (drop i s) ≡ hexByte (getD s i 0) (getD s (i + 1) 0) ∷ unhexed (drop (i + 1 + 1) s)
@@ -30,12 +30,12 @@ module _ (s : List ℕ) (i : ℕ) where
       at true e = rw (drop-done s i (leb-true (length s) i e))
       at false e = rw (drop-next s i (leb-false (length s) i e), drop-done s (i + 1) h)
 
-  pub pairs-next : (a b : ℕ) → i < length s → a ≡ hexGlyph (getD s i 0 / 16) → b ≡ hexGlyph (getD s i 0 % 16) → pairs (drop i s) ≡ a ∷ b ∷ pairs (drop (i + 1) s)
-  unfolding pairs
+  pub pairs-next : (a b : ℕ) → i < length s → a ≡ hexGlyph (getD s i 0 / 16) → b ≡ hexGlyph (getD s i 0 % 16) → hexPairs (drop i s) ≡ a ∷ b ∷ hexPairs (drop (i + 1) s)
+  unfolding hexPairs
   pairs-next a b h p q = rw (drop-next s i h, p, q)
 
-  pub pairs-done : length s ≤ i → pairs (drop i s) ≡ []
-  unfolding pairs
+  pub pairs-done : length s ≤ i → hexPairs (drop i s) ≡ []
+  unfolding hexPairs
   pairs-done h = rw (drop-done s i h)
 
 pub unhex-length : (s : List ℕ) → 2 * length (unhexed s) ≤ length s
@@ -44,8 +44,8 @@ unhex-length [] = omega arith
 unhex-length (x ∷ []) = omega arith
 unhex-length (x ∷ y ∷ s) = omega (arith, unhex-length s)
 
-pub pairs-length : (s : List ℕ) → length (pairs s) ≡ 2 * length s
-unfolding pairs
+pub pairs-length : (s : List ℕ) → length (hexPairs s) ≡ 2 * length s
+unfolding hexPairs
 pairs-length [] = refl
 pairs-length (x ∷ s) = omega (arith, pairs-length s)
 
@@ -57,7 +57,7 @@ hexed-none (x ∷ s) h = absurd (none h)
     none : suc (length s) ≡ 0 → ⊥
     none h = omega arith
 
-pub hexed-some : (s : List ℕ) → (length s ≡ 0 → ⊥) → hexed s ≡ pairs s
+pub hexed-some : (s : List ℕ) → (length s ≡ 0 → ⊥) → hexed s ≡ hexPairs s
 unfolding hexed
 hexed-some [] h = absurd (h refl)
 hexed-some (x ∷ s) h = refl
@@ -81,8 +81,8 @@ glyphs = refl
 glyph-value : (n : ℕ) → n < 16 → hexValue (hexGlyph n) ≡ n
 glyph-value n h = sym (tab-at 16 (λ k. hexValue (hexGlyph k)) n h) ∙ ap (λ (l : List ℕ). getD l n 0) glyphs ∙ tab-at 16 (λ k. k) n h
 
-pairs-back : (s : List ℕ) → every (λ x. ltb x 256) s ≡ true → unhexed (pairs s) ≡ s
-unfolding unhexed pairs every
+pairs-back : (s : List ℕ) → every (λ x. ltb x 256) s ≡ true → unhexed (hexPairs s) ≡ s
+unfolding unhexed hexPairs every
 pairs-back [] e = refl
 pairs-back (x ∷ s) e =
     let h : x < 256 = ltb-true x 256 (and-left (ltb x 256) (every (λ y. ltb y 256) s) e) in

@@ -2,4 +2,3 @@ pub mod HexLaws
 pub mod WordLaws
 pub mod NumberLaws
 pub mod PutLaws
-pub mod FitLaws

@@ -10,15 +10,15 @@ use lib.Dec.{ltb}
 use lib.ListN.{length, drop, getD, length-append}
 use borrow.Author.Tests.{lt-ltb, le-ltb, ltb-true, ltb-false}
 use Rattle.lists.proofs.SliceLaws.{drop-next, drop-done}
-use Rattle.questions.specs.Numbers.{read, digits, decimal}
+use Rattle.questions.specs.Numbers.{readDigits, digits, decimal}
 
 module _ (more : ℕ → ℕ → ℕ) (s : List ℕ) (v i : ℕ) where
-  pub read-next : i < length s → read more v (drop i s) ≡ read more (more v (getD s i 0)) (drop (i + 1) s)
-  unfolding read
+  pub read-next : i < length s → readDigits more v (drop i s) ≡ readDigits more (more v (getD s i 0)) (drop (i + 1) s)
+  unfolding readDigits
   read-next h = rw (drop-next s i h)
 
-  pub read-done : length s ≤ i → read more v (drop i s) ≡ v
-  unfolding read
+  pub read-done : length s ≤ i → readDigits more v (drop i s) ≡ v
+  unfolding readDigits
   read-done h = rw (drop-done s i h)
 
 -- ---- decimals

@@ -6,12 +6,12 @@ use mathlib.Core.List.{List, []}
 use Prim.Native.Nat.{ℕ, zero, suc, _+_, _-_, _≤_, _<_, min}
 use native.Mathlib.Omega.{arith}
 use lib.Dec.{leb}
-use lib.ListN.{length, take, drop, length-drop, length-take}
-use lib.Seq.{slice, drop-drop, length-take-le, take-all, take-take}
+use lib.ListN.{length, take, drop, length-take}
+use lib.Seq.{slice, drop-drop, take-all, take-take}
 use borrow.Author.Tests.{leb-true, leb-false}
 use Rattle.lists.proofs.SliceLaws.{part-at, part-slice, drop-done}
 use Rattle.rules.specs.Bytes.{lead}
-use Rattle.slices.specs.declared.ends.Span.{Span}
+use Rattle.slices.specs.declared.ends.ByteSpan.{ByteSpan}
 use Rattle.questions.specs.Words.{upTo, wordOf, Marked, WordAt}
 
 pub word-none : (k : ℕ) → wordOf k [] ≡ []
@@ -36,15 +36,10 @@ module _ {s : List ℕ} {at r : ℕ} (m : Marked 32 s at r) where
   pub word-last : (k : ℕ) → 0 < k → length s ≤ r → wordOf k (drop at s) ≡ []
   word-last k h l = word-behind k h ∙ rw (drop-done s (r + 1) (omega arith)) (word-none (k - 1))
 
--- a word as a part of its line, and its length
-module _ {k : ℕ} {s : List ℕ} {r : Span} (w : WordAt k s r) where
+-- a word as a part of its line
+module _ {k : ℕ} {s : List ℕ} {r : ByteSpan} (w : WordAt k s r) where
   pub word-part : take (r .end - r .start) (drop (r .start) s) ≡ wordOf k s
   word-part = part-slice (r .start) (r .end) s ∙ w .bytes
-
-  pub word-length : length (wordOf k s) ≡ r .end - r .start
-  word-length =
-      ap length (sym word-part)
-      ∙ length-take-le (r .end - r .start) (drop (r .start) s) (rw length-drop (omega (arith, w .order, w .within)))
 
   -- the first bytes of a word
   pub word-front : (most e : ℕ) → e ≡ r .start + min (r .end - r .start) most → take (e - r .start) (drop (r .start) s) ≡ take most (wordOf k s)

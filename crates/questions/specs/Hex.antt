@@ -21,10 +21,10 @@ unhexed (x ∷ y ∷ s) = hexByte x y ∷ unhexed s
 unfoldable pub hexGlyph : ℕ → ℕ
 hexGlyph n = cond (ltb n 10) (48 + n) (87 + n)
 
-unfoldable pub pairs : List ℕ → List ℕ
-pairs [] = []
-pairs (x ∷ s) = hexGlyph (x / 16) ∷ hexGlyph (x % 16) ∷ pairs s
+unfoldable pub hexPairs : List ℕ → List ℕ
+hexPairs [] = []
+hexPairs (x ∷ s) = hexGlyph (x / 16) ∷ hexGlyph (x % 16) ∷ hexPairs s
 
 unfoldable pub hexed : List ℕ → List ℕ
 hexed [] = 45 ∷ []
-hexed (x ∷ s) = pairs (x ∷ s)
+hexed (x ∷ s) = hexPairs (x ∷ s)

@@ -3,4 +3,3 @@ pub mod Words
 pub mod Hex
 pub mod Numbers
 pub mod Fields
-pub mod Views

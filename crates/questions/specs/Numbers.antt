@@ -7,9 +7,9 @@ use lib.Dec.{ltb}
 use Rattle.questions.specs.Hex.{hexValue}
 
 -- all digits, after v
-unfoldable pub read : (ℕ → ℕ → ℕ) → ℕ → List ℕ → ℕ
-read more v [] = v
-read more v (x ∷ s) = read more (more v x) s
+unfoldable pub readDigits : (ℕ → ℕ → ℕ) → ℕ → List ℕ → ℕ
+readDigits more v [] = v
+readDigits more v (x ∷ s) = readDigits more (more v x) s
 
 -- 0-9; any other byte is worth nothing
 unfoldable pub digitValue : ℕ → ℕ

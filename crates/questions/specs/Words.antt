@@ -8,7 +8,7 @@ use lib.Dec.{eqb}
 use lib.ListN.{length, take, drop}
 use lib.Seq.{slice}
 use Rattle.rules.specs.Bytes.{lead}
-use Rattle.slices.specs.declared.ends.Span.{Span}
+use Rattle.slices.specs.declared.ends.ByteSpan.{ByteSpan}
 
 -- how many bytes stand before the first b, or to the end
 unfoldable pub upTo : ℕ → List ℕ → ℕ
@@ -26,7 +26,7 @@ pub record Marked (b : ℕ) (s : List ℕ) (at r : ℕ) : Type 0 where
   pub place : r ≡ at + upTo b (drop at s)
 
 -- r is where word k stands
-pub record WordAt (k : ℕ) (s : List ℕ) (r : Span) : Type 0 where
+pub record WordAt (k : ℕ) (s : List ℕ) (r : ByteSpan) : Type 0 where
   pub order : r .start ≤ r .end
   pub within : r .end ≤ length s
   pub bytes : slice (r .start) (r .end) s ≡ wordOf k s

@@ -4,7 +4,7 @@ ghost use mathlib.Core.List.{[], _∷_, _++_};
 ghost use Prim.Native.Nat.{_+_, _*_, _<_, _≤_};
 ghost use lib.ListN.{length, take};
 ghost use Rattle.lists.specs.Wrote.{Wrote};
-ghost use Rattle.questions.specs.Hex.{hexValue, hexByte, hexGlyph, unhexed, pairs, hexed};
+ghost use Rattle.questions.specs.Hex.{hexValue, hexByte, hexGlyph, unhexed, hexPairs, hexed};
 
 // What a hex digit is worth; any other byte is worth nothing.
 pub fn hex_value(b: u8) -> u8
@@ -70,7 +70,7 @@ pub fn put_byte(b: u8, dst: &mut [u8], to: usize) -> usize
 // Two digits for each byte, written from a place on; answers where they end.
 pub fn put_pairs(src: &[u8], dst: &mut [u8], to: usize) -> usize
     requires { ⌜ to + 2 * length (now src) ≤ length (now dst) ⌝ }
-    ensures { λ r. ⌜ Wrote (take to (now (dst .entry)) ++ pairs (now (src .entry))) (now (dst .entry)) r (now (dst .exit)) ⌝ }
+    ensures { λ r. ⌜ Wrote (take to (now (dst .entry)) ++ hexPairs (now (src .entry))) (now (dst .entry)) r (now (dst .exit)) ⌝ }
 {
     let mut i = 0;
     let mut w = to;

@@ -1,9 +1,6 @@
 // The line protocol of the recorded questions and answers (oracle/README.md), on slices: lines and words, texts in hex, the bits of a
 // float, decimal numbers. Reads any bytes and asks only for room to write. Assumes nothing.
-pub mod areas;
 pub mod fields;
 pub mod hex;
-pub mod limits;
 pub mod numbers;
-pub mod views;
 pub mod words;

@@ -5,8 +5,8 @@ ghost use mathlib.Core.List.{_++_};
 ghost use Prim.Native.Nat.{_+_, _<_, _≤_};
 ghost use lib.ListN.{length, take};
 ghost use Rattle.lists.specs.Wrote.{Wrote};
-ghost use Rattle.questions.specs.Hex.{pairs};
-ghost use Rattle.questions.specs.Numbers.{digitValue, moreDigits, moreBits, read, fourBytes, decimal};
+ghost use Rattle.questions.specs.Hex.{hexPairs};
+ghost use Rattle.questions.specs.Numbers.{digitValue, moreDigits, moreBits, readDigits, fourBytes, decimal};
 use crate::hex::hex_value;
 use crate::hex::put_byte;
 use crate::hex::put_pairs;
@@ -43,7 +43,7 @@ fn more_digits(v: u64, b: u8) -> u64
 
 // The number that a word is, or the greatest where that is greater.
 pub fn number_of(s: &[u8]) -> u64
-    ensures { λ r. ⌜ r ≡ read moreDigits 0 (now (s .entry)) ⌝ }
+    ensures { λ r. ⌜ r ≡ readDigits moreDigits 0 (now (s .entry)) ⌝ }
 {
     let mut v: u64 = 0;
     let mut i = 0;
@@ -64,7 +64,7 @@ fn more_bits(v: u32, b: u8) -> u32
 
 // The number that a word of hex is.
 pub fn bits_of(s: &[u8]) -> u32
-    ensures { λ r. ⌜ r ≡ read moreBits 0 (now (s .entry)) ⌝ }
+    ensures { λ r. ⌜ r ≡ readDigits moreBits 0 (now (s .entry)) ⌝ }
 {
     let mut v: u32 = 0;
     let mut i = 0;
@@ -78,7 +78,7 @@ pub fn bits_of(s: &[u8]) -> u32
 // The eight digits of a number, written from a place on; answers where they end.
 pub fn put_bits(x: u32, dst: &mut [u8], to: usize) -> usize
     requires { ⌜ to + 8 ≤ length (now dst) ⌝ }
-    ensures { λ r. ⌜ Wrote (take to (now (dst .entry)) ++ pairs (fourBytes x)) (now (dst .entry)) r (now (dst .exit)) ⌝ }
+    ensures { λ r. ⌜ Wrote (take to (now (dst .entry)) ++ hexPairs (fourBytes x)) (now (dst .entry)) r (now (dst .exit)) ⌝ }
 {
     let b = [
         (x / 16777216) as u8,

@@ -2,7 +2,7 @@
 ghost use Prim.Native.Nat.{_≤_};
 ghost use lib.ListN.{length};
 ghost use Rattle.questions.specs.Words.{Marked, WordAt};
-use slices::ends::Span;
+use slices::ends::ByteSpan;
 
 // Where the next byte b stands from a place on, or the end: with b 10 the end of a line, with b 32 the end of a word.
 pub fn mark_at(s: &[u8], at: usize, b: u8) -> usize
@@ -20,7 +20,7 @@ pub fn mark_at(s: &[u8], at: usize, b: u8) -> usize
 }
 
 // Word k of a line, from 0 on; an empty one where there are not so many.
-pub fn word(s: &[u8], k: usize) -> Span
+pub fn word_at(s: &[u8], k: usize) -> ByteSpan
     ensures { λ r. ⌜ WordAt k (now (s .entry)) r ⌝ }
 {
     let mut at = 0;
@@ -28,7 +28,7 @@ pub fn word(s: &[u8], k: usize) -> Span
     while 0 < left {
         let end = mark_at(s, at, 32);
         if s.len() <= end {
-            return Span {
+            return ByteSpan {
                 start: end,
                 end: end,
             };
@@ -37,7 +37,7 @@ pub fn word(s: &[u8], k: usize) -> Span
         left -= 1;
     }
     let end = mark_at(s, at, 32);
-    Span {
+    ByteSpan {
         start: at,
         end: end,
     }

@@ -84,13 +84,13 @@ record-broken s at found = go (front recordForm (drop at s)) refl found
     go Front.broken q e = pieces-broken recordForm recordOf s at (omega arith) q
 
 -- ---- entries, of a body or of any list
-abbrev pub entriesFrom : List ℕ → ℕ → Option (List Counted)
-entriesFrom s at = pieces entryForm entryOf (drop at s)
+abbrev pub entriesBehind : List ℕ → ℕ → Option (List Counted)
+entriesBehind s at = pieces entryForm entryOf (drop at s)
 
 pub record EntryHere (s : List ℕ) (at count start len : ℕ) : Type 0 where
   pub begins : start ≡ at + 8
   pub fits : start + len ≤ length s
-  pub is : entriesFrom s at ≡ also (record { bytes = take len (drop start s); count = count }) (entriesFrom s (start + len))
+  pub is : entriesBehind s at ≡ also (record { bytes = take len (drop start s); count = count }) (entriesBehind s (start + len))
 
 pub entry-here : (s : List ℕ) (at count start len : ℕ) → entryFramed at (front entryForm (drop at s)) ≡ entry.Whole count start len →
     EntryHere s at count start len
@@ -110,24 +110,24 @@ entry-here s at count start len found = go (front entryForm (drop at s)) refl fo
           begins = h .begins;
           fits = h .fits;
           is = pieces-next entryForm entryOf s at (omega arith) start len h ∙
-              ap (λ (m : ℕ). also (record { bytes = bytes; count = m }) (entriesFrom s (start + len))) (number-take 4 8 (drop at s) (omega arith) ∙ k);
+              ap (λ (m : ℕ). also (record { bytes = bytes; count = m }) (entriesBehind s (start + len))) (number-take 4 8 (drop at s) (omega arith) ∙ k);
         }
     go Front.broken q e = let z : _≡_ {A = ℕ} 0 1 = cc in absurd (no z)
 
-pub entry-end : (s : List ℕ) (at : ℕ) → entryFramed at (front entryForm (drop at s)) ≡ entry.End → entriesFrom s at ≡ some []
+pub entry-end : (s : List ℕ) (at : ℕ) → entryFramed at (front entryForm (drop at s)) ≡ entry.End → entriesBehind s at ≡ some []
 unfolding entryFramed
 entry-end s at found = go (front entryForm (drop at s)) refl found
   where
-    go : (r : Front) → front entryForm (drop at s) ≡ r → entryFramed at r ≡ entry.End → entriesFrom s at ≡ some []
+    go : (r : Front) → front entryForm (drop at s) ≡ r → entryFramed at r ≡ entry.End → entriesBehind s at ≡ some []
     go Front.end q e = pieces-end entryForm entryOf s at (omega arith) q
     go (Front.whole p more) q e = let z : _≡_ {A = ℕ} 0 1 = cc in absurd (no z)
     go Front.broken q e = let z : _≡_ {A = ℕ} 0 1 = cc in absurd (no z)
 
-pub entry-broken : (s : List ℕ) (at : ℕ) → entryFramed at (front entryForm (drop at s)) ≡ entry.Broken → entriesFrom s at ≡ none
+pub entry-broken : (s : List ℕ) (at : ℕ) → entryFramed at (front entryForm (drop at s)) ≡ entry.Broken → entriesBehind s at ≡ none
 unfolding entryFramed
 entry-broken s at found = go (front entryForm (drop at s)) refl found
   where
-    go : (r : Front) → front entryForm (drop at s) ≡ r → entryFramed at r ≡ entry.Broken → entriesFrom s at ≡ none
+    go : (r : Front) → front entryForm (drop at s) ≡ r → entryFramed at r ≡ entry.Broken → entriesBehind s at ≡ none
     go Front.end q e = let z : _≡_ {A = ℕ} 0 1 = cc in absurd (no z)
     go (Front.whole p more) q e = let z : _≡_ {A = ℕ} 0 1 = cc in absurd (no z)
     go Front.broken q e = pieces-broken entryForm entryOf s at (omega arith) q

@@ -6,7 +6,7 @@ ghost use lib.ListN.{length, drop};
 ghost use Rattle.rules.specs.Book.{number, written};
 ghost use Rattle.records.specs.Written.{putAt};
 
-fn wide(x: u8) -> u16
+fn byte_wide(x: u8) -> u16
     ensures { λ r. ⌜ (r ≡ x) × (r < 256) ⌝ }
 {
     x as u16
@@ -16,7 +16,7 @@ pub fn read_u16(s: &[u8], at: usize) -> u16
     requires { ⌜ at + 2 ≤ length (now s) ⌝ }
     ensures { λ r. ⌜ r ≡ number 2 (drop at (now (s .entry))) ⌝ }
 {
-    wide(s[at]) + 256 * wide(s[at + 1])
+    byte_wide(s[at]) + 256 * byte_wide(s[at + 1])
 }
 
 pub fn read_u32(s: &[u8], at: usize) -> u32

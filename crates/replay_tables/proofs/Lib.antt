@@ -1,4 +1,3 @@
 pub mod ToldLaws
 pub mod WalkLaws
-pub mod ScoreLaws
 pub mod MadeLaws

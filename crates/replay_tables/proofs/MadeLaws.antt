@@ -19,7 +19,7 @@ use Rattle.rules.proofs.RefusalLaws.{compile-before}
 use Rattle.detection_shelf.specs.Bodies.{tableOfBody}
 use Rattle.refusals.proofs.AdmitLaws.{compile-through}
 use Rattle.compile.proofs.SoundCompiled.{compiled-sound, compiled-again}
-use Rattle.replay_tables.specs.Told.{compiles, tableTold, tableFor, scoreOver, scoreFor}
+use Rattle.replay_tables.specs.Told.{compiles, tableTold, tableFor}
 
 -- a text that compile does not refuse is let through
 passes : (t : List ℕ) (a : Areas) (out : ℕ) → refusal (ofCompile t a out) ≡ 0 → refusal (ofText t) ≡ 0
@@ -29,7 +29,7 @@ passes t a out z = at (eqb (refusal (beforeCompile t a)) 0) refl
     at true e = compile-through t a (eqb-true (refusal (beforeCompile t a)) 0 e) .text
     at false e = let n = eqb-false (refusal (beforeCompile t a)) 0 e in absurd (n (sym (compile-before t a out n) ∙ z))
 
-pub record Made (t : List ℕ) (len : ℕ) (out : List ℕ) : Type 0 where
+pub record TableMade (t : List ℕ) (len : ℕ) (out : List ℕ) : Type 0 where
   pub here : compiles t ≡ true
   pub within : len ≤ length out
   pub sound : soundTable (take len out) (entriesOf (take len out)) ≡ true
@@ -66,7 +66,7 @@ module _ {t b₀ b w₀ w out₀ out : List ℕ} {a : Compiled} (d : CompileDone
     body-is : take (a .len) out ≡ compiled t
     body-is = rw out-is (take-at (compiled t) (drop (length (compiled t)) out₀) (a .len) (sym len-is))
 
-    pub made : Made t (a .len) out
+    pub made : TableMade t (a .len) out
     unfolding compiles tableOfBody
     made =
         let s = passes t (lent b₀ w₀) (length out₀) none in
@@ -85,12 +85,3 @@ no-table t e = rw e
 pub right-table : (t : List ℕ) → compiles t ≡ true → tableFor t ≡ tableTold (viewTable (lines t))
 unfolding tableFor
 right-table t e = rw e
-
-module _ (start end : ℕ) (t licence : List ℕ) where
-  pub no-licence : compiles licence ≡ false → scoreFor start end t licence ≡ []
-  unfolding scoreFor
-  no-licence e = rw e
-
-  pub right-licence : compiles licence ≡ true → scoreFor start end t licence ≡ scoreOver start end t (viewTable (lines licence))
-  unfolding scoreFor
-  right-licence e = rw e

@@ -13,7 +13,7 @@ use Rattle.lists.specs.Wrote.{Wrote, InFront}
 use Rattle.rules.specs.Prefix.{Counted}
 use Rattle.rules.specs.Book.{number, entryForm, entryOf, entriesOf, pieces, soundTable, tableIn}
 use Rattle.rules.proofs.SoundLaws.{table-size, sound-some, body-total}
-use Rattle.ngram_meet.proofs.MeetLaws.{entryEnd, storedEntry, Next, entry-next, entry-end}
+use Rattle.ngram_meet.proofs.MeetLaws.{entryEnd, storedEntry, NextEntry, entry-next, entry-end}
 use Rattle.detection_shelf.specs.Bodies.{tableOfBody}
 use Rattle.questions.specs.Numbers.{decimal}
 use Rattle.questions.specs.Hex.{hexed}
@@ -68,7 +68,7 @@ module _ (body : List ℕ) (h : soundTable body (entriesOf body) ≡ true) where
 
 module _ {body whole d : List ℕ} {at w : ℕ} (c : Telling body whole d at w) where
   module _ (l : at < length body) where
-    abbrev nx : Next body at (c .stored)
+    abbrev nx : NextEntry body at (c .stored)
     nx = entry-next body at (c .stored) (c .there) l
 
     pub telling-fits : entryEnd body at ≤ length body

@@ -16,7 +16,7 @@ use records::numbers::read_u32;
 use slices::wide::wide;
 
 // The entry at a place of the body, whose bigram has so many bytes; answers where it ends.
-fn put_entry(body: &[u8], at: usize, len: usize, out: &mut [u8], to: usize) -> usize
+fn tell_entry(body: &[u8], at: usize, len: usize, out: &mut [u8], to: usize) -> usize
     requires { ⌜ (at + 8 + len ≤ length (now body)) × (to + 2 * (8 + len) ≤ length (now out)) ⌝ }
     ensures told { λ r. ⌜ Wrote (take to (now (out .entry)) ++ entryTold (record { bytes = slice (at + 8) (at + 8 + len) (now (body .entry)); count = number 4 (drop at (now (body .entry))) })) (now (out .entry)) r (now (out .exit)) ⌝ }
     ensures short { λ r. ⌜ r ≤ to + 2 * (8 + len) ⌝ }
@@ -40,7 +40,7 @@ pub fn put_table(body: &[u8], out: &mut [u8]) -> usize
     let mut at = 8;
     while at < body.len() {
         let len = wide(read_u32(body, at + 4));
-        w = put_entry(body, at, len, out, w);
+        w = tell_entry(body, at, len, out, w);
         at = at + 8 + len;
     }
     put_byte(10, out, w)

@@ -9,7 +9,7 @@ use Rattle.rules.specs.Lines.{lines}
 use Rattle.rules.specs.Passes.{aggressive}
 use Rattle.rules.specs.Search.{view, viewed}
 use Rattle.questions.specs.Fields.{textOf, numberOf}
-use Rattle.questions.specs.Views.{viewFits}
+use Rattle.questions_fit.specs.Views.{viewFits}
 use Rattle.replay_views.specs.Told.{told, answerTo, answerIn, answerOf}
 
 module _ (start end : ℕ) (t : List ℕ) where

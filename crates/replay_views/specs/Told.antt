@@ -9,7 +9,7 @@ use Rattle.rules.specs.Passes.{aggressive}
 use Rattle.rules.specs.Search.{view, viewed}
 use Rattle.questions.specs.Hex.{hexed}
 use Rattle.questions.specs.Fields.{textOf, numberOf}
-use Rattle.questions.specs.Views.{viewFits}
+use Rattle.questions_fit.specs.Views.{viewFits}
 
 unfoldable pub told : List ℕ → List ℕ
 told s = hexed s ++ 10 ∷ []

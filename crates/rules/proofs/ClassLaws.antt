@@ -8,7 +8,7 @@ use native.Mathlib.Nat.{not-suc-le-zero}
 use native.Mathlib.Omega.{arith}
 use lib.Dec.{T, eqb}
 use borrow.Author.Tests.{eqb-true, eqb-false}
-use Rattle.rules.specs.Bytes.{text, within, among, newline, space, upper, digit, word, dropped}
+use Rattle.rules.specs.Bytes.{text, within, among, space, upper, digit, word, dropped}
 use Rattle.rules.specs.Lines.{gap}
 use Rattle.rules.specs.Class.{classOf}
 use Rattle.rules.proofs.Opened.{opened}
@@ -83,10 +83,6 @@ space-class = rule space 5 7 tt
 pub vertical-class : Ruled (within 10 13) 6 7
 unfolding below opened
 vertical-class = rule (within 10 13) 6 7 tt
-
-pub newline-class : Ruled newline 6 6
-unfolding below opened
-newline-class = rule newline 6 6 tt
 
 pub kept-class : Ruled (λ x. word x || space x) 4 11
 unfolding below opened

@@ -42,7 +42,7 @@ use Rattle.scan_ranges.specs.declared.Run.{Run}
 use Rattle.scan_elimination.specs.declared.Outcome.{Outcome}
 use Rattle.scan_ranges.specs.Run.{paidNumbers, leftOver, runOf}
 use Rattle.scan_elimination.specs.Ended.{NameFits, Eliminated}
-use Rattle.scan_answer.specs.Answers.{namedIn, partFor, KindIs, answerFor, refusedBy, full, stopped, Scans}
+use Rattle.scan_answer.specs.Answers.{namedIn, partFor, KindIs, answerFor, refusedBy, full, overNumber, Scans}
 
 -- ---- the text that is named
 module _ (lim : Limits) (b : Best) where
@@ -111,7 +111,7 @@ module _ (t : List ℕ) (books : Shelf) (lim : Limits) (mode : Mode) (budget : �
 
   -- out, or all is paid
   record Ends : Type 0 where
-    number : cond (x .run .out) 12 0 ≡ stopped budget (full t books lim mode)
+    number : cond (x .run .out) 12 0 ≡ overNumber budget (full t books lim mode)
     within : x .run .left ≤ budget
     counted : budget - x .run .left ≡ length (scorings es)
 
@@ -156,7 +156,7 @@ module _ (t : List ℕ) (books : Shelf) (lim : Limits) (mode : Mode) (budget : �
       at true = sym (h .name .stands)
       at false = refl
 
-  pub answer-is : answerFor books lim budget x ≡ answered (stopped budget (full t books lim mode)) lim (partsOf books) es
+  pub answer-is : answerFor books lim budget x ≡ answered (overNumber budget (full t books lim mode)) lim (partsOf books) es
   unfolding answered bestIn
   answer-is =
       let best = h .best in
@@ -230,13 +230,13 @@ module _ (t : List ℕ) (bs : List (List ℕ)) (lim : Limits) (mode : Mode) (bud
 
   module _ (books : Shelf) (read : ReadAs (books .first) (books .second) bs) (z : before ≡ 0) where
     -- what the definition says of these books is what is said below the refusals
-    numbered : stopped budget (full t books lim mode) ≡ number
-    numbered = sym (scan-then t bs lim mode (lent b₀ w₀) (length r₀) budget z ∙ ap (λ (ss : List Stored). stopped budget (events lim mode ss (lines t))) (read .texts))
+    numbered : overNumber budget (full t books lim mode) ≡ number
+    numbered = sym (scan-then t bs lim mode (lent b₀ w₀) (length r₀) budget z ∙ ap (λ (ss : List Stored). overNumber budget (events lim mode ss (lines t))) (read .texts))
 
     happens : afford budget (full t books lim mode) ≡ happened t bs lim mode budget (lent b₀ w₀) (length r₀)
     happens = sym (scan-happened t bs lim mode (lent b₀ w₀) (length r₀) budget z ∙ ap (λ (ss : List Stored). afford budget (events lim mode ss (lines t))) (read .texts))
 
-    said : answered (stopped budget (full t books lim mode)) lim (partsOf books) (afford budget (full t books lim mode)) ≡ scan t bs lim mode budget (lent b₀ w₀) (length r₀)
+    said : answered (overNumber budget (full t books lim mode)) lim (partsOf books) (afford budget (full t books lim mode)) ≡ scan t bs lim mode budget (lent b₀ w₀) (length r₀)
     unfolding scan
     said =
         let n = numbered in

@@ -55,9 +55,9 @@ answerFor books lim budget x = record {
 abbrev pub full : List ℕ → Shelf → Limits → Mode → List Event
 full t books lim mode = events lim mode (texts books) (lines t)
 
-abbrev pub stopped : ℕ → List Event → ℕ
-stopped budget es = cond (ltb budget (length (scorings es))) 12 0
+abbrev pub overNumber : ℕ → List Event → ℕ
+overNumber budget es = cond (ltb budget (length (scorings es))) 12 0
 
 pub record Scans (t : List ℕ) (books : Shelf) (lim : Limits) (mode : Mode) (budget : ℕ) (r₀ r : List ℕ) (a : Scanned) : Type 0 where
-  pub answer : a ≡ answered (stopped budget (full t books lim mode)) lim (partsOf books) (afford budget (full t books lim mode))
+  pub answer : a ≡ answered (overNumber budget (full t books lim mode)) lim (partsOf books) (afford budget (full t books lim mode))
   pub results : r ≡ over (numbers (records (afford budget (full t books lim mode)))) r₀

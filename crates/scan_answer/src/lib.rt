@@ -4,7 +4,6 @@
 ghost use mathlib.Core.Path.{_≡_};
 ghost use mathlib.Core.Bool.{cond};
 ghost use Prim.Native.Nat.{_≤_};
-ghost use lib.Ieee.{lt};
 ghost use lib.ListN.{length, replicate};
 ghost use Rattle.rules.specs.Sizes.{nameMost};
 ghost use Rattle.detection_shelf.specs.Shelves.{shelf};
@@ -19,14 +18,7 @@ use rules::NAME_MOST;
 use rules::Named;
 use rules::Scanned;
 use scan_elimination::Outcome;
-
-// A score strictly above the threshold names its text.
-fn names(limits: Limits, best: Best) -> bool
-    ensures { λ r. ⌜ r ≡ lt (limits .threshold) (best .value .score) ⌝ }
-{
-    let value = best.value;
-    limits.threshold < value.score
-}
+use scan_limits::names;
 
 // The name of the text that is named: none has no bytes.
 fn name_of(book: &[u8], second: &[u8], limits: Limits, best: Best) -> Name

@@ -33,7 +33,7 @@ use Rattle.detect_best.specs.declared.Best.{Best}
 use Rattle.detect.specs.declared.Chosen.the-variants as chosen
 use Rattle.detect_best.specs.Beats.{bestIn}
 use Rattle.detect.specs.Bests.{chosenIn, ChosenStands, BestDone}
-use Rattle.detect.proofs.BestLaws.{noneYet, none-is}
+use Rattle.detect.proofs.BestLaws.{noBestYet, none-is}
 use Rattle.detection_shelf.specs.Shelves.{Shelf, texts, Stands, CountsOf, bookIn, textIn}
 use Rattle.detection_shelf.proofs.ShelfLaws.{stands-part}
 use Rattle.scan_ranges.specs.declared.Scope.{Scope}
@@ -73,7 +73,7 @@ stands-name {books} {c} {t} s h = record {
   stands = rw (ne-eqb (t .text .kind) 0 (λ e. omega (arith, e, kind-from books c t s h))) (stands-part books t h);
 }
 
-pub none-name : (books : Shelf) → NameFits books (noneYet .text)
+pub none-name : (books : Shelf) → NameFits books (noBestYet .text)
 unfolding namePart textIn
 none-name books = record { order = omega arith; high = omega arith; most = omega arith; stands = refl }
 
@@ -105,7 +105,7 @@ module _ {scope : Scope} {class area₀ words₀ : List ℕ} {books : Shelf} (s 
   asked v e = ap (rules.best (texts books) ls) (e ∙ ap (view 0) (sym (lines-length area₀ words₀ 0 (scope .lines))))
 
   module _ {area words : List ℕ} (v : View) (e : v ≡ view 0 (scope .lines)) where
-    pub whole-out : (x : Outcome) → BestDone (scope .n) (scope .lines) area₀ words₀ area words v books budget chosen.Out → x .best ≡ noneYet → x .run ≡ runOf 0 none →
+    pub whole-out : (x : Outcome) → BestDone (scope .n) (scope .lines) area₀ words₀ area words v books budget chosen.Out → x .best ≡ noBestYet → x .run ≡ runOf 0 none →
         Eliminated all budget books r₀ r₀ x
     unfolding chosenIn
     whole-out x d b q =

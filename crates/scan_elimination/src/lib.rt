@@ -1,10 +1,7 @@
 // Elimination: the best stored text of the whole note; then, pass by pass, its bounds, a record, the lines in range made blank, the best again.
 // From detection/scan.rs of spdx 0.13.6 (Copyright 2018 Amazon.com, Inc. or its affiliates. All Rights Reserved.
 // SPDX-License-Identifier: Apache-2.0), changed: the mode `Elimination`, with every scoring charged. Assumes nothing.
-ghost use mathlib.Core.Path.{_≡_};
 ghost use Prim.Native.Nat.{_≤_};
-ghost use mathlib.Core.Bool.{_&&_};
-ghost use lib.Ieee.{lt};
 ghost use lib.ListN.{length};
 ghost use Rattle.rules.specs.Scan as rules;
 ghost use Rattle.preproc_table.specs.Entries.{linesAt};
@@ -20,10 +17,10 @@ use license_bounds::Ranged;
 use license_charge::Scorings;
 use preproc_table::blank_lines;
 use rules::Bounds;
-use rules::Limits;
+use scan_limits::below;
+use scan_limits::stops;
 use scan_ranges::Run;
 use scan_ranges::Scope;
-use scan_ranges::below;
 use scan_ranges::ended;
 use scan_ranges::out_at;
 use scan_ranges::put_record;
@@ -127,17 +124,6 @@ pub fn each_pass<'a>(
 pub struct Outcome {
     pub best: Best,
     pub run: Run,
-}
-
-// Named, and strictly above the shallow limit: no pass is needed.
-fn stops(limits: Limits, best: Best) -> bool
-    ensures { λ r. ⌜ r ≡ (lt (limits .threshold) (best .value .score) && lt (limits .shallow) (best .value .score)) ⌝ }
-{
-    let value = best.value;
-    if limits.threshold < value.score {
-        return limits.shallow < value.score;
-    }
-    false
 }
 
 // With `optimize`, up to p passes follow the best text of the note.

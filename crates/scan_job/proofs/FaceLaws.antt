@@ -42,8 +42,8 @@ use Rattle.rules.proofs.NameLaws.{answer-lies, answer-named, answer-length}
 use Rattle.rules.proofs.BudgetLaws.{afford-all, records-begins}
 use Rattle.rules.proofs.RefusalLaws.{lines-count, scan-over, scan-paid, scan-only, scan-zero, scan-count, scan-within, scan-happened}
 use Rattle.rules.proofs.ScanCountLaws.{elimination-count, topDown-count, elimination-fits, topDown-fits}
-use Rattle.detection_shelf.specs.Shelves.{fitting}
-use Rattle.detection_shelf.proofs.ShelfLaws.{part-fits}
+use Rattle.detection_part.specs.Parts.{fitting}
+use Rattle.detection_part.proofs.PartLaws.{part-fits}
 use Rattle.refusals.proofs.AdmitLaws.{row-passes}
 use Rattle.scan_job.proofs.ModeLaws.{step-above}
 

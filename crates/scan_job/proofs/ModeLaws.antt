@@ -17,7 +17,7 @@ use Rattle.rules.specs.Refusal.{stepZero}
 use Rattle.rules.proofs.VerdictLaws.{verdict-prefix, down-verdict}
 use Rattle.detection_shelf.specs.Shelves.{Shelf}
 use Rattle.detect_best.specs.declared.Best.{Best}
-use Rattle.detect.proofs.BestLaws.{noneYet, none-is}
+use Rattle.detect.proofs.BestLaws.{noBestYet, none-is}
 use Rattle.detect_best.specs.Beats.{bestIn}
 use Rattle.license_charge.specs.declared.Scorings.{Scorings}
 use Rattle.scan_elimination.specs.declared.Outcome.{Outcome}
@@ -50,7 +50,7 @@ pub eliminated-of : {es : List Event} {left : Scorings} {budget : ℕ} {books : 
 eliminated-of {es} {left} {budget} {books} {r₀} {r} {x} e h = subst (λ (s : Scorings). Eliminated es (s .count) books r₀ r x) e h
 
 -- top-down as a whole
-pub down-ended : (lim : Limits) (s : ℕ) (ss : List Stored) (ls : List (List ℕ)) {budget : ℕ} {books : Shelf} {r₀ r : List ℕ} (x : Outcome) → x .best ≡ noneYet →
+pub down-ended : (lim : Limits) (s : ℕ) (ss : List Stored) (ls : List (List ℕ)) {budget : ℕ} {books : Shelf} {r₀ r : List ℕ} (x : Outcome) → x .best ≡ noBestYet →
     Ran (topDown lim s ss ls) budget r₀ r (x .run) → Eliminated (topDown lim s ss ls) budget books r₀ r x
 down-ended lim s ss ls {budget} {books} {r₀} {r} x b a = record {
   best = ap (bestIn books) b ∙ none-is books ∙ sym (verdict-prefix (λ b. b ≡ noBest) refl budget (topDown lim s ss ls) (down-verdict lim s ss ls));

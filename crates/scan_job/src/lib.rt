@@ -174,7 +174,7 @@ fn scan_lent<'a>(
     scanned
 }
 
-// Two books, whose texts count on from the first into the second. The name's bytes are `detection_shelf::name_part` of both and the answer's part.
+// Two books, whose texts count on from the first into the second. The name's bytes are `detection_part::name_part` of both and the answer's part.
 pub fn scan_both<'a>(
     text: &[u8],
     book: &'a [u8],

@@ -9,7 +9,6 @@ ghost use lib.Dec.{T};
 ghost use lib.Ieee.{toBits, binary32};
 ghost use lib.ListN.{length, take, drop};
 ghost use Rattle.rules.specs.Refusal.{unit};
-ghost use Rattle.rules.specs.Scan as rules;
 ghost use Rattle.rules.specs.Search.{view};
 ghost use Rattle.rules.specs.Sizes.{recordWidth};
 ghost use Rattle.detection_shelf.specs.Shelves.{shelf, Stands};
@@ -93,13 +92,6 @@ pub fn text_bounds<'a>(
     let lines = scope.lines;
     let body = body_of(book, second, text);
     find_bounds(class, area, words, n, lines, v, body, budget)
-}
-
-// So low that nothing is recorded.
-pub fn below(limits: Limits, range: Bounds) -> bool
-    ensures { λ r. ⌜ r ≡ rules.below limits range ⌝ }
-{
-    range.value.score < limits.threshold
 }
 
 fn put_four(results: &mut [u32], at: usize, a: u32, b: u32, c: u32, d: u32)

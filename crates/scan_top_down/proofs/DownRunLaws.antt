@@ -31,14 +31,14 @@ use Rattle.detection_shelf.specs.declared.Shelved.{Shelved}
 use Rattle.detection_shelf.specs.Shelves.{Shelf, texts, textIn, Stands}
 use Rattle.scan_ranges.specs.declared.Run.{Run}
 use Rattle.scan_ranges.specs.declared.Scope.{Scope}
-use Rattle.scan_views.specs.declared.Latest.{Latest}
-use Rattle.scan_views.specs.declared.Latest.the-variants as recent
-use Rattle.scan_views.specs.declared.Walked.{Walked}
-use Rattle.scan_views.specs.declared.Walked.the-variants as walked
+use Rattle.scan_view.specs.declared.Latest.{Latest}
+use Rattle.scan_view.specs.declared.Latest.the-variants as recent
+use Rattle.scan_view.specs.declared.Walked.{Walked}
+use Rattle.scan_view.specs.declared.Walked.the-variants as walked
 use Rattle.scan_top_down.specs.declared.Contained.{Contained}
 use Rattle.scan_top_down.specs.declared.Contained.the-variants as round
 use Rattle.scan_ranges.specs.Run.{Scanning, RangeDone, RangeFits, paidNumbers, runOf, Ran}
-use Rattle.scan_views.specs.Down.{latestIn, pairIn, LatestStands, Pairs}
+use Rattle.scan_view.specs.Down.{latestIn, pairIn, LatestStands, Pairs}
 use Rattle.scan_top_down.specs.Contains.{containedIn, ContainedStands, Contains}
 use Rattle.scan_ranges.proofs.RunLaws.{paid-is}
 use Rattle.scan_ranges.proofs.HeldLaws.{range-out, range-found, fits-of, held-none, held-more, scanning-held}

@@ -7,21 +7,21 @@ ghost use Rattle.rules.specs.Scan as rules;
 ghost use Rattle.preproc_table.specs.Entries.{linesAt};
 ghost use Rattle.detection_shelf.specs.Shelves.{shelf, texts};
 ghost use Rattle.scan_ranges.specs.Run.{Scanning, paidNumbers, Ran};
-ghost use Rattle.scan_views.specs.Down.{latestIn, LatestStands};
+ghost use Rattle.scan_view.specs.Down.{latestIn, LatestStands};
 ghost use Rattle.scan_top_down.specs.Contains.{Contains};
 use detection_shelf::Shelved;
 use license_bounds::Ranged;
 use license_charge::Scorings;
 use rules::Bounds;
+use scan_limits::below;
 use scan_ranges::Run;
 use scan_ranges::Scope;
-use scan_ranges::below;
 use scan_ranges::ended;
 use scan_ranges::out_at;
 use scan_ranges::put_record;
 use scan_ranges::text_bounds;
-use scan_views::Latest;
-use scan_views::Walked;
+use scan_view::Latest;
+use scan_view::Walked;
 use scan_views::walk_starts;
 
 // What a round finds: the budget is out; nothing; or a text and its range. With the scorings left.

@@ -1,51 +1,15 @@
 // The job `score`: a view of a note against a stored text.
 // From detection/license.rs of spdx 0.13.6 (Copyright 2018 Amazon.com, Inc. or its affiliates. All Rights Reserved.
-// SPDX-License-Identifier: Apache-2.0), changed: `match_score` of a view, with refusals. Assumes nothing.
-ghost use mathlib.Core.Path.{_≡_};
-ghost use lib.ListN.{getD};
-ghost use Rattle.rules.specs.Lines.{lines};
-ghost use Rattle.rules.specs.Search.{noText, scoreView};
-ghost use Rattle.detection_shelf.specs.Shelves.{shelf, texts, booksOf, Lends, CountsOf};
-ghost use Rattle.refusals.specs.Admits.{ViewThrough};
+// SPDX-License-Identifier: Apache-2.0), changed: refusals around the work. Assumes nothing.
+ghost use Rattle.detection_shelf.specs.Shelves.{shelf, booksOf, Lends};
 ghost use mathlib.Core.List.{[], _∷_};
-ghost use Rattle.rules.specs.Jobs.{lent, ScoreDone};
-use detection_shelf::Counts;
-use detection_shelf::body_of;
-use detection_shelf::stored_on;
-use license_charge::charge_exact;
-use license_charge::scorings_of;
+ghost use Rattle.rules.specs.Jobs.{ScoreDone};
 use license_notes::clear;
-use license_notes::lay;
-use license_views::view_table;
 use refusals::admit_view;
 use rules::Scored;
 use rules::View;
-use slices::class::class_table;
-
-// The work, of what is let through: the areas hold what it leaves.
-pub fn score_laid<'a>(
-    text: &[u8],
-    book: &'a [u8],
-    second: &'a [u8],
-    counts: Counts,
-    v: View,
-    k: u32,
-    area: &mut [u8],
-    words: &mut [u32],
-) -> f32
-    requires { ⌜ ViewThrough (now text) (shelf (now book) (now second)) v k (lent (now area) (now words)) ⌝ }
-    requires { ⌜ CountsOf (shelf (now book) (now second)) counts ⌝ }
-    ensures { λ r. ⌜ r ≡ scoreView (lines (now (text .entry))) (getD (texts (shelf (now (book .entry)) (now (second .entry)))) k noText) v .value .score ⌝ }
-{
-    let class = class_table();
-    let n = text.len();
-    let lines = lay(&class, text, area, words);
-    let t = view_table(&class, area, words, n, lines, v);
-    let found = stored_on(book, second, counts, k);
-    let body = body_of(book, second, found);
-    let charged = charge_exact(area, words, n, t, body, scorings_of(1));
-    charged.value.score
-}
+use score_answer::refused;
+use score_work::score_laid;
 
 // Over lent books, two or one: refusals 1 to 5 and 8 to 10, or the score. The areas are zero after an answer, and as they were after a refusal.
 fn score_lent<'a>(
@@ -64,10 +28,7 @@ fn score_lent<'a>(
     let admitted = admit_view(text, book, second, two, v, k, area.len(), words.len());
     let refusal = admitted.refusal;
     if refusal != 0 {
-        return Scored {
-            refusal,
-            score: 0.0,
-        };
+        return refused(refusal);
     }
     let counts = admitted.texts;
     let score = score_laid(text, book, second, counts, v, k, area, words);

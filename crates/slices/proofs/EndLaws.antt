@@ -11,7 +11,7 @@ use lib.ListN.{length, take, drop, getD, length-drop}
 use lib.Seq.{slice, take-suc, length-take-le}
 use Rattle.lists.proofs.SliceLaws.{part-at}
 use Rattle.rules.specs.Bytes.{space, lead, trimStart, addFront, trimEnd, trim}
-use Rattle.slices.specs.declared.ends.Span.{Span}
+use Rattle.slices.specs.declared.ends.ByteSpan.{ByteSpan}
 use Rattle.slices.specs.Ends.{keptLen, Bare}
 
 module _ (p : ℕ → Bool) (x : ℕ) where
@@ -93,7 +93,7 @@ lead-most p (x ∷ s) = at (p x) (lead-most p s)
     at true h = omega arith
     at false h = omega arith
 
-module _ {p : ℕ → Bool} {s : List ℕ} {r : Span} (b : Bare p s r) where
+module _ {p : ℕ → Bool} {s : List ℕ} {r : ByteSpan} (b : Bare p s r) where
   pub bare-within : (r .start ≤ r .end) × (r .end ≤ length s)
   bare-within =
       omega (arith, b .start, b .end, lead-most p s, kept-most p (drop (lead p s) s), length-drop (lead p s) s)

@@ -1,5 +1,4 @@
 pub mod LeadLaws
 pub mod EndLaws
-pub mod TwoLaws
 pub mod KindLaws
 pub mod LeafLaws

@@ -8,7 +8,7 @@ use crate::class::in_class;
 use crate::lead::run_len;
 
 // The bytes from start up to end.
-pub struct Span {
+pub struct ByteSpan {
     pub start: usize,
     pub end: usize,
 }
@@ -30,13 +30,13 @@ pub fn trimmed_end(class: &[u8; 256], lo: u8, hi: u8, s: &[u8]) -> usize
 }
 
 // Where s starts and ends without the bytes of classes lo to hi around it. Reads those, and two bytes more.
-pub fn bare(class: &[u8; 256], lo: u8, hi: u8, s: &[u8]) -> Span
+pub fn bare(class: &[u8; 256], lo: u8, hi: u8, s: &[u8]) -> ByteSpan
     ensures { λ r. ⌜ Bare (inClass (now (class .entry)) lo hi) (now (s .entry)) r ⌝ }
 {
     let start = run_len(class, lo, hi, s, 0);
     let rest = &s[start..];
     let len = trimmed_end(class, lo, hi, rest);
-    Span {
+    ByteSpan {
         start: start,
         end: start + len,
     }

@@ -5,6 +5,5 @@ pub mod class;
 pub mod copy;
 pub mod ends;
 pub mod lead;
-pub mod two;
 pub mod wide;
 pub mod zero;

@@ -17,7 +17,7 @@ use lib.ListN.{length, take, drop, set, getD, replicate, take-append-drop, lengt
 use lib.Seq.{take-suc, take-all, take-length, length-take-le, getD-set-same, getD-set-other, drop-set-lt}
 use Rattle.lists.proofs.SliceLaws.{getD-back, drop-back}
 use Rattle.sort_spread.specs.Sort.{countOf}
-use Rattle.sort_spread.specs.Spread.{keyed, lower, added, Counters}
+use Rattle.sort_spread.specs.Spread.{keyed, keyedBelow, added, Counters}
 use Rattle.sort_spread.proofs.SortLaws.{either}
 use Rattle.sort_spread.proofs.OrderLaws.{countOf-append}
 
@@ -80,19 +80,19 @@ below-more a b e h =
     either a b (λ l. rw (lt-ltb a b l, lt-ltb a e (omega arith)) (omega arith)) (λ l. rw (le-ltb a b l) (omega arith))
 
 module _ (key : ℕ → ℕ) (xs : List ℕ) where
-  pub lower-next : (b : ℕ) → lower key xs (suc b) ≡ lower key xs b + keyed key xs b
+  pub lower-next : (b : ℕ) → keyedBelow key xs (suc b) ≡ keyedBelow key xs b + keyed key xs b
   lower-next b = countOf-split (λ x. ltb (key x) (suc b)) (λ x. ltb (key x) b) (λ x. eqb (key x) b) (λ x. below-next (key x) b) xs
 
-  pub lower-mono : (b e : ℕ) → b ≤ e → lower key xs b ≤ lower key xs e
+  pub lower-mono : (b e : ℕ) → b ≤ e → keyedBelow key xs b ≤ keyedBelow key xs e
   lower-mono b e h = countOf-mono (λ x. ltb (key x) b) (λ x. ltb (key x) e) (λ x. below-more (key x) b e h) xs
 
-  pub lower-none : lower key xs 0 ≡ 0
+  pub lower-none : keyedBelow key xs 0 ≡ 0
   lower-none = countOf-same (λ x. ltb (key x) 0) (λ x. false) (λ x. le-ltb (key x) 0 (omega arith)) xs ∙ countOf-none xs
 
-  pub lower-all : (n : ℕ) → ((x : ℕ) → key x < n) → lower key xs n ≡ length xs
+  pub lower-all : (n : ℕ) → ((x : ℕ) → key x < n) → keyedBelow key xs n ≡ length xs
   lower-all n h = countOf-same (λ x. ltb (key x) n) (λ x. true) (λ x. lt-ltb (key x) n (h x)) xs ∙ countOf-all xs
 
-  pub lower-most : (b : ℕ) → lower key xs b ≤ length xs
+  pub lower-most : (b : ℕ) → keyedBelow key xs b ≤ length xs
   lower-most b = omega (arith, countOf-mono (λ x. ltb (key x) b) (λ x. true) (λ x. one-most (ltb (key x) b)) xs, countOf-all xs)
 
   pub keyed-most : (b : ℕ) → keyed key xs b ≤ length xs
@@ -114,7 +114,7 @@ added-more c b h = rw (take-suc c b 0 h) (omega (arith, added-append (take b c) 
 pub added-take : (c : List ℕ) (b : ℕ) → added (take b c) ≤ added c
 added-take c b = omega (arith, added-append (take b c) (drop b c), ap added (take-append-drop b c))
 
-pub added-lower : (key : ℕ → ℕ) (xs c : List ℕ) → Counters (keyed key xs) c → (b : ℕ) → b ≤ 256 → added (take b c) ≡ lower key xs b
+pub added-lower : (key : ℕ → ℕ) (xs c : List ℕ) → Counters (keyed key xs) c → (b : ℕ) → b ≤ 256 → added (take b c) ≡ keyedBelow key xs b
 unfolding added
 added-lower key xs c h zero l = sym (lower-none key xs)
 added-lower key xs c h (suc b) l =
@@ -202,5 +202,5 @@ module _ (key : ℕ → ℕ) (xs c : List ℕ) (h : Counters (keyed key xs) c) w
       let e : take 256 c ≡ c = take-all 256 c (omega (arith, h .all)) in
       omega (arith, ap added e, added-lower key xs c h 256 (omega arith), lower-most key xs 256)
 
-  pub counters-lower : (d : List ℕ) → Counters (λ b. added (take b c)) d → Counters (lower key xs) d
+  pub counters-lower : (d : List ℕ) → Counters (λ b. added (take b c)) d → Counters (keyedBelow key xs) d
   counters-lower d g = record { all = g .all; each = λ b l. g .each b l ∙ added-lower key xs c h b (omega arith) }

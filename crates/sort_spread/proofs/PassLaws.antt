@@ -11,7 +11,7 @@ use lib.ListN.{length, take, drop, set, getD, length-set}
 use lib.Seq.{slice, drop-set-lt}
 use Rattle.lists.proofs.SliceLaws.{drop-back}
 use Rattle.lists.proofs.StoreLaws.{length-part, part-read, part-set, slice-set-past, slice-set-low}
-use Rattle.sort_spread.specs.Spread.{lower, Counters, Shuffled}
+use Rattle.sort_spread.specs.Spread.{keyedBelow, Counters, Shuffled}
 use Rattle.sort_spread.proofs.SpreadLaws.{Spreading, next-place, spreading-start, spreading-next, spreading-end}
 
 -- ---- from one part to the other
@@ -29,7 +29,7 @@ pub record Placing (key : ℕ → ℕ) (p₀ p c : List ℕ) (from to k i : ℕ)
   pub placed : Spreading key (slice from (from + k) p₀) (slice to (to + k) p) c i
 
 module _ (key : ℕ → ℕ) (p c : List ℕ) (from to k : ℕ) where
-  pub placing-start : from + k ≤ length p → to + k ≤ length p → Apart from to k → Counters (lower key (slice from (from + k) p)) c → Placing key p p c from to k 0
+  pub placing-start : from + k ≤ length p → to + k ≤ length p → Apart from to k → Counters (keyedBelow key (slice from (from + k) p)) c → Placing key p p c from to k 0
   placing-start a b o h =
       record {
         fits = a;
@@ -75,18 +75,18 @@ module _ {key : ℕ → ℕ} {p₀ p c : List ℕ} {from to k i : ℕ} (s : Plac
   placing-end h most = (spreading-end (s .placed) (omega (arith, length-part from k p₀ (s .fits))) most, s .rest)
 
 -- ---- there and back
-pub record Passing (p₀ p : List ℕ) (k d : ℕ) : Type 0 where
+pub record SpreadPass (p₀ p : List ℕ) (k d : ℕ) : Type 0 where
   pub few : d ≤ 12
   pub long : length p ≡ length p₀
   pub same : Shuffled (take k p) (take k p₀)
   pub rest : drop (k + k) p ≡ drop (k + k) p₀
 
-pub passing-start : (p : List ℕ) (k : ℕ) → Passing p p k 12
+pub passing-start : (p : List ℕ) (k : ℕ) → SpreadPass p p k 12
 passing-start p k = record { few = omega arith; long = refl; same = λ q. refl; rest = refl }
 
-pub passing-next : {p₀ p : List ℕ} {k d : ℕ} → Passing p₀ p k d → (p₁ p₂ : List ℕ) → length p₁ ≡ length p → length p₂ ≡ length p₁ →
+pub passing-next : {p₀ p : List ℕ} {k d : ℕ} → SpreadPass p₀ p k d → (p₁ p₂ : List ℕ) → length p₁ ≡ length p → length p₂ ≡ length p₁ →
     Shuffled (slice k (k + k) p₁) (slice 0 (0 + k) p) × (drop (k + k) p₁ ≡ drop (k + k) p) →
-    Shuffled (slice 0 (0 + k) p₂) (slice k (k + k) p₁) × (drop (0 + k) p₂ ≡ drop (0 + k) p₁) → Passing p₀ p₂ k (d - 2)
+    Shuffled (slice 0 (0 + k) p₂) (slice k (k + k) p₁) × (drop (0 + k) p₂ ≡ drop (0 + k) p₁) → SpreadPass p₀ p₂ k (d - 2)
 passing-next {p₀} {p} {k} {d} s p₁ p₂ n m there back =
     let z : 0 + k ≡ k = omega arith in
     let a : Shuffled (slice k (k + k) p₁) (take k p) = rw z at (there .0) in

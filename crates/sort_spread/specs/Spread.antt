@@ -16,8 +16,8 @@ byteFrom d s x = getD s (x + d) 0
 abbrev pub keyed : (ℕ → ℕ) → List ℕ → ℕ → ℕ
 keyed key xs b = countOf (λ x. eqb (key x) b) xs
 
-abbrev pub lower : (ℕ → ℕ) → List ℕ → ℕ → ℕ
-lower key xs b = countOf (λ x. ltb (key x) b) xs
+abbrev pub keyedBelow : (ℕ → ℕ) → List ℕ → ℕ → ℕ
+keyedBelow key xs b = countOf (λ x. ltb (key x) b) xs
 
 -- the sum of some numbers
 unfoldable pub added : List ℕ → ℕ

@@ -6,7 +6,7 @@ ghost use mathlib.Core.Logic.{_⊎_};
 ghost use Prim.Native.Nat.{_+_, _≤_, _<_};
 ghost use lib.ListN.{length, take, drop};
 ghost use lib.Seq.{slice};
-ghost use Rattle.sort_spread.specs.Spread.{byteFrom, keyed, lower, added, Counters, Shuffled};
+ghost use Rattle.sort_spread.specs.Spread.{byteFrom, keyed, keyedBelow, added, Counters, Shuffled};
 use slices::wide::wide;
 
 // The byte d places past a start, as an index.
@@ -62,7 +62,7 @@ fn place_starts(
 )
     requires { ⌜ (from + k ≤ length (now p)) × (to + k ≤ length (now p)) × (k < 4294967296) × (d < 12) ⌝ }
     requires { ⌜ (from + k ≤ to) ⊎ (to + k ≤ from) ⌝ }
-    requires { ⌜ Counters (lower (byteFrom d (now text)) (slice from (from + k) (now p))) (now c) ⌝ }
+    requires { ⌜ Counters (keyedBelow (byteFrom d (now text)) (slice from (from + k) (now p))) (now c) ⌝ }
     ensures same { λ _. ⌜ Shuffled (slice to (to + k) (now (p .exit))) (slice from (from + k) (now (p .entry))) ⌝ }
     ensures rest { λ _. ⌜ drop (to + k) (now (p .exit)) ≡ drop (to + k) (now (p .entry)) ⌝ }
 {

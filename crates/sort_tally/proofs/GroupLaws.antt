@@ -35,7 +35,7 @@ groups-few f [] = omega arith
 groups-few f (x ∷ xs) = from-few f x 1 xs
 
 -- what stands after a group is put at d
-pub record Put (p q : List ℕ) (k d i start count : ℕ) : Type 0 where
+pub record GroupPut (p q : List ℕ) (k d i start count : ℕ) : Type 0 where
   pub long : length q ≡ length p
   pub first : take (d + 1) q ≡ take d p ++ (start ∷ [])
   pub second : take (d + 1) (drop k q) ≡ take d (drop k p) ++ (count ∷ [])
@@ -43,7 +43,7 @@ pub record Put (p q : List ℕ) (k d i start count : ℕ) : Type 0 where
   pub back : drop (k + k) q ≡ drop (k + k) p
 
 pub put-facts : (p : List ℕ) (k d i start count : ℕ) → d < i → d < k → k + k ≤ length p →
-    Put p (set (set p d start) (k + d) count) k d i start count
+    GroupPut p (set (set p d start) (k + d) count) k d i start count
 put-facts p k d i start count h l r =
     let l₁ : length (set p d start) ≡ length p = length-set p d start in
     let far : d < length (drop k (set p d start)) = rw length-drop (omega arith) in
@@ -56,7 +56,7 @@ put-facts p k d i start count h l r =
       back = rw (drop-set-lt (k + k) (set p d start) (k + d) count (omega arith), drop-set-lt (k + k) p d start (omega arith));
     }
 
-pub record Grouping (f : ℕ → ℕ → Bool) (whole : List Group) (p₀ p : List ℕ) (k i d start count : ℕ) : Type 0 where
+pub record GroupWalk (f : ℕ → ℕ → Bool) (whole : List Group) (p₀ p : List ℕ) (k i d start count : ℕ) : Type 0 where
   pub room : k + k ≤ length p₀
   pub long : length p ≡ length p₀
   pub closed : d < i
@@ -73,7 +73,7 @@ unfolding groups
 grouping-none f p = record { many = refl; first = refl; second = refl }
 
 pub grouping-start : (f : ℕ → ℕ → Bool) (p : List ℕ) (k : ℕ) → 0 < k → k + k ≤ length p →
-    Grouping f (groups f (take k p)) p p k 1 0 (getD p 0 0) 1
+    GroupWalk f (groups f (take k p)) p p k 1 0 (getD p 0 0) 1
 unfolding groups
 grouping-start f p k h r =
     let e : take k p ≡ getD p 0 0 ∷ slice 1 k p = slice-next p 0 k h (omega arith) in
@@ -98,7 +98,7 @@ module _ (f : ℕ → ℕ → Bool) (start n x : ℕ) (l xs : List ℕ) (e : l �
   unfolding groupsFrom
   from-join t = rw (e, t)
 
-module _ {f : ℕ → ℕ → Bool} {whole : List Group} {p₀ p : List ℕ} {k i d start count : ℕ} (g : Grouping f whole p₀ p k i d start count) where
+module _ {f : ℕ → ℕ → Bool} {whole : List Group} {p₀ p : List ℕ} {k i d start count : ℕ} (g : GroupWalk f whole p₀ p k i d start count) where
   -- the next to see
   pub grouping-read : i < k → slice i k p₀ ≡ getD p i 0 ∷ slice (i + 1) k p₀
   grouping-read h =
@@ -106,7 +106,7 @@ module _ {f : ℕ → ℕ → Bool} {whole : List Group} {p₀ p : List ℕ} {k 
       let a : slice (i + 1) k p ≡ slice (i + 1) k p₀ = slice-tail i k p ∙ ap (drop 1) (g .ahead) ∙ sym (slice-tail i k p₀) in
       sym (g .ahead) ∙ e ∙ rw a
 
-  pub grouping-open : i < k → f (getD p i 0) start ≡ true → Grouping f whole p₀ (set (set p d start) (k + d) count) k (i + 1) (d + 1) (getD p i 0) 1
+  pub grouping-open : i < k → f (getD p i 0) start ≡ true → GroupWalk f whole p₀ (set (set p d start) (k + d) count) k (i + 1) (d + 1) (getD p i 0) 1
   grouping-open h t =
       let w = put-facts p k d i start count (g .closed) (omega (arith, g .closed, g .within)) (omega (arith, g .room, g .long)) in
       let o = from-open f start count (getD p i 0) (slice i k p₀) (slice (i + 1) k p₀) (grouping-read h) t in
@@ -123,7 +123,7 @@ module _ {f : ℕ → ℕ → Bool} {whole : List Group} {p₀ p : List ℕ} {k 
         back = w .back ∙ g .back;
       }
 
-  pub grouping-join : i < k → f (getD p i 0) start ≡ false → Grouping f whole p₀ p k (i + 1) d start (count + 1)
+  pub grouping-join : i < k → f (getD p i 0) start ≡ false → GroupWalk f whole p₀ p k (i + 1) d start (count + 1)
   grouping-join h t =
       let o = from-join f start count (getD p i 0) (slice i k p₀) (slice (i + 1) k p₀) (grouping-read h) t in
       record {

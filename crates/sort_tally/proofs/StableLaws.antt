@@ -184,7 +184,7 @@ module _ (f : ℕ → ℕ → Bool) where
 
 -- ---- the groups of groupStarts that are in the stable order
 -- among the groupStarts ss there is one of the same part as a, and no later
-pub record Kept (m c : ℕ) (s ss : List ℕ) (a : ℕ) : Type 0 where
+pub record Represented (m c : ℕ) (s ss : List ℕ) (a : ℕ) : Type 0 where
   pub at : ℕ
   pub within : at < length ss
   pub like : part m c s (getD ss at 0) ≡ part m c s a
@@ -194,10 +194,10 @@ module _ (m c : ℕ) (s : List ℕ) where
   abbrev after : ℕ → ℕ → Bool
   after a b = stable (later m c s) a b
 
-  kept-next : (x a : ℕ) (ss : List ℕ) → Kept m c s ss a → Kept m c s (x ∷ ss) a
+  kept-next : (x a : ℕ) (ss : List ℕ) → Represented m c s ss a → Represented m c s (x ∷ ss) a
   kept-next x a ss k = record { at = suc (k .at); within = omega (arith, k .within); like = k .like; low = k .low }
 
-  kept-first : (x a : ℕ) (ss : List ℕ) → a ≡ x → Kept m c s (x ∷ ss) a
+  kept-first : (x a : ℕ) (ss : List ℕ) → a ≡ x → Represented m c s (x ∷ ss) a
   kept-first x a ss e = record { at = 0; within = omega arith; like = ap (part m c s) (sym e); low = omega arith }
 
   -- a start of the same part, and no later, in the place of the first
@@ -215,7 +215,7 @@ module _ (m c : ℕ) (s : List ℕ) where
       moved = go (later m c s a y) (later m c s y a) (rw (← e) (o .0))
 
   covers : (start n : ℕ) (xs : List ℕ) → InOrder after (start ∷ xs) → (a : ℕ) → Has a (start ∷ xs) →
-      Kept m c s (groupStarts (groupsFrom (later m c s) start n xs)) a
+      Represented m c s (groupStarts (groupsFrom (later m c s) start n xs)) a
   unfolding groupsFrom InOrder Leads stable
   covers start n [] o a h = kept-first start a [] (only (has-cases a start [] h))
     where
@@ -228,7 +228,7 @@ module _ (m c : ℕ) (s : List ℕ) where
     where
       Goal : Bool → Type 0
       Goal t =
-          Kept m c s
+          Represented m c s
           (groupStarts (cond t (record { start = start; count = n } ∷ groupsFrom (later m c s) x 1 xs) (groupsFrom (later m c s) start (n + 1) xs))) a
 
       -- x joins the group: it is of the same part, and no earlier
@@ -239,21 +239,21 @@ module _ (m c : ℕ) (s : List ℕ) where
           at true q r = let z : _≡_ {A = ℕ} 0 1 = cc in absurd (omega arith)
           at false q r = (equal-parts m c s x start e q, ltb-false x start r)
 
-      later-of : (ss : List ℕ) → part m c s x ≡ part m c s start → start ≤ x → a ≡ x → Kept m c s ss start → Kept m c s ss a
+      later-of : (ss : List ℕ) → part m c s x ≡ part m c s start → start ≤ x → a ≡ x → Represented m c s ss start → Represented m c s ss a
       later-of ss e l q k = record { at = k .at; within = k .within; like = k .like ∙ sym e ∙ ap (part m c s) (sym q); low = omega (arith, k .low) }
 
       joined : (ss : List ℕ) → part m c s x ≡ part m c s start → start ≤ x → (a ≡ start) ⊎ Has a (x ∷ xs) →
-          ((b : ℕ) → Has b (start ∷ xs) → Kept m c s ss b) → Kept m c s ss a
+          ((b : ℕ) → Has b (start ∷ xs) → Represented m c s ss b) → Represented m c s ss a
       joined ss e l (inl q) more = more a (subst (λ (b : ℕ). Has b (start ∷ xs)) (sym q) (has-here start xs))
       joined ss e l (inr k) more = again (has-cases a x xs k)
         where
-          again : (a ≡ x) ⊎ Has a xs → Kept m c s ss a
+          again : (a ≡ x) ⊎ Has a xs → Represented m c s ss a
           again (inl q) = later-of ss e l q (more start (has-here start xs))
           again (inr h) = more a (has-more a start xs h)
 
       go : (t : Bool) → later m c s x start ≡ t → (a ≡ start) ⊎ Has a (x ∷ xs) →
-          (Has a (x ∷ xs) → Kept m c s (groupStarts (groupsFrom (later m c s) x 1 xs)) a) →
-          (part m c s x ≡ part m c s start → start ≤ x → (b : ℕ) → Has b (start ∷ xs) → Kept m c s (groupStarts (groupsFrom (later m c s) start (n + 1) xs)) b) →
+          (Has a (x ∷ xs) → Represented m c s (groupStarts (groupsFrom (later m c s) x 1 xs)) a) →
+          (part m c s x ≡ part m c s start → start ≤ x → (b : ℕ) → Has b (start ∷ xs) → Represented m c s (groupStarts (groupsFrom (later m c s) start (n + 1) xs)) b) →
           Goal t
       go true e (inl q) opens more = kept-first start a (groupStarts (groupsFrom (later m c s) x 1 xs)) q
       go true e (inr k) opens more = kept-next start a (groupStarts (groupsFrom (later m c s) x 1 xs)) (opens k)
@@ -315,14 +315,14 @@ module _ (m c : ℕ) (s : List ℕ) where
     same-has : (a : ℕ) → countOf (eqb a) (msorted (later m c s) k xs) ≡ countOf (eqb a) xs
     same-has a = countOf-msorted (eqb a) (later m c s) k xs
 
-    pub covered : Climbing xs → length xs ≤ k → (a : ℕ) → Has a xs → Kept m c s (groupStarts grouped) a
+    pub covered : Climbing xs → length xs ≤ k → (a : ℕ) → Has a xs → Represented m c s (groupStarts grouped) a
     unfolding groups
     covered climb fits a h =
         go (msorted (later m c s) k xs)
         (rw (msorted-stable (later m c s) k xs climb) (inorder-msorted (stable (later m c s)) (stable-one (later m c s) (later-one m c s)) k xs fits))
         (rw (same-has a) h)
       where
-        go : (ys : List ℕ) → InOrder after ys → Has a ys → Kept m c s (groupStarts (groups (later m c s) ys)) a
+        go : (ys : List ℕ) → InOrder after ys → Has a ys → Represented m c s (groupStarts (groups (later m c s) ys)) a
         go [] o h = absurd (has-none a h)
         go (y ∷ ys) o h = covers y 1 ys o a h
 

@@ -16,7 +16,7 @@ use Rattle.rules.specs.Book.{partIn, written, compiled}
 use Rattle.rules.specs.Refusal.{Areas}
 use Rattle.rules.specs.Jobs.{scan, scoreJob, boundsJob}
 use Rattle.rules.proofs.Opened.{opened}
-use Rattle.questions.specs.Hex.{hexGlyph, pairs}
+use Rattle.questions.specs.Hex.{hexGlyph, hexPairs}
 use Rattle.questions.specs.Numbers.{digits, decimal, fourBytes}
 
 rec : ℕ → List ℕ → List ℕ
@@ -44,7 +44,7 @@ spaced : List ℕ → List ℕ
 spaced s = s ++ text " "
 
 bits : Float → List ℕ
-bits x = pairs (fourBytes (toBits binary32 x))
+bits x = hexPairs (fourBytes (toBits binary32 x))
 
 -- the scan of these lent books, whose names stand in the first or the second
 pub line : List ℕ → List (List ℕ) → List ℕ → List ℕ → ℕ → List ℕ
@@ -76,5 +76,5 @@ pub lines-hold :
     both a (take 57 a) 9 ++ both [] (take 57 a) 9 ++ both b a 1 ++ line (text "none of it") (b ∷ a ∷ []) b a 9 ++
     alone a ++ alone (b ++ c) ++ alone [] ++ alone (take 57 a) ++ viewed 0 ++ viewed 1 ++ viewed 2 ≡
     text "0 2 2 0 6 1 A\n0 2 2 1 6 1 A\n0 2 2 0 6 1 A\n0 3 2 0 95 1 C\n0 3 2 1 6 1 A\n0 1 2 1 6 1 A\n0 1 2 0 6 1 A\n5 0 0 0 0 0 \n4 0 0 0 0 0 \n4 0 0 0 0 0 \n12 1 0 0 0 0 \n0 2 0 0 0 0 \n0 1 2 0 6 1 A\n0 2 2 0 95 1 C\n5 0 0 0 0 0 \n4 0 0 0 0 0 \n0 00000000 0 1 1 00000000 4\n0 3f800000 0 0 1 3f800000 4\n9 00000000 9 0 0 00000000 0\n"
-unfolding both alone viewed line bits spaced half areas note a b c licence rec digits decimal fourBytes pairs hexGlyph opened
+unfolding both alone viewed line bits spaced half areas note a b c licence rec digits decimal fourBytes hexPairs hexGlyph opened
 lines-hold = refl

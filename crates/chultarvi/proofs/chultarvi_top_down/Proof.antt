@@ -7,11 +7,15 @@ use Rattle.chultarvi.proofs.AnswerLaws.{scan-as}
 use Rattle.chultarvi.proofs.chultarvi_top_down.Statement.{statement}
 use Rattle.chultarvi.proofs.chultarvi_top_down.Tie as tie
 
-for-c-requires : tie.Need-for-c-requires
-for-c-requires c κs = part-length (read-one _) (c .before .before .before .before .before .before .scan .ensures)
+scanned-for-c-requires : tie.Need-scanned-for-c-requires
+scanned-for-c-requires c κs =
+    let done : tie.After-scan = search in
+    part-length (read-one _) (done .scan .ensures)
 
 returns : tie.Need-returns
-returns c = scan-as (c .for-c .ensures) (c .before .before .before .before .before .before .before .scan .ensures)
+returns c =
+    let done : tie.After-scan = search in
+    scan-as (c .scanned-for-c .ensures) (done .scan .ensures)
 
 pub chultarvi-top-down-spec : {M : Type 1} → statement M
-chultarvi-top-down-spec = tie.close (tie.spec (λ c κs. search needs) for-c-requires (λ c. search needs) (λ c. search needs) (λ c. search needs) returns)
+chultarvi-top-down-spec = tie.close (tie.spec (λ c κs. search needs) scanned-for-c-requires (λ c. search needs) (λ c. search needs) (λ c. search needs) returns)

@@ -1,6 +1,6 @@
--- `detection_bodies::table_sound` meets its contract: entry by entry. The loop's invariant is `Run`: the rest of the entries, after those that were read, is what the body is worth.
+-- `detection_bodies::table_sound` meets its contract: entry by entry. The loop's invariant is `EntryRun`: the rest of the entries, after those that were read, is what the body is worth.
 -- Assumes nothing.
-use Rattle.detection_bodies.proofs.EntryLaws.{Run, rest-short, run-start, run-next, run-bad, run-over, run-end, run-broken}
+use Rattle.detection_bodies.proofs.EntryLaws.{EntryRun, rest-short, run-start, run-next, run-bad, run-over, run-end, run-broken}
 use Rattle.records.proofs.StepLaws.{EntryHere, entry-here, entry-end, entry-broken}
 use borrow.Author.Tests.{not-true, not-false}
 use lib.ListN.{length}
@@ -13,7 +13,7 @@ use Rattle.detection_bodies.proofs.table_sound.Statement.{statement}
 use Rattle.detection_bodies.proofs.table_sound.Tie as tie
 
 abbrev Inv-loop : tie.InvT-loop
-Inv-loop body at₀ last₀ sum₀ entries₀ at last sum entries = Run body at last sum entries
+Inv-loop body at₀ last₀ sum₀ entries₀ at last sum entries = EntryRun body at last sum entries
 
 abbrev μ-loop : tie.MeasureT-loop
 μ-loop body at₀ last₀ sum₀ entries₀ at last sum entries = length body - at

@@ -1,6 +1,6 @@
--- `detection_check::check_book` meets its contract: the loop's invariant is `Walked`: the verdict on what is still to come is the book's.
+-- `detection_check::check_book` meets its contract: the loop's invariant is `CheckWalk`: the verdict on what is still to come is the book's.
 -- Assumes nothing.
-use Rattle.detection_check.proofs.CheckLaws.{verdict-long, Walked, walked-start, walked-on, walked-next, walked-done}
+use Rattle.detection_check.proofs.CheckLaws.{verdict-long, CheckWalk, walked-start, walked-on, walked-next, walked-done}
 use lib.ListN.{length}
 use native.Mathlib.Omega.{arith}
 use Prim.Native.Nat.{ℕ, _-_}
@@ -11,7 +11,7 @@ use Rattle.detection_check.proofs.check_book.Statement.{statement}
 use Rattle.detection_check.proofs.check_book.Tie as tie
 
 abbrev Inv-loop : tie.InvT-loop
-Inv-loop book walk₀ walk = Walked book walk
+Inv-loop book walk₀ walk = CheckWalk book walk
 
 abbrev μ-loop : tie.MeasureT-loop
 μ-loop book walk₀ walk = length book - walk .at

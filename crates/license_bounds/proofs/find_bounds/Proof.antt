@@ -18,7 +18,7 @@ use Rattle.license_bounds.specs.declared.Searched.the-variants as search
 use Rattle.license_bounds.specs.declared.Task.{Task}
 use Rattle.license_bounds.specs.Found.{Yields, searchedOf}
 use Rattle.license_bounds.specs.Ready.{Spans, Kept, OfBody, scoreAt}
-use Rattle.license_bounds.proofs.ReadyLaws.{textOf, kept-more, sought-as, yields-as}
+use Rattle.license_bounds.proofs.ReadyLaws.{bodyText, kept-more, sought-as, yields-as}
 use Rattle.license_bounds.proofs.RoundLaws.{found-same}
 use Rattle.license_bounds.proofs.BoundLaws.{found-in, no-end, no-start, both-found}
 use Rattle.license_bounds.proofs.find_bounds.Statement.{statement}
@@ -134,7 +134,7 @@ search-bound-requires-2 c κs =
     let f = c .before .before .before .before in
     let s = from f in
     let inside = s .pre .1 in
-    let found = found-in _ (v s .start) (v s .end) (s .args .budget .count) (end f) (left f) (inside .0) (end-found f (textOf (body s)) refl) in (
+    let found = found-in _ (v s .start) (v s .end) (s .args .budget .count) (end f) (left f) (inside .0) (end-found f (bodyText (body s)) refl) in (
       sought-as told
           (record { working = up (first f) .kept .working; spans = (omega arith, omega (arith, inside .1)); small = omega (arith, inside .1, inside .2) }),
       found .0,

@@ -7,7 +7,7 @@ use denote.Ref.{now}
 use lib.ListN.{length}
 use borrow.Author.Needs.{needs}
 use Rattle.rules.specs.declared.View.{View}
-use Rattle.slices.specs.declared.ends.Span.{Span}
+use Rattle.slices.specs.declared.ends.ByteSpan.{ByteSpan}
 use Rattle.preproc_view.specs.Whole as view
 use Rattle.license_notes.specs.Laid.{Held}
 use Rattle.license_views.specs.Tabled.{Processed}
@@ -49,7 +49,7 @@ module _ (k : tie.After-common-prefix) where
   ready : view.Ready (now (start .args .class)) area₁ words₁ n v
   ready = view-ready n lines _ area₁ words₁ v (start .pre .0 .0) (held .laid) (start .pre .1 .0) (start .pre .1 .1)
 
-  done : (area : List ℕ) (r : Span) → length area ≡ length area₁ → view.ViewProcessed (view.viewAt area₁ words₁ v) n area₁ r area →
+  done : (area : List ℕ) (r : ByteSpan) → length area ≡ length area₁ → view.ViewProcessed (view.viewAt area₁ words₁ v) n area₁ r area →
       Processed n lines v area₀ words₀ r area words₁
   done area r long p = process-done n lines v area₀ words₀ area₁ words₁ area r (start .pre .1 .0) (start .pre .1 .1) held long p
 

@@ -11,8 +11,8 @@ use Rattle.ngram_score.proofs.useless.Tie as tie
 smaller-requires : tie.Need-smaller-requires
 smaller-requires c κs = search needs
 
-enough-requires : tie.Need-enough-requires
-enough-requires c κs =
+shares-beat-requires : tie.Need-shares-beat-requires
+shares-beat-requires c κs =
     let pre = c .before .pre in
     (omega (arith, c .smaller .ensures), omega (arith, c .smaller .ensures), pre .0, pre .1)
 
@@ -26,7 +26,7 @@ returns c =
     let s = c .before .before in
     let a = s .before .args in
     useless-to (a .floor) (a .a) (a .b) (s .before .pre .0) (s .before .pre .1) (s .smaller .result) _ (omega (arith, s .smaller .ensures)) (omega (arith, s .smaller .ensures)) refl
-    (sym (c .before .enough .ensures) ∙ not-true _ (c .if1 .taken))
+    (sym (c .before .shares-beat .ensures) ∙ not-true _ (c .if1 .taken))
 
 add-about : tie.Need-add-about
 add-about c = search needs
@@ -34,8 +34,8 @@ add-about c = search needs
 about-requires : tie.Need-about-requires
 about-requires c κs = search needs
 
-enough-requires-2 : tie.Need-enough-requires-2
-enough-requires-2 c κs =
+shares-beat-requires-2 : tie.Need-shares-beat-requires-2
+shares-beat-requires-2 c κs =
     let s = c .before .before .before in
     let pre = s .before .pre in
     (omega (arith, c .about .ensures, s .smaller .ensures), omega (arith, c .about .ensures, s .smaller .ensures), pre .0, pre .1)
@@ -52,7 +52,7 @@ returns-2 c =
     let s = n .before .before .before in
     let a = s .before .args in
     useless-to (a .floor) (a .a) (a .b) (s .before .pre .0) (s .before .pre .1) (n .about .result) _ (omega (arith, n .about .ensures, s .smaller .ensures)) (omega (arith, n .about .ensures, s .smaller .ensures)) refl
-    (sym (c .before .enough2 .ensures) ∙ not-true _ (c .if2 .taken))
+    (sym (c .before .shares-beat2 .ensures) ∙ not-true _ (c .if2 .taken))
 
 returns-3 : tie.Need-returns-3
 returns-3 c =
@@ -60,11 +60,11 @@ returns-3 c =
     let a = s .before .args in
     useless-none (a .floor) (a .a) (a .b) (s .before .pre .0) (s .before .pre .1)
 
-sub-enough : tie.Need-sub-enough
-sub-enough c = search needs
+sub-shares-beat : tie.Need-sub-shares-beat
+sub-shares-beat c = search needs
 
-enough-requires-3 : tie.Need-enough-requires-3
-enough-requires-3 c κs =
+shares-beat-requires-3 : tie.Need-shares-beat-requires-3
+shares-beat-requires-3 c κs =
     let n = c .before .before .before in
     let s = n .before .before .before in
     let pre = s .before .pre in
@@ -77,7 +77,7 @@ returns-4 c =
     let s = n .before .before .before in
     let a = s .before .args in
     useless-to (a .floor) (a .a) (a .b) (s .before .pre .0) (s .before .pre .1) _ _ (omega (arith, n .about .ensures, s .smaller .ensures)) (omega (arith, n .about .ensures, s .smaller .ensures)) (omega (arith, z .if3 .left))
-    (sym (c .before .enough3 .ensures) ∙ not-true _ (c .if4 .taken))
+    (sym (c .before .shares-beat3 .ensures) ∙ not-true _ (c .if4 .taken))
 
 returns-5 : tie.Need-returns-5
 returns-5 c =
@@ -90,16 +90,16 @@ useless-spec =
     tie.close
     (tie.spec
     smaller-requires
-    enough-requires
+    shares-beat-requires
     add-result
     returns
     add-about
     about-requires
-    enough-requires-2
+    shares-beat-requires-2
     add-result-2
     returns-2
     returns-3
-    sub-enough
-    enough-requires-3
+    sub-shares-beat
+    shares-beat-requires-3
     returns-4
     returns-5)

@@ -10,7 +10,7 @@ use lib.Seq.{slice}
 use Rattle.lists.proofs.SliceLaws.{part-slice}
 use Rattle.rules.specs.Table.{occurs}
 use Rattle.rules.proofs.PrefixLaws.{same-true}
-use Rattle.slices.specs.declared.ends.Span.{Span}
+use Rattle.slices.specs.declared.ends.ByteSpan.{ByteSpan}
 use Rattle.prefix_list.specs.Listing.{Home}
 use Rattle.prefix_list.proofs.ShareLaws.{rest, lies-of, home-there, home-next, home-none}
 use borrow.Author.Needs.{needs}
@@ -34,7 +34,7 @@ module _ (s : tie.After-shared Inv-loop μ-loop) where
   abbrev area : List ℕ
   area = now (start .args .area)
 
-  abbrev span : Span
+  abbrev span : ByteSpan
   span = s .shared .result
 
   next : head .loop .i + 1 < start .args .count

@@ -5,7 +5,7 @@ use mathlib.Core.List.{List}
 use Prim.Native.Nat.{ℕ, _+_, _-_, _*_, _≤_, _<_}
 use native.Mathlib.Omega.{arith}
 use denote.Ref.{now}
-use Rattle.slices.specs.declared.ends.Span.{Span}
+use Rattle.slices.specs.declared.ends.ByteSpan.{ByteSpan}
 use Rattle.preproc_table.specs.Entries.{startAt}
 use Rattle.prefix_list.proofs.ListLaws.{Listing, listing-start, listing-lies, listing-room, listing-skip, listing-put, listing-end}
 use borrow.Author.Needs.{needs}
@@ -43,7 +43,7 @@ module _ (s : tie.After-shared Inv-loop μ-loop) where
   abbrev inside : tie.In-loop Inv-loop μ-loop
   inside = s .before .before .before
 
-  abbrev span : Span
+  abbrev span : ByteSpan
   span = s .shared .result
 
   room : (span .start ≤ span .end) × (span .end ≤ head inside .loop .w)

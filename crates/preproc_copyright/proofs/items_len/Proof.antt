@@ -4,13 +4,13 @@ use Prim.Native.Nat.{_+_, _-_, _≤_}
 use native.Mathlib.Omega.{arith}
 use denote.Ref.{now}
 use lib.ListN.{length}
-use Rattle.preproc_copyright.proofs.HitCaseLaws.{Listed, listed-start, listed-end, listed-more, spaced-within}
+use Rattle.preproc_copyright.proofs.HitCaseLaws.{ItemWalk, listed-start, listed-end, listed-more, spaced-within}
 use borrow.Author.Needs.{needs}
 use Rattle.preproc_copyright.proofs.items_len.Statement.{statement}
 use Rattle.preproc_copyright.proofs.items_len.Tie as tie
 
 abbrev Inv-loop : tie.InvT-loop
-Inv-loop class s at i₀ i = Listed s at i
+Inv-loop class s at i₀ i = ItemWalk s at i
 
 abbrev μ-loop : tie.MeasureT-loop
 μ-loop class s at i₀ i = length s - i

@@ -9,7 +9,7 @@ use lib.Dec.{eqb}
 use lib.ListN.{drop}
 use borrow.Author.Tests.{eq-eqb, ne-eqb}
 use Rattle.rules.specs.Passes.{hit}
-use Rattle.preproc_cut.proofs.CutLaws.{inside, inside-none}
+use Rattle.preproc_cut.proofs.CutLaws.{hit-inside, inside-none}
 use borrow.Author.Needs.{needs}
 use Rattle.preproc_cut.proofs.hit_at.Statement.{statement}
 use Rattle.preproc_cut.proofs.hit_at.Tie as tie
@@ -43,7 +43,7 @@ module _ (c : tie.Else2) where
 returns-3 : tie.Need-returns-3
 returns-3 c =
     let e = c .before .before .before in
-    c .hit-a .ensures ∙ sym (mid e ∙ inside (rest (E e .before .before)))
+    c .hit-a .ensures ∙ sym (mid e ∙ hit-inside (rest (E e .before .before)))
 
 returns-4 : tie.Need-returns-4
 returns-4 c =

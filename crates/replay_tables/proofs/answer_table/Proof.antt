@@ -5,13 +5,13 @@ use native.Mathlib.Omega.{arith}
 use denote.Ref.{now}
 use lib.Seq.{length-take-le}
 use Rattle.questions.proofs.PutLaws.{front-none}
-use Rattle.replay_tables.proofs.MadeLaws.{Made, not-made, made, no-table, right-table}
+use Rattle.replay_tables.proofs.MadeLaws.{TableMade, not-made, made, no-table, right-table}
 use borrow.Author.Needs.{needs}
 use Rattle.replay_tables.proofs.answer_table.Statement.{statement}
 use Rattle.replay_tables.proofs.answer_table.Tie as tie
 
 -- what compile wrote
-written : (k : tie.Else1) → Made (now (k .before .before .before .before .before .before .before .before .before .before .args .text)) (k .before .before .before .before .compile .result .len) (k .before .before .before .before .compile .last .1 .1 .1 .0)
+written : (k : tie.Else1) → TableMade (now (k .before .before .before .before .before .before .before .before .before .before .args .text)) (k .before .before .before .before .compile .result .len) (k .before .before .before .before .compile .last .1 .1 .1 .0)
 written k = made (k .before .before .before .before .compile .ensures) (omega arith) (omega arith) (k .before .before .before .before .before .before .before .before .before .before .pre) (k .if1 .left)
 
 returns : tie.Need-returns

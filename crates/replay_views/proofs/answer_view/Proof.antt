@@ -5,7 +5,7 @@ use native.Mathlib.Omega.{arith}
 use denote.Ref.{now}
 use borrow.Author.Tests.{not-true, not-false}
 use Rattle.questions.proofs.PutLaws.{front-none}
-use Rattle.questions.proofs.FitLaws.{fits}
+use Rattle.questions_fit.proofs.FitLaws.{fits}
 use Rattle.replay_views.proofs.ToldLaws.{no-view, right-view}
 use borrow.Author.Needs.{needs}
 use Rattle.replay_views.proofs.answer_view.Statement.{statement}

@@ -1,7 +1,7 @@
 -- `scan_top_down::find_contained` meets its contract: the round's walk, and then what it came to is settled.
 -- Assumes nothing.
 use borrow.Author.Needs.{needs}
-use Rattle.scan_views.specs.Down.{WalkedStands}
+use Rattle.scan_view.specs.Down.{WalkedStands}
 use Rattle.scan_ranges.proofs.HeldLaws.{scanning-held}
 use Rattle.scan_top_down.proofs.DownRunLaws.{pairs-as, contains-out, contains-on, contains-over}
 use Rattle.scan_top_down.proofs.find_contained.Statement.{statement}

@@ -2,7 +2,7 @@
 -- Assumes nothing.
 use mathlib.Core.Path.{sym, _∙_, subst}
 use borrow.Author.Needs.{needs}
-use Rattle.scan_views.specs.Down.{LatestStands}
+use Rattle.scan_view.specs.Down.{LatestStands}
 use Rattle.scan_top_down.proofs.DownRunLaws.{range-as, settle-none, settle-out, settle-below, settle-found}
 use Rattle.scan_top_down.proofs.settle.Statement.{statement}
 use Rattle.scan_top_down.proofs.settle.Tie as tie

@@ -23,7 +23,7 @@ module _ (x : tie.At-loop Inv-loop μ-loop) where
   abbrev begin : tie.Start Inv-loop μ-loop
   begin = search
 
-module _ (x : tie.After-see Inv-loop μ-loop) where
+module _ (x : tie.After-see-view Inv-loop μ-loop) where
   abbrev turn : tie.In-loop Inv-loop μ-loop
   turn = search
 
@@ -40,8 +40,8 @@ loop-holds c =
     let start : tie.Start Inv-loop μ-loop = search in
     ends-first _ _ _ _ (start .pre .0) (start .pre .1 .1) (start .pre .1 .0 .0)
 
-see-requires : tie.Need-see-requires Inv-loop μ-loop
-see-requires c κs =
+see-view-requires : tie.Need-see-view-requires Inv-loop μ-loop
+see-view-requires c κs =
     let i = c .before .before .before .loop .inv in
     (i .ready, ((i .from, omega (arith, c .before .before .loop-test .taken)), i .stands))
 
@@ -50,18 +50,18 @@ enum-told c = search needs
 
 same-length : tie.Need-same-length Inv-loop μ-loop
 same-length c =
-    let w : tie.After-see Inv-loop μ-loop = search in
-    w .see .ensures .held .area-long ∙ top w .loop .inv .held .area-long
+    let w : tie.After-see-view Inv-loop μ-loop = search in
+    w .see-view .ensures .held .area-long ∙ top w .loop .inv .held .area-long
 
 same-length-2 : tie.Need-same-length-2 Inv-loop μ-loop
 same-length-2 c =
-    let w : tie.After-see Inv-loop μ-loop = search in
-    w .see .ensures .held .words-long ∙ top w .loop .inv .held .words-long
+    let w : tie.After-see-view Inv-loop μ-loop = search in
+    w .see-view .ensures .held .words-long ∙ top w .loop .inv .held .words-long
 
 returns : tie.Need-returns Inv-loop μ-loop
 returns c =
-    let w : tie.After-see Inv-loop μ-loop = search in
-    ends-out (top w .loop .inv) (begin (top w) .pre .1 .0 .1) (omega (arith, turn w .loop-test .taken)) (walks-as (c .enum-told .given .1) (w .see .ensures))
+    let w : tie.After-see-view Inv-loop μ-loop = search in
+    ends-out (top w .loop .inv) (begin (top w) .pre .1 .0 .1) (omega (arith, turn w .loop-test .taken)) (walks-as (c .enum-told .given .1) (w .see-view .ensures))
 
 enum-known-l : tie.Need-enum-known-l Inv-loop μ-loop
 enum-known-l c = search needs
@@ -72,41 +72,41 @@ enum-known-l-2 c = search needs
 same-length-3 : tie.Need-same-length-3 Inv-loop μ-loop
 same-length-3 c =
     let over : tie.After-l2 Inv-loop μ-loop = search in
-    let w : tie.After-see Inv-loop μ-loop = search in
-    w .see .ensures .held .area-long ∙ top w .loop .inv .held .area-long
+    let w : tie.After-see-view Inv-loop μ-loop = search in
+    w .see-view .ensures .held .area-long ∙ top w .loop .inv .held .area-long
 
 same-length-4 : tie.Need-same-length-4 Inv-loop μ-loop
 same-length-4 c =
     let over : tie.After-l2 Inv-loop μ-loop = search in
-    let w : tie.After-see Inv-loop μ-loop = search in
-    w .see .ensures .held .words-long ∙ top w .loop .inv .held .words-long
+    let w : tie.After-see-view Inv-loop μ-loop = search in
+    w .see-view .ensures .held .words-long ∙ top w .loop .inv .held .words-long
 
 returns-2 : tie.Need-returns-2 Inv-loop μ-loop
 returns-2 c =
     let over : tie.After-l2 Inv-loop μ-loop = search in
-    let w : tie.After-see Inv-loop μ-loop = search in
-    ends-over (top w .loop .inv) (begin (top w) .pre .1 .0 .1) (omega (arith, turn w .loop-test .taken)) (walks-as (over .l2 .given .1) (w .see .ensures))
+    let w : tie.After-see-view Inv-loop μ-loop = search in
+    ends-over (top w .loop .inv) (begin (top w) .pre .1 .0 .1) (omega (arith, turn w .loop-test .taken)) (walks-as (over .l2 .given .1) (w .see-view .ensures))
 
 next-step-requires : tie.Need-next-step-requires Inv-loop μ-loop
 next-step-requires c κs =
     let on : tie.After-l Inv-loop μ-loop = search in
-    let w : tie.After-see Inv-loop μ-loop = search in
+    let w : tie.After-see-view Inv-loop μ-loop = search in
     omega (arith, turn w .loop-test .taken)
 
 loop-less : tie.Need-loop-less Inv-loop μ-loop
 loop-less c =
     let on : tie.After-l Inv-loop μ-loop = search in
-    let w : tie.After-see Inv-loop μ-loop = search in
+    let w : tie.After-see-view Inv-loop μ-loop = search in
     omega (arith, c .next-step .ensures, turn w .loop-test .taken, begin (top w) .pre .1 .0 .1)
 
 loop-again : tie.Need-loop-again Inv-loop μ-loop
 loop-again c =
     let on : tie.After-l Inv-loop μ-loop = search in
-    let w : tie.After-see Inv-loop μ-loop = search in
+    let w : tie.After-see-view Inv-loop μ-loop = search in
     let t = top w in
     let a = begin t .args in
     let e = c .next-step .ensures ∙ ap (λ (n : ℕ). min (t .loop .end + a .step) n) (add-one (a .scope .lines)) in
-    ends-next (t .loop .inv) (begin t .pre .1 .0 .1) (omega (arith, turn w .loop-test .taken)) e (walks-as (on .l .given .1) (w .see .ensures))
+    ends-next (t .loop .inv) (begin t .pre .1 .0 .1) (omega (arith, turn w .loop-test .taken)) e (walks-as (on .l .given .1) (w .see-view .ensures))
 
 same-length-5 : tie.Need-same-length-5 Inv-loop μ-loop
 same-length-5 c = c .before .loop .inv .held .area-long
@@ -127,7 +127,7 @@ walk-ends-spec =
     μ-loop
     add-past
     loop-holds
-    see-requires
+    see-view-requires
     enum-told
     same-length
     same-length-2

@@ -6,7 +6,6 @@ use Rattle.detection_shelf.specs.Shelves.{shelf, booksOf, texts}
 use Rattle.detection_shelf.proofs.ShelfLaws.{lent-read}
 use Rattle.refusals.proofs.AdmitLaws.{view-admitted}
 use Rattle.refusals.proofs.AreaLaws.{both-zeroed}
-use lib.Ieee.{ofBits, ofFields}
 use borrow.Author.Needs.{needs}
 use Rattle.score_job.proofs.JobLaws.{score-refused, score-done}
 use Rattle.score_job.proofs.score_lent.Statement.{statement}
@@ -34,12 +33,11 @@ module _ (x : tie.After-clear) where
   passed = search
 
 returns : tie.Need-returns
-unfolding ofBits ofFields
 returns c =
     let start : tie.Start = search in
     let a = start .args in
-    score-refused (now (a .text)) (booksOf (shelf (now (a .book)) (now (a .second))) (a .two)) (a .v) (a .k) (a .area .now) (a .words .now) _
-    (c .before .admit-view .ensures .number) (c .if1 .taken)
+    score-refused (now (a .text)) (booksOf (shelf (now (a .book)) (now (a .second))) (a .two)) (a .v) (a .k) (a .area .now) (a .words .now) _ _
+    (c .before .before .admit-view .ensures .number) (c .before .if1 .taken) (c .refused .ensures)
 
 score-laid-requires : tie.Need-score-laid-requires
 score-laid-requires c κs =
@@ -60,6 +58,7 @@ pub score-lent-spec : {M : Type 1} → statement M
 score-lent-spec =
     tie.close
     (tie.spec
+    (λ c κs. search needs)
     (λ c κs. search needs)
     returns
     score-laid-requires

@@ -1,15 +1,15 @@
--- `sort_spread::spread_all` meets its contract: its loop is `Passing`. The measure is the byte to come.
+-- `sort_spread::spread_all` meets its contract: its loop is `SpreadPass`. The measure is the byte to come.
 -- Assumes nothing.
 use mathlib.Core.Path.{refl}
 use mathlib.Core.Logic.{inl, inr}
 use native.Mathlib.Omega.{arith}
 use borrow.Author.Needs.{needs}
-use Rattle.sort_spread.proofs.PassLaws.{Passing, passing-start, passing-next}
+use Rattle.sort_spread.proofs.PassLaws.{SpreadPass, passing-start, passing-next}
 use Rattle.sort_spread.proofs.spread_all.Statement.{statement}
 use Rattle.sort_spread.proofs.spread_all.Tie as tie
 
 abbrev Inv-loop : tie.InvT-loop
-Inv-loop text p₀ k d₀ p d = Passing p₀ p k d
+Inv-loop text p₀ k d₀ p d = SpreadPass p₀ p k d
 
 abbrev μ-loop : tie.MeasureT-loop
 μ-loop text p₀ k d₀ p d = d

@@ -1,4 +1,4 @@
--- `sort_tally::group_parts` meets its contract: its loop is `Grouping`. The measure is how many are to be seen.
+-- `sort_tally::group_parts` meets its contract: its loop is `GroupWalk`. The measure is how many are to be seen.
 -- Assumes nothing.
 use mathlib.Core.Path.{refl, sym, _∙_}
 use Prim.Native.Nat.{_-_}
@@ -6,14 +6,14 @@ use native.Mathlib.Omega.{arith}
 use lib.ListN.{take}
 use Rattle.sort_spread.specs.Sort.{partLater}
 use Rattle.sort_tally.specs.Group.{groups}
-use Rattle.sort_tally.proofs.GroupLaws.{Grouping, grouping-none, grouping-start, grouping-open, grouping-join, grouping-end}
+use Rattle.sort_tally.proofs.GroupLaws.{GroupWalk, grouping-none, grouping-start, grouping-open, grouping-join, grouping-end}
 use borrow.Author.Needs.{needs}
 use Rattle.sort_tally.proofs.group_parts.Statement.{statement}
 use Rattle.sort_tally.proofs.group_parts.Tie as tie
 
 abbrev Inv-loop : tie.InvT-loop
 Inv-loop text p₀ k mark c start₀ count₀ d₀ i₀ p start count d i =
-    Grouping (partLater mark c text) (groups (partLater mark c text) (take k p₀)) p₀ p k i d start count
+    GroupWalk (partLater mark c text) (groups (partLater mark c text) (take k p₀)) p₀ p k i d start count
 
 abbrev μ-loop : tie.MeasureT-loop
 μ-loop text p₀ k mark c start₀ count₀ d₀ i₀ p start count d i = k - i

@@ -15,8 +15,8 @@ Inv-loop texts book₀ i₀ book i = (1 ≤ i) × (length book ≡ 14357)
 abbrev μ-loop : tie.MeasureT-loop
 μ-loop texts book₀ i₀ book i = texts - i
 
-put-text-requires : tie.Need-put-text-requires Inv-loop μ-loop
-put-text-requires c κs = simp length-set (omega arith)
+put-empty-requires : tie.Need-put-empty-requires Inv-loop μ-loop
+put-empty-requires c κs = simp length-set (omega arith)
 
 slice-aggregate-check-book : tie.Need-slice-aggregate-check-book Inv-loop μ-loop
 slice-aggregate-check-book c = sym (length-take-le _ _ (omega arith))
@@ -32,7 +32,7 @@ texts-of-one-licence-spec =
     (λ c. search needs)
     (λ c. search needs)
     (λ c. search needs)
-    put-text-requires
+    put-empty-requires
     (λ c. search needs)
     (λ c. search needs)
     (λ c. search needs)

@@ -1,5 +1,5 @@
 -- `detection_texts::texts::walk_on` meets its contract: a walk of its MIR, by hand, since it holds a `Reader`. The loop's invariant (`Turn`): the reader stands at
--- the way's place of the book that is lent, and the way is `Under` the number that it set out for; what is `ahead` falls. Of a function that it calls the proof knows
+-- the way's place of the book that is lent, and the way is `Under` the number that it set out for; what is `wayLeft` falls. Of a function that it calls the proof knows
 -- its contract alone. What a `Way` and a number own are facts, made anew at each call; the reader and the book are Copy, and one copy is kept. Assumes nothing.
 use mathlib.Core.Path.{_≡_, refl, sym, ap, subst, _∙_}
 use mathlib.Core.Bool.{Bool, true, false}
@@ -67,7 +67,7 @@ use Rattle.records.proofs.reader.moved.Symbol.{name as #moved}
 use Rattle.records.proofs.reader.moved.Met as moved-thm
 use Rattle.detection_texts.specs.Texts.{Under, pastRecord}
 use Rattle.detection_texts.specs.declared.texts.Way.{Way}
-use Rattle.detection_texts.proofs.TextLaws.{ahead, ahead-on, On, on-record}
+use Rattle.detection_texts.proofs.TextLaws.{wayLeft, way-left-on, OneMore, on-record}
 use Rattle.detection_texts.proofs.texts.Way as Y
 use Rattle.detection_texts.proofs.texts.Way.Laws as Y′
 use Rattle.detection_texts.proofs.texts.past as gone
@@ -105,10 +105,10 @@ record Turn (s : RefT (List ℕ)) (n : ℕ) : Type 0 where
   under : Under (now s) n w
 
 abbrev Nearer : (s : RefT (List ℕ)) (n : ℕ) → Turn s n → Turn s n → Type 0
-Nearer s n a b = ahead (now s) (a .w) < ahead (now s) (b .w)
+Nearer s n a b = wayLeft (now s) (a .w) < wayLeft (now s) (b .w)
 
 Nearer-wf : (s : RefT (List ℕ)) (n : ℕ) → WellFounded (Nearer s n)
-Nearer-wf s n = InvImage·wf (λ (t : Turn s n). ahead (now s) (t .w)) (Nat·lt-wfRel .wf)
+Nearer-wf s n = InvImage·wf (λ (t : Turn s n). wayLeft (now s) (t .w)) (Nat·lt-wfRel .wf)
 
 module _ {M : Type 1} (𝓤 : URA M) (H : Heap 𝓤) (A : Atoms 𝓤) (mem : Memory → SProp 𝓤) (run : Routine → Fun 𝓤) where
   -- the contracts that the proof cites
@@ -223,7 +223,7 @@ module _ {M : Type 1} (𝓤 : URA M) (H : Heap 𝓤) (A : Atoms 𝓤) (W : Given
     short = shr-slice-lawful 𝓤 H A W (named 0) κ u8 .typed s (v ∷ []) lent-is .0 .1 .1 .0 .fits
 
     module _ (t : Turn s n₀) (on : t .w .going ≡ true) where
-      onward : On (now s) n₀ (t .w .place) (recordAt (now s) (t .w .place .at))
+      onward : OneMore (now s) n₀ (t .w .place) (recordAt (now s) (t .w .place .at))
       onward = let o = t .under .on on in on-record (now s) n₀ (t .w .place) (o .0) (o .1) (o .2)
 
       module _ (f : Step) (ef : atOf f ≡ recordAt (now (t .rd .book)) (t .rd .at)) where
@@ -237,10 +237,10 @@ module _ {M : Type 1} (𝓤 : URA M) (H : Heap 𝓤) (A : Atoms 𝓤) (W : Given
           way-is : w′ ≡ pastRecord (t .w .place) (recordAt (now s) (t .w .place .at))
           way-is = ew ∙ ap (pastRecord (t .w .place)) found-is
 
-          nearer : ahead (now s) w′ < ahead (now s) (t .w)
+          nearer : wayLeft (now s) w′ < wayLeft (now s) (t .w)
           nearer =
-              subst (λ (k : ℕ). ahead (now s) w′ < k) (sym (ahead-on (now s) (t .w) on))
-              (subst (λ (x : Way). ahead (now s) x < suc (length (now s) - t .w .place .at)) (sym way-is) (onward .less))
+              subst (λ (k : ℕ). wayLeft (now s) w′ < k) (sym (way-left-on (now s) (t .w) on))
+              (subst (λ (x : Way). wayLeft (now s) x < suc (length (now s) - t .w .place .at)) (sym way-is) (onward .less))
 
           abbrev turned : Is Y.the-row w′ (Y′.lowered w′ ∷ []) → (r′ : Reader) (u′ : Val) → (r′ .book ≡ t .rd .book) × (r′ .at ≡ w′ .place .at) → Turn s n₀
           turned is′ r′ u′ er = record { rd = r′; u = u′; w = w′; book-is = er .0 ∙ t .book-is; at-is = er .1; is = is′; under = subst (Under (now s) n₀) (sym way-is) (onward .under) }

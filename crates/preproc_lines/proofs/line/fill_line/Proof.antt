@@ -7,7 +7,7 @@ use lib.ListN.{length, drop, length-take, length-drop}
 use Rattle.slices.specs.Classes.{droppedIn, spaceIn}
 use Rattle.slices.proofs.KindLaws.{by-table, dropped-table, space-table}
 use Rattle.preproc_runs.proofs.PassLaws.{drops-as}
-use Rattle.preproc_lines.proofs.LineLaws.{kept-short, urls-room, urls-end-low, urls-end-high, filled}
+use Rattle.preproc_lines.proofs.LineLaws.{kept-short, urls-room, urls-end-low, urls-end-high, fill-done}
 use borrow.Author.Needs.{needs}
 use Rattle.preproc_lines.proofs.line.fill_line.Statement.{statement}
 use Rattle.preproc_lines.proofs.line.fill_line.Tie as tie
@@ -48,7 +48,7 @@ returns c =
     let to = o .args .to in
     let two = drops-as (by-table droppedIn (o .pre .0) dropped-table) s (k .drop-into .ensures) in
     let b = c .before .before .before .before .before .before .blackbox-urls in
-    filled s to (o .pre .1) (omega arith) two (b .ensures) _ _ (omega arith) (c .before .before .join-signs .ensures)
+    fill-done s to (o .pre .1) (omega arith) two (b .ensures) _ _ (omega arith) (c .before .before .join-signs .ensures)
 
 pub fill-line-spec : {M : Type 1} → statement M
 fill-line-spec =

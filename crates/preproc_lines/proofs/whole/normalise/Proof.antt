@@ -8,13 +8,13 @@ use denote.Ref.{now}
 use lib.ListN.{length, take, drop}
 use Rattle.rules.specs.Sizes.{textMost}
 use Rattle.preproc_test.proofs.CountLaws.{passed-length}
-use Rattle.preproc_lines.proofs.WholeLaws.{Going, going-start, piece-within, piece-length, end-top, going-on, going-end}
+use Rattle.preproc_lines.proofs.WholeLaws.{Normalising, going-start, piece-within, piece-length, end-top, going-on, going-end}
 use borrow.Author.Needs.{needs}
 use Rattle.preproc_lines.proofs.whole.normalise.Statement.{statement}
 use Rattle.preproc_lines.proofs.whole.normalise.Tie as tie
 
 abbrev Inv-loop : tie.InvT-loop
-Inv-loop class text area₀ table₀ n at₀ to₀ count₀ area table at to count = (n ≡ length text) × (length area ≡ length area₀) × (length table ≡ length table₀) × Going text area table at to count
+Inv-loop class text area₀ table₀ n at₀ to₀ count₀ area table at to count = (n ≡ length text) × (length area ≡ length area₀) × (length table ≡ length table₀) × Normalising text area table at to count
 
 abbrev μ-loop : tie.MeasureT-loop
 μ-loop class text area₀ table₀ n at₀ to₀ count₀ area table at to count = length text + 1 - at
@@ -33,7 +33,7 @@ module _ (k : tie.After-line-len Inv-loop μ-loop) where
   abbrev len : ℕ
   len = k .line-len .result
 
-  going : Going source (head .loop .area) (head .loop .words) (head .loop .at) (head .loop .to) (head .loop .count)
+  going : Normalising source (head .loop .area) (head .loop .words) (head .loop .at) (head .loop .to) (head .loop .count)
   going = head .loop .inv .3
 
   short : length source ≤ textMost

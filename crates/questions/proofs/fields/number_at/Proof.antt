@@ -8,7 +8,7 @@ use Rattle.questions.proofs.fields.number_at.Tie as tie
 
 returns : tie.Need-returns
 unfolding numberOf
-returns c = rw (← word-part (c .before .before .word .ensures)) (c .number-of .ensures)
+returns c = rw (← word-part (c .before .before .word-at .ensures)) (c .number-of .ensures)
 
 pub number-at-spec : {M : Type 1} → statement M
 number-at-spec =

@@ -12,7 +12,7 @@ unfolding textOf
 returns c =
     let u = c .before .before in
     let e = u .before .before .before in
-    rw (← word-front (e .before .word .ensures) _ _ (e .read-end .ensures)) (front-of (u .unhex .ensures))
+    rw (← word-front (e .before .word-at .ensures) _ _ (e .read-end .ensures)) (front-of (u .unhex .ensures))
 
 pub text-at-spec : {M : Type 1} → statement M
 text-at-spec =

@@ -1,4 +1,4 @@
--- `put_pairs`: what is still to come is `pairs` of what is left.
+-- `put_pairs`: what is still to come is `hexPairs` of what is left.
 -- Assumes nothing.
 use mathlib.Core.Path.{refl}
 use mathlib.Core.List.{_++_}
@@ -7,14 +7,14 @@ use native.Mathlib.Omega.{arith}
 use denote.Ref.{now}
 use lib.ListN.{length, take, drop}
 use Rattle.lists.proofs.WriteLaws.{Part, part-from, part-room, part-put, part-end}
-use Rattle.questions.specs.Hex.{pairs}
+use Rattle.questions.specs.Hex.{hexPairs}
 use Rattle.questions.proofs.HexLaws.{pairs-next, pairs-done, pairs-length}
 use borrow.Author.Needs.{needs}
 use Rattle.questions.proofs.hex.put_pairs.Statement.{statement}
 use Rattle.questions.proofs.hex.put_pairs.Tie as tie
 
 abbrev Inv-loop : tie.InvT-loop
-Inv-loop src dst₀ to i₀ w₀ dst i w = (i ≤ length src) × Part (take to dst₀ ++ pairs src) (pairs (drop i src)) dst₀ dst w
+Inv-loop src dst₀ to i₀ w₀ dst i w = (i ≤ length src) × Part (take to dst₀ ++ hexPairs src) (hexPairs (drop i src)) dst₀ dst w
 
 abbrev μ-loop : tie.MeasureT-loop
 μ-loop src dst₀ to i₀ w₀ dst i w = length src - i

@@ -4,14 +4,14 @@ use mathlib.Core.Path.{_≡_, refl, sym, _∙_}
 use Prim.Native.Nat.{_≤_, _-_}
 use native.Mathlib.Omega.{arith}
 use lib.ListN.{length, drop}
-use Rattle.questions.specs.Numbers.{read, moreBits}
+use Rattle.questions.specs.Numbers.{readDigits, moreBits}
 use Rattle.questions.proofs.NumberLaws.{read-next, read-done}
 use borrow.Author.Needs.{needs}
 use Rattle.questions.proofs.numbers.bits_of.Statement.{statement}
 use Rattle.questions.proofs.numbers.bits_of.Tie as tie
 
 abbrev Inv-loop : tie.InvT-loop
-Inv-loop s v₀ i₀ v i = (i ≤ length s) × (read moreBits v (drop i s) ≡ read moreBits 0 s)
+Inv-loop s v₀ i₀ v i = (i ≤ length s) × (readDigits moreBits v (drop i s) ≡ readDigits moreBits 0 s)
 
 abbrev μ-loop : tie.MeasureT-loop
 μ-loop s v₀ i₀ v i = length s - i

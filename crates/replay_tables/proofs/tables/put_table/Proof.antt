@@ -39,8 +39,8 @@ read-u32-requires-2 c κs =
     let f = telling-fits (c .before .loop .inv .0) (c .loop-test .taken) in
     omega arith
 
-put-entry-requires : tie.Need-put-entry-requires Inv-loop μ-loop
-put-entry-requires c κs =
+tell-entry-requires : tie.Need-tell-entry-requires Inv-loop μ-loop
+tell-entry-requires c κs =
     let i = c .before .before .before .before .loop .inv .0 in
     let f = telling-fits i (c .before .before .before .loop-test .taken) in
     let w = c .before .wide .ensures in
@@ -59,7 +59,7 @@ add-at-2 c =
 
 loop-again : tie.Need-loop-again Inv-loop μ-loop
 loop-again c =
-    let e = c .before .before .put-entry in
+    let e = c .before .before .tell-entry in
     let h = c .before .before .before .before in
     let t = h .before .before in
     let len = h .wide .ensures ∙ h .before .read-u322 .ensures in
@@ -84,7 +84,7 @@ put-table-spec =
     (λ c. search needs)
     read-u32-requires-2
     (λ c κs. search needs)
-    put-entry-requires
+    tell-entry-requires
     add-at
     add-at-2
     (λ c. search needs)

@@ -1,0 +1,29 @@
+-- `answer_elimination`: the text that is scanned is what was read.
+-- Assumes nothing.
+use mathlib.Core.Path.{sym}
+use lib.Seq.{length-take-le}
+use borrow.Author.Needs.{needs}
+use Rattle.replay.proofs.scans.answer_elimination.Statement.{statement}
+use Rattle.replay.proofs.scans.answer_elimination.Tie as tie
+
+slice-aggregate-tell-scan : tie.Need-slice-aggregate-tell-scan
+slice-aggregate-tell-scan c = sym (length-take-le _ _ (c .before .before .before .text-at .ensures .within))
+
+pub answer-elimination-spec : {M : Type 1} → statement M
+answer-elimination-spec =
+    tie.close
+    (tie.spec
+    (λ c κs. search needs)
+    (λ c κs. search needs)
+    (λ c κs. search needs)
+    (λ c. search needs)
+    (λ c κs. search needs)
+    (λ c κs. search needs)
+    (λ c. search needs)
+    slice-aggregate-tell-scan
+    (λ c κs. search needs)
+    (λ c. search needs)
+    (λ c. search needs)
+    (λ c. search needs)
+    (λ c. search needs)
+    (λ c. search needs))

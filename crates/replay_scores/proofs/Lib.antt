@@ -1,0 +1,2 @@
+pub mod ToldLaws
+pub mod ScoreLaws
