@@ -20,9 +20,8 @@ pub fn names(limits: Limits, best: Best) -> bool
 pub fn stops(limits: Limits, best: Best) -> bool
     ensures { λ r. ⌜ r ≡ (lt (limits .threshold) (best .value .score) && lt (limits .shallow) (best .value .score)) ⌝ }
 {
-    let value = best.value;
-    if limits.threshold < value.score {
-        return limits.shallow < value.score;
+    if names(limits, best) {
+        return limits.shallow < best.value.score;
     }
     false
 }
