@@ -129,7 +129,7 @@ fn lengths() {
     new_line();
 }
 
-fn names() {
+fn name_books() {
     show(
         b"@\x00\x00\x00\x01\x00AAAAAAAAAAAAAAAAAAAAAAAAAAAAAAAAAAAAAAAAAAAAAAAAAAAAAAAAAAAAAAAA\x08\x00\x00\x00\x02\x00\x00\x00\x00\x00\x00\x00\x00\x00",
     );
@@ -238,7 +238,7 @@ fn table_heads() {
     new_line();
 }
 
-fn counts() {
+fn count_books() {
     show(
         b"\x01\x00\x00\x00\x01\x00A\x13\x00\x00\x00\x02\x00\x00\x00\x00\x00\x01\x00\x00\x00\x00\x00\x00\x00\x03\x00\x00\x00a b",
     );
@@ -319,11 +319,11 @@ fn main() {
         at += 1;
     }
     lengths();
-    names();
+    name_books();
     order_of_kinds();
     order_of_names();
     table_heads();
-    counts();
+    count_books();
     order_of_bigrams();
     terms();
     limit_of_texts();

@@ -27,7 +27,7 @@ use slices::ends::ByteSpan;
 use slices::ends::bare;
 
 // A byte in lower case.
-fn lower(class: &[u8; 256], b: u8) -> u8
+fn lower_byte(class: &[u8; 256], b: u8) -> u8
     requires { ⌜ now class ≡ classTable ⌝ }
     ensures { λ r. ⌜ r ≡ lowered b ⌝ }
 {
@@ -45,7 +45,7 @@ pub fn lower_in(class: &[u8; 256], buf: &mut [u8], n: usize) -> usize
     let mut i = 0;
     while i < n {
         let b = buf[i];
-        buf[i] = lower(class, b);
+        buf[i] = lower_byte(class, b);
         i += 1;
     }
     i

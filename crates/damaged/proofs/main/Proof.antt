@@ -35,8 +35,8 @@ loop-again c = search needs
 lengths-requires : tie.Need-lengths-requires Inv-loop μ-loop
 lengths-requires c κs = search needs
 
-names-requires : tie.Need-names-requires Inv-loop μ-loop
-names-requires c κs = search needs
+name-books-requires : tie.Need-name-books-requires Inv-loop μ-loop
+name-books-requires c κs = search needs
 
 order-of-kinds-requires : tie.Need-order-of-kinds-requires Inv-loop μ-loop
 order-of-kinds-requires c κs = search needs
@@ -47,8 +47,8 @@ order-of-names-requires c κs = search needs
 table-heads-requires : tie.Need-table-heads-requires Inv-loop μ-loop
 table-heads-requires c κs = search needs
 
-counts-requires : tie.Need-counts-requires Inv-loop μ-loop
-counts-requires c κs = search needs
+count-books-requires : tie.Need-count-books-requires Inv-loop μ-loop
+count-books-requires c κs = search needs
 
 order-of-bigrams-requires : tie.Need-order-of-bigrams-requires Inv-loop μ-loop
 order-of-bigrams-requires c κs = search needs
@@ -76,11 +76,11 @@ main-spec =
     loop-less
     loop-again
     lengths-requires
-    names-requires
+    name-books-requires
     order-of-kinds-requires
     order-of-names-requires
     table-heads-requires
-    counts-requires
+    count-books-requires
     order-of-bigrams-requires
     terms-requires
     limit-of-texts-requires

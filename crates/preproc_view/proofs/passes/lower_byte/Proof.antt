@@ -1,12 +1,12 @@
--- `lower`: upper case and other bytes.
+-- `lower_byte`: upper case and other bytes.
 -- Assumes nothing.
 use mathlib.Core.Path.{sym, _∙_}
 use native.Mathlib.Omega.{arith}
 use denote.Ref.{now}
 use Rattle.slices.proofs.LeafLaws.{lower-yes, lower-no, upper-most}
 use borrow.Author.Needs.{needs}
-use Rattle.preproc_view.proofs.passes.lower.Statement.{statement}
-use Rattle.preproc_view.proofs.passes.lower.Tie as tie
+use Rattle.preproc_view.proofs.passes.lower_byte.Statement.{statement}
+use Rattle.preproc_view.proofs.passes.lower_byte.Tie as tie
 
 add-result : tie.Need-add-result
 add-result c =
@@ -23,8 +23,8 @@ returns-2 c =
     let o = c .before .before in
     lower-no _ _ (o .pre) (sym (c .before .in-class .ensures) ∙ c .if1 .left)
 
-pub lower-spec : {M : Type 1} → statement M
-lower-spec =
+pub lower-byte-spec : {M : Type 1} → statement M
+lower-byte-spec =
     tie.close
     (tie.spec
     (λ c κs. search needs)

@@ -35,7 +35,7 @@ loop-again : tie.Need-loop-again Inv-loop μ-loop
 loop-again c =
     let t = c .before .before in
     let h = t .before .loop .inv in
-    over-put (lowered-next _ (over-next h (t .loop-test .taken)) ∙ rw (c .lower .ensures)) (t .loop-test .taken) h
+    over-put (lowered-next _ (over-next h (t .loop-test .taken)) ∙ rw (c .lower-byte .ensures)) (t .loop-test .taken) h
 
 returns : tie.Need-returns Inv-loop μ-loop
 returns c = over-end (lowered-done (slice-done _ _ _ (c .loop-test .left))) (c .before .loop .inv)
