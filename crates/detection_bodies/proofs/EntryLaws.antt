@@ -16,6 +16,7 @@ use native.Mathlib.Omega.{arith}
 use lib.Dec.{leb, ltb, eqb}
 use lib.ListN.{length, take, drop}
 use borrow.Author.Tests.{le-leb, lt-leb, ltb-true}
+use Rattle.lists.specs.Parts.{part}
 use Rattle.rules.specs.Sizes.{totalMost}
 use Rattle.rules.specs.Bytes.{rises, split}
 use Rattle.rules.specs.Prefix.{Counted}
@@ -74,9 +75,6 @@ rest-end body last s n h =
     and-true false = refl
 
 -- ---- a run over a body's entries
-abbrev pub part : List ℕ → ℕ → ℕ → List ℕ
-part body from to = take (to - from) (drop from body)
-
 pub record EntryRun (body : List ℕ) (at last s n : ℕ) : Type 0 where
   pub headed : 8 ≤ length body
   pub within : at ≤ length body

@@ -25,7 +25,8 @@ use Rattle.detection_texts.specs.declared.texts.Text.{Text}
 use Rattle.detection_shelf.specs.declared.Shelved.{Shelved}
 use Rattle.detection_shelf.specs.declared.Spot.{Spot}
 use Rattle.detection_shelf.specs.declared.Counts.{Counts}
-use Rattle.detection_texts.specs.Texts.{part, nameAt, Before, TextIs, Found}
+use Rattle.lists.specs.Parts.{part}
+use Rattle.detection_texts.specs.Texts.{nameAt, Before, TextIs, Found}
 use Rattle.detection_shelf.specs.Shelves.{Shelf, booksOf, Lends, texts, bookIn, ahead, CountsOf, BeforeOn, Stands, bodyIn, textIn, partHeld, partsOf, firstSpot, afterOn}
 use Rattle.detection_texts.proofs.TextLaws.{before-first, found-at}
 use Rattle.detection_shelf.specs.Bodies.{tableOfBody}

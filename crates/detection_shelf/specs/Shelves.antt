@@ -11,7 +11,8 @@ use Rattle.rules.specs.Book.{entriesOf, tableIn, stored, sound, shelved, namePa
 use Rattle.detection_shelf.specs.declared.Counts.{Counts}
 use Rattle.detection_shelf.specs.declared.Shelved.{Shelved}
 use Rattle.detection_shelf.specs.declared.Spot.{Spot}
-use Rattle.detection_texts.specs.Texts.{part, nameAt, Before, Found, firstPlace, afterText}
+use Rattle.lists.specs.Parts.{part}
+use Rattle.detection_texts.specs.Texts.{nameAt, Before, Found, firstPlace, afterText}
 
 pub record Shelf : Type 0 where
   pub first : List ℕ

@@ -26,7 +26,8 @@ use Rattle.rules.proofs.BoolLaws.{and-left, and-right}
 use Rattle.rules.proofs.DownLaws.{each-at}
 use Rattle.rules.proofs.SoundLaws.{StoredSound, sound-stored, sound-some, body-total, table-size}
 use Rattle.records.proofs.StepLaws.{RecordHere, record-here, record-end, record-broken}
-use Rattle.detection_texts.specs.Texts.{part, storedLeft, nameAt, namesFrom, eachBodySound, soundBodies, Before, firstPlace, passedBy, setOut, atRecord, pastRecord, Found, Under}
+use Rattle.lists.specs.Parts.{part}
+use Rattle.detection_texts.specs.Texts.{storedLeft, nameAt, namesFrom, eachBodySound, soundBodies, Before, firstPlace, passedBy, setOut, atRecord, pastRecord, Found, Under}
 use Rattle.detection_texts.specs.declared.texts.Place.{Place}
 use Rattle.detection_texts.specs.declared.texts.Text.{Text}
 use Rattle.detection_texts.specs.declared.texts.Way.{Way}

@@ -6,7 +6,8 @@ use mathlib.Core.Bool.{Bool, true, false, _&&_, cond}
 use mathlib.Core.List.{List, [], _∷_}
 use mathlib.Core.Option.{Option, none, some}
 use lib.Dec.{eqb}
-use lib.ListN.{length, getD, take, drop}
+use lib.ListN.{length, getD, drop}
+use Rattle.lists.specs.Parts.{part}
 use Rattle.rules.specs.Sizes.{storedMost}
 use Rattle.rules.specs.Search.{Stored, noText}
 use Rattle.rules.specs.Book.{number, Record, recordsOf, entriesOf, soundTable, soundBody, storedIn, storedKind, stored, At, namesIn, noPart, namesOf}
@@ -14,10 +15,6 @@ use Rattle.rules.specs.declared.Named.{Named}
 use Rattle.detection_texts.specs.declared.texts.Place.{Place}
 use Rattle.detection_texts.specs.declared.texts.Text.{Text}
 use Rattle.detection_texts.specs.declared.texts.Way.{Way}
-
--- the part book[from..to]
-abbrev pub part : List ℕ → ℕ → ℕ → List ℕ
-part book from to = take (to - from) (drop from book)
 
 -- the stored texts of the records that are left, from number n on, under `name`
 unfoldable pub storedLeft : ℕ → List ℕ → Option (List Record) → List Stored

@@ -6,7 +6,7 @@ ghost use Prim.Native.Nat.{_-_, _≤_};
 ghost use lib.ListN.{length, replicate};
 ghost use Rattle.rules.specs.Sizes.{nameMost};
 ghost use Rattle.rules.specs.Jobs.{over};
-ghost use Rattle.detection_texts.specs.Texts.{part};
+ghost use Rattle.lists.specs.Parts.{part};
 use rules::NAME_MOST;
 use slices::copy::put;
 

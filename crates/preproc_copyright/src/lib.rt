@@ -12,8 +12,8 @@ use slices::class::FOUR;
 use slices::class::OTHER_DIGIT;
 use slices::class::SPACE_HIGH;
 use slices::class::SPACE_LOW;
-use slices::class::in_class;
 use slices::lead::byte_run;
+use slices::lead::either_len;
 use slices::lead::line_len;
 use slices::lead::run_len;
 use slices_order::starts_with;
@@ -81,31 +81,12 @@ fn hit_b(s: &[u8], at: usize, start: bool) -> usize
     0
 }
 
-// Whether b is a digit: the 4 has a class of its own.
-fn is_digit(class: &[u8; 256], b: u8) -> bool
-    requires { ⌜ now class ≡ classTable ⌝ }
-    ensures { λ r. ⌜ r ≡ digit b ⌝ }
-{
-    if in_class(class, FOUR, FOUR, b) {
-        return true;
-    }
-    in_class(class, OTHER_DIGIT, OTHER_DIGIT, b)
-}
-
-// How many digits stand here.
+// How many digits stand here: the 4 has a class of its own.
 fn digit_run(class: &[u8; 256], s: &[u8], at: usize) -> usize
     requires { ⌜ now class ≡ classTable ⌝ }
     ensures { λ r. ⌜ r ≡ lead digit (drop at (now (s .entry))) ⌝ }
 {
-    let mut i = at;
-    while i < s.len() {
-        if is_digit(class, s[i]) {
-            i += 1;
-        } else {
-            return i - at;
-        }
-    }
-    i - at
+    either_len(class, FOUR, FOUR, OTHER_DIGIT, OTHER_DIGIT, s, at)
 }
 
 // C's item: `c`, or a run of digits.

@@ -31,7 +31,7 @@ use Rattle.rules.specs.Jobs.{over, lent, named, namePart, answered, happened, s
 use Rattle.rules.proofs.BudgetLaws.{afford-count}
 use Rattle.rules.proofs.RefusalLaws.{lines-count, scan-before, scan-then, scan-happened}
 use Rattle.rules.proofs.ScanCountLaws.{results-fit, numbers-length}
-use Rattle.detection_texts.specs.Texts.{part}
+use Rattle.lists.specs.Parts.{part}
 use Rattle.detect_best.specs.declared.Best.{Best}
 use Rattle.detect_best.specs.Beats.{bestIn}
 use Rattle.license_charge.specs.declared.Scorings.{Scorings}

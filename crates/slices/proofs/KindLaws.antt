@@ -15,7 +15,7 @@ use Rattle.rules.specs.Lines.{gap}
 use Rattle.rules.specs.Class.{classOf}
 use Rattle.rules.proofs.BoolLaws.{and-left, and-right}
 use Rattle.rules.proofs.ClassLaws.{Ruled, dropped-class, gap-class, quote-class, dash-class, open-class, close-class, under-class, space-class, vertical-class, kept-class, upper-class, four-class, digit-class}
-use Rattle.slices.specs.Classes.{inClass, classTable, droppedIn, keptIn, spaceIn, verticalIn, upperIn, fourIn, otherDigitIn}
+use Rattle.slices.specs.Classes.{inClass, inEither, classTable, droppedIn, keptIn, spaceIn, verticalIn, upperIn, digitIn}
 
 -- the class of 128 and more is 0, in the table and behind its end
 high-class : (x : ℕ) → 128 ≤ x → getD classTable x 0 ≡ 0
@@ -120,33 +120,35 @@ unfolding within upper
 upper-table = everywhere upper 10 10 upper-class refl (λ x h. high-within x h 65 90 (lit≤ tt) (lit< tt))
 
 -- ---- a digit is the 4, or one of the others
-four-table : fourIn classTable ≡ eqb 52
+four-table : inClass classTable 4 4 ≡ eqb 52
 unfolding within
 four-table = everywhere (eqb 52) 4 4 four-class refl (λ x h. ne-eqb 52 x (λ e. omega arith))
 
-others-table : otherDigitIn classTable ≡ (λ x. digit x && not (eqb 52 x))
+others-table : inClass classTable 8 8 ≡ (λ x. digit x && not (eqb 52 x))
 unfolding within digit
 others-table = everywhere (λ x. digit x && not (eqb 52 x)) 8 8 digit-class refl (λ x h. rw (high-within x h 48 57 (lit≤ tt) (lit< tt)))
 
--- the table's test, as the byte x meets it
-at-byte : (f g : ℕ → Bool) (x : ℕ) → f ≡ g → f x ≡ g x
-at-byte f g x e = ap (λ (h : ℕ → Bool). h x) e
+four-or-other : (x : ℕ) (four : Bool) → eqb 52 x ≡ four → (eqb 52 x || (digit x && not (eqb 52 x))) ≡ digit x
+unfolding digit within
+four-or-other x true e = rw (← eqb-true 52 x e)
+four-or-other x false e = rw e (and-true (digit x))
+  where
+    and-true : (b : Bool) → (b && true) ≡ b
+    and-true true = refl
+    and-true false = refl
 
-module _ (x : ℕ) where
-  pub digit-four : fourIn classTable x ≡ true → digit x ≡ true
-  unfolding digit within
-  digit-four h =
-      let e : 52 ≡ x = eqb-true 52 x (sym (at-byte (fourIn classTable) (eqb 52) x four-table) ∙ h) in
-      rw (← e)
+pub digit-table : digitIn classTable ≡ digit
+unfolding inEither
+digit-table = ap (λ (f : ℕ → Bool). λ x. f x || inClass classTable 8 8 x) four-table ∙ ap (λ (f : ℕ → Bool). λ x. eqb 52 x || f x) others-table ∙ fun-ext (λ x. four-or-other x (eqb 52 x) refl)
 
-  pub digit-other : fourIn classTable x ≡ false → otherDigitIn classTable x ≡ digit x
-  digit-other h =
-      let e : eqb 52 x ≡ false = sym (at-byte (fourIn classTable) (eqb 52) x four-table) ∙ h in
-      at-byte (otherDigitIn classTable) (λ y. digit y && not (eqb 52 y)) x others-table ∙ rw e (and-true (digit x))
-    where
-      and-true : (b : Bool) → b && true ≡ b
-      and-true true = refl
-      and-true false = refl
+-- ---- the same range twice
+pub either-same : (t : List ℕ) (lo hi : ℕ) → inEither t lo hi lo hi ≡ inClass t lo hi
+unfolding inEither
+either-same t lo hi = fun-ext (λ x. twice (inClass t lo hi x))
+  where
+    twice : (b : Bool) → (b || b) ≡ b
+    twice true = refl
+    twice false = refl
 
 -- a table that is lent as the rules' says the same
 pub by-table : {t : List ℕ} {test : ℕ → Bool} (kind : List ℕ → ℕ → Bool) → t ≡ classTable → kind classTable ≡ test → kind t ≡ test

@@ -1,7 +1,7 @@
 -- A byte's class by a lent table, and the table of the rules' classes.
 -- Assumes nothing.
 use Prim.Native.Nat.{ℕ}
-use mathlib.Core.Bool.{Bool}
+use mathlib.Core.Bool.{Bool, _||_}
 use mathlib.Core.List.{List}
 use lib.ListN.{getD}
 use Rattle.lists.specs.Tables.{tab}
@@ -11,6 +11,10 @@ use Rattle.rules.specs.Class.{classOf}
 -- the class that table t gives x is from lo to hi
 unfoldable pub inClass : List ℕ → ℕ → ℕ → ℕ → Bool
 inClass t lo hi x = within lo hi (getD t x 0)
+
+-- it is from lo to hi, or from low to high
+unfoldable pub inEither : List ℕ → ℕ → ℕ → ℕ → ℕ → ℕ → Bool
+inEither t lo hi low high x = inClass t lo hi x || inClass t low high x
 
 -- the ranges that the passes ask for, by a table that is lent
 abbrev pub droppedIn : List ℕ → ℕ → Bool
@@ -28,12 +32,9 @@ verticalIn t = inClass t 6 7
 abbrev pub upperIn : List ℕ → ℕ → Bool
 upperIn t = inClass t 10 10
 
--- the digit 4, and the others
-abbrev pub fourIn : List ℕ → ℕ → Bool
-fourIn t = inClass t 4 4
-
-abbrev pub otherDigitIn : List ℕ → ℕ → Bool
-otherDigitIn t = inClass t 8 8
+-- the digit 4, or one of the others
+abbrev pub digitIn : List ℕ → ℕ → Bool
+digitIn t = inEither t 4 4 8 8
 
 -- the 256 classes
 unfoldable pub classTable : List ℕ

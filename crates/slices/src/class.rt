@@ -2,7 +2,7 @@
 // From detection/preproc.rs of spdx 0.13.6 (Copyright 2018-2019 Amazon.com, Inc. or its affiliates. All Rights Reserved.
 // SPDX-License-Identifier: Apache-2.0), changed: the character sets of its patterns, as one table. Assumes nothing.
 ghost use mathlib.Core.Path.{_≡_};
-ghost use Rattle.slices.specs.Classes.{inClass, classTable};
+ghost use Rattle.slices.specs.Classes.{inClass, inEither, classTable};
 
 // 0 refused, 1 dropped, 2 the bar, 3 slashes, 4 the digit 4, 5 space and tab, 6 newline, 7 the other spaces, 8 the other digits,
 // 9 lower case, 10 upper case, 11 underscore, 12 quotes, 13 dash, 14 opening, 15 closing, 16 other punctuation.
@@ -315,4 +315,14 @@ pub fn in_class(class: &[u8; 256], lo: u8, hi: u8, b: u8) -> bool
 {
     let c = class[b as usize];
     lo <= c && c <= hi
+}
+
+// Whether it is from lo to hi, or from low to high: the digits are two ranges, since the 4 has a class of its own.
+pub fn in_either(class: &[u8; 256], lo: u8, hi: u8, low: u8, high: u8, b: u8) -> bool
+    ensures { λ r. ⌜ r ≡ inEither (now (class .entry)) lo hi low high b ⌝ }
+{
+    if in_class(class, lo, hi, b) {
+        return true;
+    }
+    in_class(class, low, high, b)
 }

@@ -7,22 +7,38 @@ ghost use mathlib.Core.Bool.{not};
 ghost use lib.Dec.{eqb};
 ghost use lib.ListN.{drop};
 ghost use Rattle.rules.specs.Bytes.{lead, lineLen};
-ghost use Rattle.slices.specs.Classes.{inClass};
+ghost use Rattle.slices.specs.Classes.{inClass, inEither};
 use crate::class::in_class;
+use crate::class::in_either;
 
-// Bytes of classes lo to hi.
-pub fn run_len(class: &[u8; 256], lo: u8, hi: u8, s: &[u8], at: usize) -> usize
-    ensures { λ r. ⌜ r ≡ lead (inClass (now (class .entry)) lo hi) (drop at (now (s .entry))) ⌝ }
+// Bytes of classes lo to hi, or low to high.
+pub fn either_len(
+    class: &[u8; 256],
+    lo: u8,
+    hi: u8,
+    low: u8,
+    high: u8,
+    s: &[u8],
+    at: usize,
+) -> usize
+    ensures { λ r. ⌜ r ≡ lead (inEither (now (class .entry)) lo hi low high) (drop at (now (s .entry))) ⌝ }
 {
     let mut i = at;
     while i < s.len() {
-        if in_class(class, lo, hi, s[i]) {
+        if in_either(class, lo, hi, low, high, s[i]) {
             i += 1;
         } else {
             return i - at;
         }
     }
     i - at
+}
+
+// Bytes of classes lo to hi.
+pub fn run_len(class: &[u8; 256], lo: u8, hi: u8, s: &[u8], at: usize) -> usize
+    ensures { λ r. ⌜ r ≡ lead (inClass (now (class .entry)) lo hi) (drop at (now (s .entry))) ⌝ }
+{
+    either_len(class, lo, hi, lo, hi, s, at)
 }
 
 // Bytes of no class from lo to hi.

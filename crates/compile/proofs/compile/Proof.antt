@@ -15,7 +15,9 @@ returns c = done-none _ _ _ _ _ (c .before .admit-compile .ensures) (c .if1 .tak
 
 compile-through-requires : tie.Need-compile-through-requires
 compile-through-requires c κs =
-    let t = compile-through _ _ (sym (c .before .before .before .before .admit-compile .ensures) ∙ c .before .before .before .if1 .left) in
+    let admitted : tie.After-admit-compile = search in
+    let free : tie.Else1 = search in
+    let t = compile-through _ _ (sym (admitted .admit-compile .ensures) ∙ free .if1 .left) in
     (t .text, t .bytes, t .words)
 
 same-length : tie.Need-same-length
@@ -29,8 +31,11 @@ same-length-3 c = search needs
 
 returns-2 : tie.Need-returns-2
 returns-2 c =
-    let d = c .before .before .before .before .before .before .compile-through .ensures in
-    done-work _ _ _ _ _ _ _ _ (sym (c .before .before .before .before .before .before .before .before .before .before .before .admit-compile .ensures) ∙ c .before .before .before .before .before .before .before .before .before .before .if1 .left) (d .0) (d .1 .0) (d .1 .1)
+    let worked : tie.After-compile-through = search in
+    let admitted : tie.After-admit-compile = search in
+    let free : tie.Else1 = search in
+    let d = worked .compile-through .ensures in
+    done-work _ _ _ _ _ _ _ _ (sym (admitted .admit-compile .ensures) ∙ free .if1 .left) (d .0) (d .1 .0) (d .1 .1)
 
 pub compile-spec : {M : Type 1} → statement M
 compile-spec =

@@ -30,15 +30,20 @@ same-length-2 c = search needs
 same-length-3 : tie.Need-same-length-3
 same-length-3 c = search needs
 
+-- from the end `search` does not reach so far back
+abbrev start : tie.After-lay → tie.Start
+start x = search
+
 returns : tie.Need-returns
 returns c =
-    let cleared = c .before .before .before .before in
-    let written = cleared .before .before .before .before .before in
-    let tabled = written .before .before .before .before .before .before .before .before in
-    let words-back = tabled .before .before .before .before .before in
-    let area-back = words-back .before .before in
-    let laid = area-back .before .lay .ensures in
-    let s = area-back .before .before .before .before .before .before .before .before .before .before in
+    let cleared : tie.After-clear = search in
+    let written : tie.After-write-body = search in
+    let tabled : tie.After-view-table = search in
+    let words-back : tie.After-words = search in
+    let area-back : tie.After-area = search in
+    let noted : tie.After-lay = search in
+    let s = start noted in
+    let laid = noted .lay .ensures in
     let table = tabled .view-table in
     let held = table .ensures .1 .1 in
     let zeroes = cleared .clear .ensures in

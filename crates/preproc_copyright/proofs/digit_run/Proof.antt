@@ -1,49 +1,26 @@
--- `digit_run` counts what `lead` counts.
+-- `digit_run`: the digits are two classes.
 -- Assumes nothing.
-use mathlib.Core.Path.{sym, _∙_}
-use Prim.Native.Nat.{_-_}
-use lib.ListN.{length}
-use Rattle.rules.specs.Bytes.{digit}
-use Rattle.slices.proofs.LeadLaws.{Led, led-start, led-more, led-stop, led-end}
+use mathlib.Core.Path.{ap, _∙_}
+use mathlib.Core.Bool.{Bool}
+use Prim.Native.Nat.{ℕ}
+use denote.Ref.{now}
+use lib.ListN.{drop}
+use Rattle.rules.specs.Bytes.{lead}
+use Rattle.slices.specs.Classes.{digitIn}
+use Rattle.slices.proofs.KindLaws.{digit-table, by-table}
 use borrow.Author.Needs.{needs}
 use Rattle.preproc_copyright.proofs.digit_run.Statement.{statement}
 use Rattle.preproc_copyright.proofs.digit_run.Tie as tie
 
-abbrev Inv-loop : tie.InvT-loop
-Inv-loop class s at i₀ i = Led digit s at i
-
-abbrev μ-loop : tie.MeasureT-loop
-μ-loop class s at i₀ i = length s - i
-
-loop-holds : tie.Need-loop-holds Inv-loop μ-loop
-loop-holds c = led-start _ _ _
-
-loop-again : tie.Need-loop-again Inv-loop μ-loop
-loop-again c =
-    let t = c .before .before .before in
-    led-more (t .loop-test .taken) (sym (c .before .is-digit .ensures) ∙ c .if1 .taken) (t .before .loop .inv)
-
-returns : tie.Need-returns Inv-loop μ-loop
+returns : tie.Need-returns
 returns c =
-    let t = c .before .before .before in
-    led-stop (t .loop-test .taken) (sym (c .before .is-digit .ensures) ∙ c .if1 .left) (t .before .loop .inv)
-
-returns-2 : tie.Need-returns-2 Inv-loop μ-loop
-returns-2 c = led-end (c .loop-test .left) (c .before .loop .inv)
+    let o = c .before .before in
+    c .either-len .ensures
+    ∙ ap (λ (p : ℕ → Bool). lead p (drop (o .args .at) (now (o .args .s)))) (by-table digitIn (o .pre) digit-table)
 
 pub digit-run-spec : {M : Type 1} → statement M
 digit-run-spec =
     tie.close
     (tie.spec
-    Inv-loop
-    μ-loop
-    loop-holds
-    (λ c. search needs)
     (λ c κs. search needs)
-    (λ c. search needs)
-    (λ c. search needs)
-    loop-again
-    (λ c. search needs)
-    returns
-    (λ c. search needs)
-    returns-2)
+    returns)

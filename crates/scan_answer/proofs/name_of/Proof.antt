@@ -9,7 +9,7 @@ use denote.Ref.{now}
 use borrow.Author.Needs.{needs}
 use Rattle.rules.specs.Sizes.{nameMost}
 use Rattle.rules.specs.Jobs.{over}
-use Rattle.detection_texts.specs.Texts.{part}
+use Rattle.lists.specs.Parts.{part}
 use Rattle.detection_shelf.specs.Shelves.{shelf, bookIn}
 use Rattle.scan_answer.proofs.AnswerLaws.{name-yes, name-no}
 use Rattle.scan_answer.proofs.name_of.Statement.{statement}

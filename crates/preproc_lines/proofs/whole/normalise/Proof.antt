@@ -22,10 +22,13 @@ abbrev μ-loop : tie.MeasureT-loop
 -- what is known once the next line's length is: it lies in the text, and there is an entry for it
 module _ (k : tie.After-line-len Inv-loop μ-loop) where
   abbrev head : tie.At-loop Inv-loop μ-loop
-  head = k .before .before
+  head = search
+
+  abbrev turn : tie.In-loop Inv-loop μ-loop
+  turn = search
 
   abbrev start : tie.Start Inv-loop μ-loop
-  start = head .before .before .before .before
+  start = search
 
   abbrev source : List ℕ
   source = now (start .args .text)
@@ -40,7 +43,7 @@ module _ (k : tie.After-line-len Inv-loop μ-loop) where
   short = passed-length source (start .pre .1)
 
   inside : head .loop .at ≤ length source
-  inside = omega (arith, k .before .loop-test .taken, head .loop .inv .0)
+  inside = omega (arith, turn .loop-test .taken, head .loop .inv .0)
 
   room : 2 * (head .loop .count) + 1 < length (head .loop .words)
   room = omega (arith, going .few, inside, head .loop .inv .2, start .pre .3)
@@ -62,41 +65,45 @@ part-put-line-end c = omega (arith, within c)
 
 put-line-requires : tie.Need-put-line-requires Inv-loop μ-loop
 put-line-requires c κs =
-    let k = c .before .before in
+    let k : tie.After-line-len Inv-loop μ-loop = search in
     (start k .pre .0, omega (arith, long k, within k, going k .low), omega (arith, long k, within k, going k .fits, head k .loop .inv .1, start k .pre .2))
 
 set-line-requires : tie.Need-set-line-requires Inv-loop μ-loop
 set-line-requires c κs =
-    let k = c .before .before .before .before .before .before in
-    let p = c .before .before .before .put-line .ensures in
+    let k : tie.After-line-len Inv-loop μ-loop = search in
+    let put : tie.After-put-line Inv-loop μ-loop = search in
+    let p = put .put-line .ensures in
     let v = end-top (source k) (head k .loop .at) (len k) (k .line-len .ensures) (inside k) (going k) p (room k) in
     (room k, omega (arith, p .order, short k, v), omega (arith, short k, v))
 
 add-to : tie.Need-add-to Inv-loop μ-loop
 add-to c =
-    let k = c .before .before .before .before .before .before .before .before .before in
-    omega (arith, c .before .before .before .before .before .before .put-line .ensures .high, long k, within k, going k .fits, short k)
+    let k : tie.After-line-len Inv-loop μ-loop = search in
+    let put : tie.After-put-line Inv-loop μ-loop = search in
+    omega (arith, put .put-line .ensures .high, long k, within k, going k .fits, short k)
 
 add-at : tie.Need-add-at Inv-loop μ-loop
 add-at c =
-    let k = c .before .before .before .before .before .before .before .before .before in
+    let k : tie.After-line-len Inv-loop μ-loop = search in
     omega (arith, within k, short k)
 
 add-count : tie.Need-add-count Inv-loop μ-loop
 add-count c =
-    let k = c .before .before .before .before .before .before .before .before .before in
+    let k : tie.After-line-len Inv-loop μ-loop = search in
     omega (arith, going k .few, inside k, short k)
 
 loop-less : tie.Need-loop-less Inv-loop μ-loop
 loop-less c =
-    let k = c .before .before .before .before .before .before .before .before .before in
+    let k : tie.After-line-len Inv-loop μ-loop = search in
     omega (arith, inside k)
 
 loop-again : tie.Need-loop-again Inv-loop μ-loop
 loop-again c =
-    let k = c .before .before .before .before .before .before .before .before .before in
-    let p = c .before .before .before .before .before .before .put-line in
-    let u = c .before .before .set-line in
+    let k : tie.After-line-len Inv-loop μ-loop = search in
+    let put : tie.After-put-line Inv-loop μ-loop = search in
+    let set : tie.After-set-line Inv-loop μ-loop = search in
+    let p = put .put-line in
+    let u = set .set-line in
     (refl, p .kept .1 .1 .0 ∙ head k .loop .inv .1, u .kept .0 ∙ head k .loop .inv .2, rw (u .ensures) (going-on (source k) (head k .loop .at) (len k) (k .line-len .ensures) (inside k) (going k) (p .ensures) (room k)))
 
 returns : tie.Need-returns Inv-loop μ-loop
