@@ -1,4 +1,4 @@
--- The bookVerdict on a book by what is still to come, step by step.
+-- The verdict on a book by what is still to come, step by step.
 --     verdict-start, verdict-long                at the book's start, which is the job's answer; a book over its size
 --     verdict-next, verdict-bad, verdict-over    a record that is sound, one that is not, and a text too many
 --     verdict-end                                with none to come
@@ -58,7 +58,7 @@ texts-cons n r rs =
     let t = storedKind (r .kind) in
     ap (λ (k : ℕ). n + k) (texts-length (r ∷ rs) 0 []) ∙ counted-add t n (texts rs) ∙ ap (λ (k : ℕ). counted t n + k) (sym (texts-length rs 0 []))
 
--- ---- the bookVerdict
+-- ---- the verdict
 module _ (a : ℕ) (name : List ℕ) (n : ℕ) (r : Record) where
   pub verdict-next : (o : Option (List Record)) → recordSound a name r ≡ true →
       bookVerdict a name n (also r o) ≡ bookVerdict (r .kind) (cond (eqb (r .kind) 1) (r .body) name) (counted (storedKind (r .kind)) n) o
@@ -188,7 +188,7 @@ module _ (book : List ℕ) (w : Walk) where
   unfolding verdictOf verdictAt bookVerdict
   step-broken c h e = record { same = e ∙ sym (ap (bookVerdict (w .kind) (nameIn book w) (w .texts)) h); on = ended c }
 
--- ---- the walk: its bookVerdict is the book's
+-- ---- the walk: its verdict is the book's
 pub record CheckWalk (book : List ℕ) (w : Walk) : Type 0 where
   pub within : Within book w
   pub all : verdictAt book w ≡ check book

@@ -1,4 +1,4 @@
--- What a walk over a book says at a place: the bookVerdict on what is still to come, which is the book's own at the start.
+-- What a walk over a book says at a place: the verdict on what is still to come, which is the book's own at the start.
 -- Assumes nothing.
 use mathlib.Core.Path.{_≡_}
 use Prim.Native.Nat.{ℕ, _+_, _-_, _≤_, _<_}
@@ -50,7 +50,7 @@ verdictAt book w = bookVerdict (w .kind) (nameIn book w) (w .texts) (recordsOf (
 unfoldable pub verdictBefore : List ℕ → Walk → Record → ℕ → Checked
 verdictBefore book w r to = bookVerdict (w .kind) (nameIn book w) (w .texts) (also r (recordsOf (drop to book)))
 
--- a step keeps the bookVerdict, and goes on
+-- a step keeps the verdict, and goes on
 unfoldable pub verdictOf : List ℕ → Step → Checked
 verdictOf book (Next w) = verdictAt book w
 verdictOf book (Done c) = c

@@ -33,7 +33,7 @@ pub struct Text {
     pub end: usize,
 }
 
-// OneMore the way to the next stored text: before the record at place.at, or, once it no longer goes on, with the text.
+// On the way to the next stored text: before the record at place.at, or, once it no longer goes on, with the text.
 pub struct Way {
     pub going: bool,
     pub place: Place,

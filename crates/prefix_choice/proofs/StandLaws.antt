@@ -1,4 +1,4 @@
--- The list that stands is read back as the prefixes, by their groupStarts (`tabled`); and the lines are as they were.
+-- The list that stands is read back as the prefixes, by their starts (`tabled`); and the lines are as they were.
 -- Assumes nothing.
 use mathlib.Core.Path.{_≡_, refl, sym, ap, ap₂, _∙_}
 use mathlib.Core.Logic.{_⊎_, inl, inr}
@@ -76,7 +76,7 @@ unfolding groups
 groups-some f [] h = absurd (omega arith)
 groups-some f (x ∷ xs) h = groups-from-some f x 1 xs
 
--- ---- the groups of k groupStarts
+-- ---- the groups of k starts
 module _ (text p : List ℕ) (k d : ℕ) (xs : List ℕ) (long : length xs ≡ k) (g : Grouped (groups (partLater 10 1 text) (msorted (partLater 10 1 text) k xs)) k d p) where
   pub grouped-some : 0 < k → (0 < d) × (d ≤ k)
   grouped-some h =

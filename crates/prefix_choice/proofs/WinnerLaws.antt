@@ -46,7 +46,7 @@ module _ (text : List ℕ) (many : List ℕ → ℕ) where
       go false e f = f
 
 module _ (many : ℕ → ℕ) (w : ℕ) where
-  -- none of the list has more, and none that has as many groupStarts before
+  -- none of the list has more, and none that has as many starts before
   abbrev Under : List ℕ → Type 0
   Under xs = (a : ℕ) → Has a xs → (many a ≤ many w) × (many a ≡ many w → w ≤ a)
 

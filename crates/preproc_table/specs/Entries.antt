@@ -32,7 +32,7 @@ linesFrom area table i (suc n) = lineAt area table i ∷ linesFrom area table (s
 unfoldable pub linesAt : List ℕ → List ℕ → ℕ → List (List ℕ)
 linesAt area table n = linesFrom area table 0 n
 
--- entry i entrySet, and entry i emptied
+-- entry i set, and entry i emptied
 abbrev pub entrySet : List ℕ → ℕ → ℕ → ℕ → List ℕ
 entrySet table i start end = set (set table (2 * i) start) (2 * i + 1) end
 

@@ -101,7 +101,7 @@ pub end-left : (b : ℕ) → leftOver b [] ≡ some b
 unfolding leftOver scorings
 end-left b = simp (leb·zero, sub-zero)
 
--- ---- four numbers paidNumbers one behind the other
+-- ---- four numbers put one behind the other
 pub four-set : (l : List ℕ) (at a b c d : ℕ) → at + 4 ≤ length l →
     set (set (set (set l at a) (at + 1) b) (at + 2) c) (at + 3) d ≡ take at l ++ (a ∷ b ∷ c ∷ d ∷ []) ++ drop (at + 4) l
 four-set l at a b c d h =

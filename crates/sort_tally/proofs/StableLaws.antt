@@ -1,4 +1,4 @@
--- The sort is stable: groupStarts that rise are sorted as if equal parts went by their groupStarts (`msorted-stable`). So the start that a group
+-- The sort is stable: starts that rise are sorted as if equal parts went by their starts (`msorted-stable`). So the start that a group
 -- keeps is the least of its part (`covered`), a start of the list (`group-has`), and its count is how often the part stands in the
 -- list (`group-count`).
 -- Assumes nothing.
@@ -182,8 +182,8 @@ module _ (f : ℕ → ℕ → Bool) where
       (ap₂ (merged f (length xs)) (msorted-stable g (take h xs) (climbing-take h xs c)) (msorted-stable g (drop h xs) (climbing-drop h xs c))
       ∙ merged-stable (p .at) (length xs) (msorted stable g (take h xs)) (msorted stable g (drop h xs)) low high)
 
--- ---- the groups of groupStarts that are in the stable order
--- among the groupStarts ss there is one of the same part as a, and no later
+-- ---- the groups of starts that are in the stable order
+-- among the starts ss there is one of the same part as a, and no later
 pub record Represented (m c : ℕ) (s ss : List ℕ) (a : ℕ) : Type 0 where
   pub at : ℕ
   pub within : at < length ss
@@ -307,7 +307,7 @@ module _ (m c : ℕ) (s : List ℕ) where
       let k = le-of-suc-le-suc l in
       rw (same-by Ordering·lt p q (above-at p gs (r .1) (r .2) j k)) (omega (arith, count-at gs (r .2) j k))
 
-  -- ---- of a list of groupStarts that rises
+  -- ---- of a list of starts that rises
   module _ (k : ℕ) (xs : List ℕ) where
     abbrev pub grouped : List Group
     grouped = groups (later m c s) (msorted (later m c s) k xs)

@@ -134,7 +134,7 @@ module _ (m c : ℕ) (s : List ℕ) where
           let q = equal-parts x start e (o .0) in
           joins q ∙ more (same (part start) g) rest ∙ rw q
 
-  -- a list of groupStarts that are in order
+  -- a list of starts that are in order
   pub sorted-count : (g : List ℕ) (xs : List ℕ) → InOrder later xs → countIn (read (groups later xs)) g ≡ occurs g (partsAt m c s xs)
   unfolding groups countIn occurs
   sorted-count g [] o = refl

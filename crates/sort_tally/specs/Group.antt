@@ -33,7 +33,7 @@ groupStarts gs = map (λ (g : Group). g .start) gs
 abbrev pub counts : List Group → List ℕ
 counts gs = map (λ (g : Group). g .count) gs
 
--- the d groups stand in p, their groupStarts from 0 on and their counts from k on
+-- the d groups stand in p, their starts from 0 on and their counts from k on
 pub record Grouped (gs : List Group) (k d : ℕ) (p : List ℕ) : Type 0 where
   pub many : d ≡ length gs
   pub first : take d p ≡ groupStarts gs
