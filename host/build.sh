@@ -1,7 +1,7 @@
 # shellcheck shell=sh disable=SC2034,SC2086,SC2164,SC3013
 # Sourced by the scripts here and by speed/run.sh: the compiler for x86-64 (the archive's machine), how its programs run here, and what must be
 # built first. On x86-64 that is cc; on another machine Debian's cross compiler and emulator. What is missing is installed by package name, and said.
-root=$(cd "$(dirname "$0")/.." && pwd)
+: "${root:?set by the script that sources this}"
 archive=$root/target/staticlib/libchultarvi.a
 flags='-std=c11 -D_GNU_SOURCE -O2 -Wall -Wextra -Wconversion -Wshadow'
 case $(uname -m) in
@@ -47,7 +47,7 @@ need_archive() {
     touch -r "$root/target/archive.began" "$archive"
 }
 
-sources='host/chultarvi.c host/scan.c host/report.c host/book.c host/files.c host/memory.c host/words.c'
+sources='host/cli/chultarvi.c host/cli/scan.c host/cli/report.c host/cli/book.c host/cli/files.c host/cli/memory.c host/cli/words.c'
 
 # stale FILE OTHER...: is one of the others newer than the file, or the file not there?
 stale() {
@@ -58,15 +58,15 @@ stale() {
     return 1
 }
 
-# need_driver NAME FLAG...: target/NAME, made of host/NAME.c over the archive
+# need_driver NAME FLAG...: target/NAME, made of host/drivers/NAME.c over the archive
 need_driver() {
     driver=$1
     shift
     need "$CC" ${RUN%% *}
     need_archive
     cd "$root"
-    stale "target/$driver" "$archive" "host/$driver.c" include/chultarvi.h || return 0
-    $CC $flags "$@" $LINK -o "target/$driver" "host/$driver.c" "$archive"
+    stale "target/$driver" "$archive" "host/drivers/$driver.c" include/chultarvi.h || return 0
+    $CC $flags "$@" $LINK -o "target/$driver" "host/drivers/$driver.c" "$archive"
 }
 
 need_program() {
@@ -74,7 +74,7 @@ need_program() {
     need_archive
     (
         cd "$root"
-        stale target/chultarvi "$archive" $sources host/host.h include/chultarvi.h || exit 0
+        stale target/chultarvi "$archive" $sources host/cli/host.h include/chultarvi.h || exit 0
         echo 'host: building target/chultarvi' >&2
         mkdir -p target
         $CC $flags $LINK -o target/chultarvi $sources "$archive"

@@ -2,7 +2,8 @@
 # shellcheck disable=SC1091,SC2086,SC2154
 # Builds what is missing and runs the command line with the words given; with none it scans the example note against the default book.
 set -eu
-. "$(dirname "$0")/build.sh"
+root=$(cd "$(dirname "$(readlink -f "$0")")/.." && pwd)
+. "$root/host/build.sh"
 need_program
 if [ $# = 0 ]; then
     cd "$root"

@@ -1,5 +1,5 @@
 /* Chultarvi for C and C++: a licence-note scanner whose every answer is proved. Link target/staticlib/libchultarvi.a (x86-64, made by
-   `rt staticlib chultarvi`). host/memory.c and host/scan.c are callers to copy from; host/test_face.c calls everything here.
+   `rt staticlib chultarvi`). host/cli/memory.c and host/cli/scan.c are callers to copy from; host/tests/face.c calls everything here.
 
    Arguments. A slice is two arguments, a pointer and a count of elements (not bytes: for uint32_t one element is four bytes). A pointer may
    be null only where its count is 0; that is an empty slice. Pointers to uint32_t are aligned as C has it.

@@ -3,7 +3,7 @@
 
     oracle/rows.py [--seed N] [--scale X] [--quick]
 
-Asks target/rows (built and run by host/rows.sh) and the model the same questions, and compares everything that the call answers and leaves. Every
+Asks target/rows (built and run by host/drivers/rows.sh) and the model the same questions, and compares everything that the call answers and leaves. Every
 area is filled with garbage first and is often longer than needed; text, books and the bytes behind each buffer must be as they were, and the name's
 part must hold the name. Each refusal of each job, of one book and of two, must be met at least 20 times, and each limit must bring the refusal that
 edges.py says. Prints one line for each kind of row; the last line is 'N passed, M failed'. Exit status: 0 none failed, 1 some did, 2 the comparison
@@ -38,7 +38,7 @@ class Archive:
     """target/rows, which calls the archive."""
 
     def __init__(self):
-        program = os.path.join(compare.REPOSITORY, "host", "rows.sh")
+        program = os.path.join(compare.REPOSITORY, "host", "drivers", "rows.sh")
         self.process = subprocess.Popen([program], stdin=subprocess.PIPE, stdout=subprocess.PIPE)
 
     def read(self, size):

@@ -3,7 +3,7 @@
 
     oracle/scale.py [--seeds N] [--first K]
 
-Asks the original (oracle/README.md) and target/answers (built and run by host/answers.sh) the same questions and compares the answers line by line:
+Asks the original (oracle/README.md) and target/answers (built and run by host/drivers/answers.sh) the same questions and compares the answers line by line:
 
   lists     replay.py's lists of tables, scores, bounds and scans, made anew for each of N seeds (default 100): passes by the tables that
             they end in, scores by their bits, counts and budgets, both scans
@@ -37,7 +37,7 @@ VIEWS, SCANS = ("score", "countbounds"), ("counteliminate", "countdown")
 
 class Ours:
     def __init__(self):
-        program = os.path.join(compare.REPOSITORY, "host", "answers.sh")
+        program = os.path.join(compare.REPOSITORY, "host", "drivers", "answers.sh")
         self.process = subprocess.Popen([program], stdin=subprocess.PIPE, stdout=subprocess.PIPE, text=True)
 
     def ask(self, question):

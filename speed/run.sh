@@ -3,7 +3,8 @@
 # Builds and runs the benchmark (x86-64): the archive against the unchanged original, in one process. speed/README.md says what it needs.
 # count.sh runs it UNDER the emulator.
 set -eu
-. "$(dirname "$0")/../host/build.sh"
+root=$(cd "$(dirname "$(readlink -f "$0")")/.." && pwd)
+. "$root/host/build.sh"
 need_archive
 cd "$root/speed"
 (cd ../oracle && sha256sum --quiet -c original.sha256)

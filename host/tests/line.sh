@@ -1,6 +1,6 @@
 #!/bin/sh
 # shellcheck disable=SC2015,SC2059,SC2086
-# Tests of the command line, run by host/test.sh: test_line.sh PROGRAM FAULTY BOOK NOTE, where FAULTY is the program with host/test_faults.c and
+# Tests of the command line, run by host/test.sh: line.sh PROGRAM FAULTY BOOK NOTE, where FAULTY is the program with host/tests/faults.c and
 # RUN what runs programs of x86-64. Each test is: run STATUS WORDS..., then what must stand in $out and $err. Prints what fails, then
 # 'N passed, M failed'.
 set -u

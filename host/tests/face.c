@@ -1,7 +1,7 @@
 /* Tests of the library as C and C++ see it: this file is compiled as both. Layout of every answer; every export, over one book and over two; every
    refusal with the neighbour that is not refused; and after each call, what the lent areas hold and where the name stands. Prints what fails, then
    'N passed, M failed'. */
-#include "../include/chultarvi.h"
+#include "../../include/chultarvi.h"
 #include <assert.h>
 #include <float.h>
 #include <math.h>

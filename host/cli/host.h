@@ -1,9 +1,9 @@
 /* What the files of the command line share: exit statuses, reading and writing of files, words for people and for JSON, and the memory
-   that is lent to the library. The library itself is ../include/chultarvi.h; it allocates nothing and opens no file. */
+   that is lent to the library. The library itself is ../../include/chultarvi.h; it allocates nothing and opens no file. */
 #ifndef HOST_H
 #define HOST_H
 
-#include "../include/chultarvi.h"
+#include "../../include/chultarvi.h"
 #include <stdarg.h>
 #include <stdio.h>
 

@@ -1,5 +1,5 @@
 /* Shows that the check of a book is linear: a sound book of n bytes and of 2n, both timed in one run.
-   Build and run: host/linear.sh. Nothing here is part of the gate. */
+   Build and run: host/drivers/linear.sh. Nothing here is part of the gate. */
 #include <stdint.h>
 #include <stdio.h>
 #include <stdlib.h>

@@ -3,7 +3,7 @@
 # charged; what it cannot hold is that no other crate calls the functions below, which this test lists. A new caller fails it.
 # The last line is 'N passed, M failed'; the exit status is 0 only where M is 0.
 set -eu
-cd "$(dirname "$0")/.."
+cd "$(dirname "$0")/../.."
 passed=0 failed=0
 # callers CRATE NAME EXPECTED: the crates that name CRATE::NAME, sorted, are EXPECTED
 callers() {

@@ -3,7 +3,7 @@
    books only the first is lent, or both, or the first twice. The answer: ten numbers, the 64 bytes of the name and where it stands, whether
    chultarvi_name finds it elsewhere, whether the bytes behind a buffer have changed, then what the seven hold now. An empty buffer is lent as a null
    pointer. */
-#include "../include/chultarvi.h"
+#include "../../include/chultarvi.h"
 #include <stdio.h>
 #include <stdlib.h>
 #include <string.h>

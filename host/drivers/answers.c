@@ -1,7 +1,7 @@
 /* Answers the oracle's questions (oracle/README.md) by the archive: table, score, countbounds, clear, add, counteliminate, countdown; behind
    `border K` by the calls that take two books. Every area is filled with garbage before a call and looked at after it, and so is the name's part.
-   Build and run: host/answers.sh. Nothing here is part of the gate. */
-#include "../include/chultarvi.h"
+   Build and run: host/drivers/answers.sh. Nothing here is part of the gate. */
+#include "../../include/chultarvi.h"
 #include <inttypes.h>
 #include <limits.h>
 #include <stdio.h>

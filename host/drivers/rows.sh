@@ -2,6 +2,7 @@
 # shellcheck disable=SC1091,SC2086,SC2154
 # Builds target/rows, where it is missing or older than what it is made of, and runs it: it calls the archive as oracle/rows.py tells it.
 set -eu
-. "$(dirname "$0")/build.sh"
+root=$(cd "$(dirname "$(readlink -f "$0")")/../.." && pwd)
+. "$root/host/build.sh"
 need_driver rows
 exec $RUN target/rows

@@ -2,6 +2,7 @@
 # shellcheck disable=SC1091,SC2086,SC2154
 # Builds target/answers, where it is missing or older than what it is made of, and runs it: it answers the oracle's questions by the archive.
 set -eu
-. "$(dirname "$0")/build.sh"
+root=$(cd "$(dirname "$(readlink -f "$0")")/../.." && pwd)
+. "$root/host/build.sh"
 need_driver answers
 exec $RUN target/answers

@@ -1,5 +1,5 @@
 /* Shows that the passes, the sort and the table take n log n: compile of a text of n bytes and of 2n, of each kind that could be slow, timed
-   in one run. Build and run: host/passes.sh. Nothing here is part of the gate. */
+   in one run. Build and run: host/drivers/passes.sh. Nothing here is part of the gate. */
 #include <stdint.h>
 #include <stdio.h>
 #include <stdlib.h>

@@ -1,6 +1,6 @@
 /* How much stack each export takes: it runs in a thread whose stack was painted before, and the paint that is gone is counted, less what a
-   thread takes that calls nothing. Build and run: host/stack.sh. Nothing here is part of the gate. */
-#include "../include/chultarvi.h"
+   thread takes that calls nothing. Build and run: host/drivers/stack.sh. Nothing here is part of the gate. */
+#include "../../include/chultarvi.h"
 #include <pthread.h>
 #include <stdio.h>
 #include <stdlib.h>
