@@ -47,7 +47,7 @@ need_archive() {
     touch -r "$root/target/archive.began" "$archive"
 }
 
-sources='host/cli/chultarvi.c host/cli/scan.c host/cli/report.c host/cli/book.c host/cli/files.c host/cli/memory.c host/cli/words.c'
+sources='host/cli/*.c'
 
 # stale FILE OTHER...: is one of the others newer than the file, or the file not there?
 stale() {
