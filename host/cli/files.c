@@ -125,3 +125,18 @@ bool write_file(const char *path, const uint8_t *bytes, size_t len) {
     sigprocmask(SIG_SETMASK, &before, 0);
     return done;
 }
+
+/* Notes come by the thousand from folders, so nothing is waited for: a FIFO is opened without its writer, looked at, and left. */
+const char *read_note(const char *path, uint8_t *to, size_t most, size_t *len) {
+    *len = 0;
+    if (strcmp(path, "-") == 0) return read_file(path, to, most, len);
+    int file = open(path, O_RDONLY | O_NONBLOCK | O_NOCTTY | O_CLOEXEC);
+    struct stat kind;
+    if (file < 0) return errno == ENXIO ? "it is a socket or a device without another end, which is skipped" : strerror(errno);
+    const char *why = fstat(file, &kind) == 0 ? 0 : strerror(errno);
+    if (!why && S_ISDIR(kind.st_mode)) why = "it is a folder; -r scans the files in it";
+    else if (!why && !S_ISREG(kind.st_mode)) why = "it is a FIFO or a device, which is skipped; a note is a regular file, or - for standard input";
+    if (!why) why = read_open(file, to, most, len);
+    close(file);
+    return why;
+}

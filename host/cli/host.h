@@ -19,6 +19,8 @@ enum { KIND_NAME = 1, KIND_ALIAS = 5, RECORD_HEAD = 6 };
 /* Reads all of a file, or of standard input for "-", but never more than one byte above `most`: that byte suffices for the library to
    refuse it. `to` has room for most + 1 bytes. Gives null, or the reason why it cannot be read. */
 const char *read_file(const char *path, uint8_t *to, size_t most, size_t *len);
+/* The same of a note: a regular file, or standard input. A folder, a FIFO or a device is not read and never waited for. */
+const char *read_note(const char *path, uint8_t *to, size_t most, size_t *len);
 /* Writes beside, flushes, renames. Either the file is new and whole, or what stood there still stands and the reason has been said. */
 bool write_file(const char *path, const uint8_t *bytes, size_t len);
 
@@ -65,28 +67,7 @@ typedef struct { const char *file; uint8_t *bytes; size_t len; bool sound; } len
 typedef struct { const char *name, *book; uint32_t len, kind; } stored_text;
 size_t list_stored(const lent_book *book, stored_text *to);
 
-/* beside: the file of the second book; null where the scan has one. */
-typedef struct {
-    const char *book, *beside;
-    float threshold, shallow;
-    bool optimize, down, json;
-    uint16_t passes;
-    uint64_t step, budget;
-} settings;
-
-/* All that there is to say of one note. */
-typedef struct {
-    const char *file;
-    const uint8_t *text;
-    size_t len;
-    const settings *with;
-    const lent_book *books;
-    chultarvi_note_scanned answer;
-    const uint32_t *results;
-    const stored_text *stored;
-    size_t stored_count;
-} report;
-void report_note(const report *r);
-void report_trouble(const char *file, const char *why, bool json);
+/* help.c */
+bool print_help(const char *command);
 
 #endif

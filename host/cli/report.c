@@ -1,69 +1,82 @@
 /* What is said of a scanned note: lines for a person, which count from 1 and name the last line of a range, or one line of JSON, whose numbers
-   are the library's own (lines from 0, and the line after the last). */
-#include "host.h"
+   are the library's own (lines from 0, and the line after the last). host/scan.schema.json says each field of the JSON. */
+#include "scan.h"
 #include <inttypes.h>
 #include <stdlib.h>
 #include <string.h>
 
-static float score_of(uint32_t bits) {
-    float score;
-    memcpy(&score, &bits, sizeof score);
-    return score;
-}
-
 /* Top-down has no overall score, and a scan stopped before each stored text was scored once knows none yet. */
 static bool overall_known(const report *r) {
-    return !r->with->down && (r->answer.refusal == 0 || r->answer.count >= r->stored_count);
-}
-
-/* The licence that is named, as if it were stored: its name stands in one of the books. All is null where none is. */
-static stored_text overall(const report *r) {
-    const chultarvi_note_scanned *a = &r->answer;
-    if (!a->kind) return (stored_text){0};
-    const char *name = (const char *)chultarvi_name(r->books[0].bytes, r->books[1].bytes, a);
-    return (stored_text){name, r->books[a->second].file, a->len, a->kind};
+    return !r->from->with.down && (r->answer.refusal == 0 || r->answer.count >= r->from->stored_count);
 }
 
 /* `lead` is what stands before the string: the key, and the comma or brace before it. No string is null. */
-static void json_bytes(const char *lead, const char *bytes, size_t len) {
-    fputs(lead, stdout);
-    if (bytes) put_json(stdout, bytes, len);
-    else fputs("null", stdout);
+static void json_bytes(FILE *to, const char *lead, const char *bytes, size_t len) {
+    fputs(lead, to);
+    if (bytes) put_json(to, bytes, len);
+    else fputs("null", to);
 }
-static void json_word(const char *lead, const char *word) { json_bytes(lead, word, word ? strlen(word) : 0); }
+static void json_word(FILE *to, const char *lead, const char *word) { json_bytes(to, lead, word, word ? strlen(word) : 0); }
 
 /* Which book is said only where there are two. */
-static void json_licence(const report *r, const stored_text *s) {
-    json_bytes("\"licence\":", s->name, s->len);
-    if (r->with->beside) json_word(",\"book\":", s->book);
-    json_word(",\"kind\":", s->kind ? kind_words(s->kind) : 0);
+static void json_licence(FILE *to, const report *r, const stored_text *s) {
+    json_bytes(to, "\"licence\":", s->name, s->len);
+    if (r->from->with.beside) json_word(to, ",\"book\":", s->book);
+    json_word(to, ",\"kind\":", s->kind ? kind_words(s->kind) : 0);
 }
 
-static void json_range(const report *r, const uint32_t *record) {
-    fputc('{', stdout);
-    json_licence(r, r->stored + record[0]);
-    printf(",\"number\":%" PRIu32 ",\"first\":%" PRIu32 ",\"after\":%" PRIu32 ",\"score\":%.9g}", record[0], record[1], record[2],
-           (double)score_of(record[3]));
+static void json_other(FILE *to, const report *r, const char *key, const finding *f) {
+    fprintf(to, ",\"%s\":{", key);
+    json_licence(to, r, &f->other);
+    fprintf(to, ",\"score\":%.9g}", (double)f->other_score);
 }
 
-static void json_answer(const report *r) {
-    const chultarvi_note_scanned *a = &r->answer;
-    stored_text best = overall(r);
-    fputc(',', stdout);
-    json_licence(r, &best);
-    if (overall_known(r)) printf(",\"score\":%.9g", (double)a->score);
-    else fputs(",\"score\":null", stdout);
-    printf(",\"scorings\":%" PRIu64 ",\"ranges\":[", a->count);
-    for (uint32_t k = 0; k < a->records; k++) {
-        if (k > 0) fputc(',', stdout);
-        json_range(r, r->results + CHULTARVI_RECORD_WIDTH * (size_t)k);
+/* Whether another licence scores as high: false for none, null where nobody looked. And with --second the next one, null where there is none. */
+static void json_doubt(FILE *to, const report *r, const finding *f) {
+    if (has_rival(f)) json_other(to, r, "rival", f);
+    else fprintf(to, ",\"rival\":%s", f->looked && f->text.kind ? "false" : "null");
+    if (!r->from->with.second) return;
+    if (f->looked && f->other.kind) json_other(to, r, "second", f);
+    else fputs(",\"second\":null", to);
+}
+
+static void json_finding(FILE *to, const report *r, const finding *f, bool numbered) {
+    fputc('{', to);
+    json_licence(to, r, &f->text);
+    if (numbered) fprintf(to, ",\"number\":%" PRIu32, f->number);
+    fprintf(to, ",\"first\":%" PRIu32 ",\"after\":%" PRIu32 ",\"score\":%.9g", f->first, f->after, (double)f->score);
+    json_doubt(to, r, f);
+    fputc('}', to);
+}
+
+static void json_findings(FILE *to, const report *r, const char *key, const findings *all, bool numbered) {
+    fprintf(to, ",\"%s\":[", key);
+    for (size_t k = 0; k < all->count; k++) {
+        if (k > 0) fputc(',', to);
+        json_finding(to, r, all->at + k, numbered);
     }
-    fputc(']', stdout);
+    fputc(']', to);
+}
+
+static void json_answer(FILE *to, const report *r) {
+    const settings *s = &r->from->with;
+    fputc(',', to);
+    json_licence(to, r, &r->whole.text);
+    if (overall_known(r)) fprintf(to, ",\"score\":%.9g", (double)r->answer.score);
+    else fputs(",\"score\":null", to);
+    json_doubt(to, r, &r->whole);
+    fprintf(to, ",\"scorings\":%" PRIu64, r->answer.count);
+    json_findings(to, r, "ranges", &r->ranges, true);
+    if (s->thorough) {
+        json_findings(to, r, "further", &r->further, false);
+        fprintf(to, ",\"stopped\":%s", r->stopped ? "true" : "false");
+    }
+    fprintf(to, ",\"unheld\":%zu,\"more\":%" PRIu64, r->unheld, r->more);
 }
 
 /* Refusals 4 and 5 of two books. */
 static void put_books_message(FILE *to, const report *r) {
-    const lent_book *one = r->books, *two = r->books + 1;
+    const lent_book *one = r->from->books, *two = one + 1;
     fprintf(to, "refused (%" PRIu32 "): ", r->answer.refusal);
     if (r->answer.refusal == 5) fputs("neither book has a stored text", to);
     else if (!one->sound && !two->sound) fputs("neither book is sound", to);
@@ -80,76 +93,136 @@ static char *message_of(const report *r) {
     char *message = 0;
     size_t len;
     FILE *to = open_memstream(&message, &len);
-    if (to && r->with->beside && (refusal == 4 || refusal == 5)) put_books_message(to, r);
+    if (to && r->from->with.beside && (refusal == 4 || refusal == 5)) put_books_message(to, r);
     else if (to) {
         char words[MESSAGE_MOST];
         refusal_message(words, refusal, r->text, r->len);
         fputs(words, to);
+        if (refusal == 2) fputs("; --ascii scans it with such characters mapped or dropped", to);
     }
     if (to && fclose(to) == 0) return message;
     say("no memory for a message");
     exit(TROUBLE);
 }
 
-static void report_json(const report *r) {
+static void report_json(const report *r, FILE *to) {
     uint32_t refusal = r->answer.refusal;
     char *message = refusal ? message_of(r) : 0;
-    json_word("{\"note\":", r->file);
-    printf(",\"refusal\":%" PRIu32, refusal);
-    if (message) json_word(",\"message\":", message);
+    json_word(to, "{\"note\":", r->file);
+    fprintf(to, ",\"refusal\":%" PRIu32, refusal);
+    if (message) json_word(to, ",\"message\":", message);
     free(message);
-    if (refusal == 2) printf(",\"offset\":%zu", first_not_ascii(r->text, r->len));
-    if (refusal == 0 || refusal == 12) json_answer(r);
-    fputs("}\n", stdout);
+    if (refusal == 2) fprintf(to, ",\"offset\":%zu", first_not_ascii(r->text, r->len));
+    if (r->from->with.ascii) fprintf(to, ",\"changed\":%zu", r->changed);
+    if (refusal == 0 || refusal == 12) json_answer(to, r);
+    fputs("}\n", to);
 }
 
-static void plain_licence(const report *r, const stored_text *s, float score) {
-    printf(": %.*s, %s, score %.4f", (int)s->len, s->name, kind_words(s->kind), (double)score);
-    if (!r->with->beside) return;
-    fputs(", from ", stdout);
-    put_plain(stdout, s->book);
+static void plain_text(FILE *to, const report *r, const stored_text *s, float score) {
+    fprintf(to, "%.*s, %s, score %.4f", (int)s->len, s->name, kind_words(s->kind), (double)score);
+    if (!r->from->with.beside) return;
+    fputs(", from ", to);
+    put_plain(to, s->book);
 }
 
-static void plain_range(const report *r, const uint32_t *record) {
-    uint32_t first = record[1], after = record[2];
-    if (first == after) printf("  no line, after line %" PRIu32, first);
-    else if (first + 1 == after) printf("  line %" PRIu32, after);
-    else printf("  lines %" PRIu32 " to %" PRIu32, first + 1, after);
-    plain_licence(r, r->stored + record[0], score_of(record[3]));
-    fputc('\n', stdout);
+static void plain_doubt(FILE *to, const report *r, const finding *f) {
+    const char *lead = 0;
+    if (has_rival(f)) lead = f->other_score > f->score ? "but higher on these lines: " : "but as high: ";
+    else if (r->from->with.second && f->looked && f->other.kind) lead = f->text.kind ? "next: " : "nearest: ";
+    if (!lead) return;
+    fprintf(to, "    %s", lead);
+    plain_text(to, r, &f->other, f->other_score);
+    fputc('\n', to);
 }
 
-static void report_plain(const report *r) {
+static void plain_finding(FILE *to, const report *r, const finding *f, const char *lead) {
+    fprintf(to, "  %s", lead);
+    if (f->first == f->after) fprintf(to, "no line, after line %" PRIu32 ": ", f->first);
+    else if (f->first + 1 == f->after) fprintf(to, "line %" PRIu32 ": ", f->after);
+    else fprintf(to, "lines %" PRIu32 " to %" PRIu32 ": ", f->first + 1, f->after);
+    plain_text(to, r, &f->text, f->score);
+    fputc('\n', to);
+    plain_doubt(to, r, f);
+}
+
+/* What nobody has read, and what it cost. */
+static void plain_rest(FILE *to, const report *r) {
+    const settings *s = &r->from->with;
+    if (r->changed) fprintf(to, "  --ascii changed %zu character%s\n", r->changed, r->changed == 1 ? "" : "s");
+    if (r->stopped) fputs("  the further scans were stopped by the budget\n", to);
+    if (r->unheld && r->answer.refusal == 0) {
+        fprintf(to, "  %zu line%s with words %s in no range", r->unheld, r->unheld == 1 ? "" : "s", r->unheld == 1 ? "is" : "are");
+        fputs(s->thorough ? "\n" : "; --thorough looks there\n", to);
+    }
+    fprintf(to, "  %" PRIu64 " scoring%s", r->answer.count, r->answer.count == 1 ? "" : "s");
+    if (r->more) fprintf(to, ", %" PRIu64 " more in further scans", r->more);
+    fputc('\n', to);
+}
+
+static void put_message(FILE *err, const char *file, const char *lead, const char *message) {
+    fputs("chultarvi: ", err);
+    put_plain(err, file);
+    fprintf(err, ": %s%s\n", lead, message);
+}
+
+static void report_plain(const report *r, FILE *to, FILE *err) {
     const chultarvi_note_scanned *a = &r->answer;
-    stored_text best = overall(r);
     if (a->refusal) {
         char *message = message_of(r);
-        say_of(r->file, "%s", message);
+        put_message(err, r->file, "", message);
         free(message);
         if (a->refusal != 12) return;
     }
-    put_plain(stdout, r->file);
-    if (best.kind) plain_licence(r, &best, a->score);
-    else if (overall_known(r)) printf(": no licence as a whole (best score %.4f)", (double)a->score);
-    else if (!r->with->down) printf(": not known as a whole");
-    else printf(": %s", a->records ? "ranges" : "no range");
-    printf("%s\n", a->refusal ? "; stopped by the budget" : "");
-    for (uint32_t k = 0; k < a->records; k++) plain_range(r, r->results + CHULTARVI_RECORD_WIDTH * (size_t)k);
-    printf("  %" PRIu64 " scoring%s\n", a->count, a->count == 1 ? "" : "s");
+    put_plain(to, r->file);
+    fputs(": ", to);
+    if (r->whole.text.kind) plain_text(to, r, &r->whole.text, a->score);
+    else if (overall_known(r)) fprintf(to, "no licence as a whole (best score %.4f)", (double)a->score);
+    else if (!r->from->with.down) fputs("not known as a whole", to);
+    else fputs(a->records ? "ranges" : "no range", to);
+    fprintf(to, "%s\n", a->refusal ? "; stopped by the budget" : "");
+    plain_doubt(to, r, &r->whole);
+    for (size_t k = 0; k < r->ranges.count; k++) plain_finding(to, r, r->ranges.at + k, "");
+    for (size_t k = 0; k < r->further.count; k++) plain_finding(to, r, r->further.at + k, "further, ");
+    plain_rest(to, r);
 }
 
-void report_note(const report *r) {
-    if (r->with->json) report_json(r);
-    else report_plain(r);
+void report_note(const report *r, FILE *out, FILE *err) {
+    if (r->from->with.json) report_json(r, out);
+    else report_plain(r, out, err);
 }
 
-void report_trouble(const char *file, const char *why, bool json) {
+void report_trouble(const char *file, const char *why, bool json, FILE *out, FILE *err) {
     if (!json) {
-        bool like_option = file[0] == '-' && file[1];
-        say_of(file, "cannot be read: %s%s", why, like_option ? "; options stand before the notes" : "");
+        put_message(err, file, "cannot be read: ", why);
         return;
     }
-    json_word("{\"note\":", file);
-    json_word(",\"trouble\":", why);
-    fputs("}\n", stdout);
+    json_word(out, "{\"note\":", file);
+    json_word(out, ",\"trouble\":", why);
+    fputs("}\n", out);
+}
+
+static const struct { const char *json, *plain; } skipped_words[SKIPPED_KINDS] = {
+    [SKIPPED_LARGE] = {"large", "over 1,048,576 bytes"},
+    [SKIPPED_ODD] = {"odd", "no regular file"},
+    [SKIPPED_LINKS] = {"links", "a link to a folder"},
+    [SKIPPED_GIT] = {"git", ".git"},
+};
+
+void report_folder(const walked *f, bool json) {
+    if (json) {
+        json_word(stdout, "{\"folder\":", f->folder);
+        printf(",\"notes\":%zu,\"skipped\":{", f->notes);
+        for (int i = 0; i < SKIPPED_KINDS; i++) printf("%s\"%s\":%zu", i ? "," : "", skipped_words[i].json, f->skipped[i]);
+        fputs("}}\n", stdout);
+        return;
+    }
+    put_plain(stdout, f->folder);
+    printf(": %zu note%s", f->notes, f->notes == 1 ? "" : "s");
+    const char *lead = "; skipped: ";
+    for (int i = 0; i < SKIPPED_KINDS; i++) {
+        if (!f->skipped[i]) continue;
+        printf("%s%zu %s", lead, f->skipped[i], skipped_words[i].plain);
+        lead = ", ";
+    }
+    fputc('\n', stdout);
 }

@@ -1,32 +1,26 @@
 /* The subcommand scan: its options, and each note in turn against the book, or against both. Memory is taken once for all notes. A note that
    cannot be read or is refused is said and the others are still scanned; the exit status is the worst of all. */
-#include "host.h"
+#include "scan.h"
 #include <getopt.h>
 #include <inttypes.h>
 #include <stdlib.h>
 #include <string.h>
+#include <sys/ioctl.h>
 #include <unistd.h>
 
-/* Everything that lasts from note to note. */
-typedef struct {
-    settings with;
-    memory lent;
-    lent_book books[2];
-    uint32_t *results;
-    stored_text *stored;
-    size_t stored_count;
-    bool watched;
-} scanner;
-
 /* OPERAND is getopt's number for a word that is no option. The options' own lie above every byte: a letter that is none comes back as its byte. */
-enum { OPERAND = 1, BESIDE = 256, THRESHOLD, SHALLOW, PASSES, NO_OPTIMIZE, TOP_DOWN, BUDGET, JSON, OPTIONS };
+enum { OPERAND = 1, BESIDE = 256, THRESHOLD, SHALLOW, PASSES, NO_OPTIMIZE, TOP_DOWN, BUDGET, JSON, THOROUGH, SECOND, ASCII, OPTIONS };
 static const struct option options[] = {
     {"beside", required_argument, 0, BESIDE},       {"threshold", required_argument, 0, THRESHOLD},
     {"shallow", required_argument, 0, SHALLOW},     {"passes", required_argument, 0, PASSES},
     {"no-optimize", no_argument, 0, NO_OPTIMIZE},   {"top-down", required_argument, 0, TOP_DOWN},
     {"budget", required_argument, 0, BUDGET},       {"json", no_argument, 0, JSON},
+    {"thorough", no_argument, 0, THOROUGH},         {"second", no_argument, 0, SECOND},
+    {"ascii", no_argument, 0, ASCII},               {"recursive", no_argument, 0, 'r'},
+    {"jobs", required_argument, 0, 'j'},            {"help", no_argument, 0, 'h'},
     {0, 0, 0, 0},
 };
+enum { JOBS_MOST = 256 };
 
 static const char *option_name(int which) {
     const struct option *o = options;
@@ -46,7 +40,7 @@ static bool wrong_option(int which, const char *word) {
     else if (name) say("--%s takes no value", name);
     else {
         char letter[] = {'-', (char)optopt, 0};
-        say_of(optopt ? letter : word, "scan has no such option; chultarvi --help tells more");
+        say_of(optopt ? letter : word, "scan has no such option; chultarvi scan --help tells more");
     }
     return false;
 }
@@ -61,105 +55,155 @@ static bool read_beside(settings *s) {
     return true;
 }
 
+/* Said here once, and not of each note by the library's refusal 6. */
+static bool read_share(int which, float *limit) {
+    bool good = read_limit(optarg, limit) && *limit >= 0.0f && *limit <= 1.0f;
+    return good || wrong_value(which, "a number from 0.0 to 1.0");
+}
+
+static bool read_count(int which, uint64_t least, uint64_t most, uint64_t *count, const char *wanted) {
+    bool good = read_number(optarg, most, count) && *count >= least;
+    return good || wrong_value(which, wanted);
+}
+
 static bool read_option(int which, settings *s) {
     uint64_t n = 0;
+    bool good = true;
     switch (which) {
     case BESIDE: return read_beside(s);
-    case THRESHOLD: return read_limit(optarg, &s->threshold) || wrong_value(which, "a number");
-    case SHALLOW: return read_limit(optarg, &s->shallow) || wrong_value(which, "a number");
+    case THRESHOLD: return read_share(which, &s->threshold);
+    case SHALLOW: return read_share(which, &s->shallow);
     case PASSES:
-        if (!read_number(optarg, UINT16_MAX, &n)) return wrong_value(which, "a whole number up to 65535");
+        good = read_count(which, 0, UINT16_MAX, &n, "a whole number up to 65535");
         s->passes = (uint16_t)n;
-        return true;
+        return good;
     case NO_OPTIMIZE: s->optimize = false; return true;
-    case TOP_DOWN: s->down = true; return read_number(optarg, UINT64_MAX, &s->step) || wrong_value(which, "a number of lines");
-    case BUDGET: return read_number(optarg, UINT64_MAX, &s->budget) || wrong_value(which, "a number of scorings");
-    case JSON: s->json = true; return true;
+    case TOP_DOWN: s->down = true; return read_count(which, 1, UINT64_MAX, &s->step, "a number of lines, at least 1");
+    case BUDGET: return read_count(which, 0, UINT64_MAX, &s->budget, "a number of scorings");
+    case JSON: return s->json = true;
+    case THOROUGH: return s->thorough = true;
+    case SECOND: return s->second = true;
+    case ASCII: return s->ascii = true;
+    case 'r': return s->recursive = true;
+    case 'j':
+        good = read_count(which, 1, JOBS_MOST, &n, "a number of threads from 1 to 256");
+        s->jobs = n;
+        return good;
     default: return false;
     }
 }
 
 /* An option that would have no effect is an error, so that nobody trusts in it. */
 static bool have_effect(const settings *s, const bool seen[OPTIONS]) {
-    if (s->down && (seen[PASSES] || seen[NO_OPTIMIZE])) {
-        say("--passes and --no-optimize have no meaning with --top-down");
-        return false;
-    }
-    if (!s->optimize && seen[PASSES]) {
-        say("--passes has no meaning with --no-optimize");
-        return false;
-    }
-    return true;
+    const char *wrong = 0;
+    if (s->down && (seen[PASSES] || seen[NO_OPTIMIZE])) wrong = "--passes and --no-optimize have no meaning with --top-down";
+    else if (!s->optimize && seen[PASSES]) wrong = "--passes has no meaning with --no-optimize";
+    if (wrong) say("%s", wrong);
+    return !wrong;
 }
 
-/* Options stand on either side of the book. The first note ends them, or `--`, so that of the words from there on none is taken for an option;
-   they begin at words[optind]. */
-static bool read_words(int count, char **words, settings *s) {
+/* Takes a name: the first is the book's, the others are notes. */
+static void take_name(char *word, settings *s, char **names, size_t *count) {
+    if (!s->book) s->book = word;
+    else names[(*count)++] = word;
+}
+
+/* Options stand anywhere before `--`. The notes' names go to `names`, which has room for all words. False where all is said: then `status` is the
+   exit status. */
+static bool read_words(int count, char **words, settings *s, char **names, size_t *name_count, int *status) {
     bool seen[OPTIONS] = {false};
     opterr = 0;
-    for (int which; (which = getopt_long(count, words, "-:", options, 0)) != -1;) {
-        if (which == '?' || which == ':') return wrong_option(which, words[optind - 1]);
-        if (which == OPERAND && s->book) {
-            optind--;
-            break;
+    *status = TROUBLE;
+    for (int which; (which = getopt_long(count, words, "-:hrj:", options, 0)) != -1;) {
+        if (which == 'h') {
+            *status = print_help("scan") ? DONE : TROUBLE;
+            return false;
         }
-        if (which == OPERAND) s->book = optarg;
+        if (which == '?' || which == ':') return wrong_option(which, words[optind - 1]);
+        if (which == OPERAND) take_name(optarg, s, names, name_count);
         else if (!read_option(which, s)) return false;
         seen[which] = true;
     }
-    if (!s->book && optind < count) s->book = words[optind++];
+    while (optind < count) take_name(words[optind++], s, names, name_count);
     return have_effect(s, seen);
 }
 
-static size_t lines_of(const uint8_t *text, size_t len) {
-    size_t lines = 1;
-    for (size_t i = 0; i < len; i++) lines += text[i] == '\n';
-    return lines < CHULTARVI_LINES_MOST ? lines : CHULTARVI_LINES_MOST;
+/* What is scanned now; the report and the progress name it. */
+static notes all_notes;
+
+static int by_line(const void *a, const void *b) {
+    const finding *x = a, *y = b;
+    if (x->first != y->first) return x->first < y->first ? -1 : 1;
+    return x->after < y->after ? -1 : x->after > y->after;
 }
 
-static chultarvi_note_scanned scan_down(const scanner *s, size_t len) {
-    const settings *w = &s->with;
-    const memory *m = &s->lent;
-    const lent_book *one = s->books, *two = s->books + 1;
-    size_t room = chultarvi_top_down_results(lines_of(m->text, len));
-    if (w->beside)
-        return chultarvi_top_down_both(m->text, len, one->bytes, one->len, two->bytes, two->len, w->threshold, w->shallow, w->step, w->budget,
-                                       m->area, lent_bytes(len), m->words, lent_words(len), s->results, room);
-    return chultarvi_top_down(m->text, len, one->bytes, one->len, w->threshold, w->shallow, w->step, w->budget, m->area, lent_bytes(len), m->words,
-                              lent_words(len), s->results, room);
+static void scan_text(worker *w, report *r) {
+    part text = {r->text, r->len}, books[2];
+    const char *files[2];
+    r->answer = scan_whole(w, text);
+    if (r->answer.refusal != 0 && r->answer.refusal != 12) return;
+    whole_books(w->from, books, files);
+    r->whole = (finding){.text = named_by(&r->answer, books, files), .score = r->answer.score};
+    add_records(w, &r->answer, 0, &r->ranges);
+    find_lines(w, text);
+    r->whole.after = (uint32_t)w->lines;
+    if (w->from->with.thorough) look_further(w, r);
+    look_for_others(w, r);
+    count_unheld(w, r);
+    if (r->further.count) qsort(r->further.at, r->further.count, sizeof *r->further.at, by_line);
 }
 
-static chultarvi_note_scanned scan_elimination(const scanner *s, size_t len) {
-    const settings *w = &s->with;
-    const memory *m = &s->lent;
-    const lent_book *one = s->books, *two = s->books + 1;
-    size_t room = chultarvi_elimination_results(w->optimize, w->passes);
-    if (w->beside)
-        return chultarvi_eliminate_both(m->text, len, one->bytes, one->len, two->bytes, two->len, w->threshold, w->shallow, w->optimize, w->passes,
-                                        w->budget, m->area, lent_bytes(len), m->words, lent_words(len), s->results, room);
-    return chultarvi_eliminate(m->text, len, one->bytes, one->len, w->threshold, w->shallow, w->optimize, w->passes, w->budget, m->area,
-                               lent_bytes(len), m->words, lent_words(len), s->results, room);
+/* The note into the text that is lent; with --ascii by way of `raw`. A note over the limit stays as it is, to be refused by its length. */
+static const char *read_text(worker *w, const char *file, report *r) {
+    bool ascii = w->from->with.ascii;
+    const char *why = read_note(file, ascii ? w->raw : w->lent.text, CHULTARVI_TEXT_MOST, &r->len);
+    if (why || !ascii) return why;
+    if (r->len > CHULTARVI_TEXT_MOST) memcpy(w->lent.text, w->raw, r->len);
+    else r->changed = to_ascii(w->raw, r->len, w->lent.text, CHULTARVI_TEXT_MOST + 1, &r->len);
+    return 0;
 }
 
-static int scan_note(const scanner *s, const char *file) {
-    size_t len;
-    const char *why = read_file(file, s->lent.text, CHULTARVI_TEXT_MOST, &len);
-    chultarvi_note_scanned answer = {0};
-    if (!why) answer = s->with.down ? scan_down(s, len) : scan_elimination(s, len);
-    if (s->watched) fputs("\r\033[K", stderr);
+static int scan_note(worker *w, size_t index, FILE *out, FILE *err) {
+    const char *file = all_notes.at[index];
+    report r = {.file = file, .text = w->lent.text, .from = w->from};
+    const char *why = read_text(w, file, &r);
     if (why) {
-        report_trouble(file, why, s->with.json);
+        report_trouble(file, why, w->from->with.json, out, err);
         return TROUBLE;
     }
-    report r = {file, s->lent.text, len, &s->with, s->books, answer, s->results, s->stored, s->stored_count};
-    report_note(&r);
-    return answer.refusal ? REFUSED : DONE;
+    scan_text(w, &r);
+    report_note(&r, out, err);
+    free(r.ranges.at);
+    free(r.further.at);
+    return r.answer.refusal || r.stopped ? REFUSED : DONE;
 }
 
-static void show_progress(int at, int count, const char *file) {
-    fprintf(stderr, "\r\033[K%d of %d: ", at + 1, count);
-    put_plain(stderr, file);
-    fflush(stderr);
+/* One line, no wider than the terminal, and cut between characters. */
+static void show_progress(size_t index) {
+    fputs("\r\033[K", stderr);
+    if (index == all_notes.count) return;
+    struct winsize size;
+    size_t width = ioctl(STDERR_FILENO, TIOCGWINSZ, &size) == 0 && size.ws_col ? size.ws_col : 80;
+    char *line = 0;
+    size_t len = 0;
+    FILE *to = open_memstream(&line, &len);
+    if (!to) return;
+    fprintf(to, "%zu of %zu: ", index + 1, all_notes.count);
+    put_plain(to, all_notes.at[index]);
+    if (fclose(to) == 0) {
+        /* bytes that go on with a character take no column */
+        size_t at = 0;
+        for (size_t columns = 0; at < len; at++) if ((line[at] & 0xc0) != 0x80 && ++columns >= width) break;
+        fwrite(line, 1, at, stderr);
+        fflush(stderr);
+    }
+    free(line);
+}
+
+/* Progress is only for a person who waits, at a terminal that can take a line back. */
+static bool is_watched(void) {
+    const char *term = getenv("TERM");
+    return all_notes.count > 1 && isatty(STDERR_FILENO) && term && *term && strcmp(term, "dumb") != 0;
 }
 
 static bool open_book(lent_book *b, const char *file) {
@@ -174,13 +218,10 @@ static bool open_book(lent_book *b, const char *file) {
     return true;
 }
 
-static bool open_scanner(scanner *s) {
+static bool open_shelf(shelf *s) {
     const char *beside = s->with.beside;
     size_t books = beside ? 2 : 1;
     if (!open_book(s->books, s->with.book) || (beside && !open_book(s->books + 1, beside))) return false;
-    s->lent = take_memory();
-    /* top-down at most 4 for each line; elimination at most 4 * 65,535, which is less */
-    s->results = take(chultarvi_top_down_results(CHULTARVI_LINES_MOST) * sizeof *s->results);
     s->stored = take(books * CHULTARVI_STORED_MOST * sizeof *s->stored);
     /* an unsound book is refused with each note, by the library's number; its records are not to be walked */
     for (size_t i = 0; i < books; i++)
@@ -188,36 +229,69 @@ static bool open_scanner(scanner *s) {
     return true;
 }
 
-static void close_scanner(scanner *s) {
+static void close_shelf(shelf *s) {
     free(s->books[0].bytes);
     free(s->books[1].bytes);
-    free(s->lent.text);
-    free(s->lent.area);
-    free(s->lent.words);
-    free(s->results);
     free(s->stored);
 }
 
+static void open_worker(worker *w, const shelf *s) {
+    *w = (worker){.from = s, .lent = take_memory()};
+    if (s->with.ascii) w->raw = take(CHULTARVI_TEXT_MOST + 1);
+    w->blanked = take(CHULTARVI_TEXT_MOST);
+    /* top-down at most 4 for each line; elimination at most 4 * 65,535, which is less */
+    w->results = take(chultarvi_top_down_results(CHULTARVI_LINES_MOST) * sizeof *w->results);
+    w->starts = take((CHULTARVI_LINES_MOST + 1) * sizeof *w->starts);
+    w->held = take(CHULTARVI_LINES_MOST * sizeof *w->held);
+    if (!s->with.thorough) return;
+    w->seen = take(CHULTARVI_LINES_MOST * sizeof *w->seen);
+    w->best = take(CHULTARVI_LINES_MOST * sizeof *w->best);
+}
+
+static void close_worker(worker *w) {
+    free(w->lent.text);
+    free(w->lent.area);
+    free(w->lent.words);
+    free(w->raw);
+    free(w->blanked);
+    free(w->results);
+    free(w->starts);
+    free(w->held);
+    free(w->seen);
+    free(w->best);
+}
+
+static int scan_all(const shelf *s) {
+    size_t jobs = s->with.jobs < all_notes.count ? s->with.jobs : all_notes.count;
+    if (jobs == 0) return DONE;
+    worker *workers = take(jobs * sizeof *workers);
+    for (size_t i = 0; i < jobs; i++) open_worker(workers + i, s);
+    int status = do_in_row(workers, jobs, all_notes.count, scan_note, is_watched() ? show_progress : 0);
+    for (size_t i = 0; i < jobs; i++) close_worker(workers + i);
+    free(workers);
+    return status;
+}
+
+static int scan_names(shelf *s, char **names, size_t count) {
+    if (!open_shelf(s)) return TROUBLE;
+    for (size_t i = 0; i < count; i++) add_word(&all_notes, names[i], &s->with);
+    int status = scan_all(s);
+    for (size_t i = 0; i < all_notes.folder_count; i++) report_folder(all_notes.folders + i, s->with.json);
+    if (all_notes.status > status) status = all_notes.status;
+    free_notes(&all_notes);
+    return status;
+}
+
 int run_scan(int count, char **words) {
-    scanner s = {.with = {.threshold = 0.9f, .shallow = 0.99f, .optimize = true, .passes = 10, .budget = UINT64_MAX}};
-    if (!read_words(count, words, &s.with)) return TROUBLE;
-    if (optind == count) {
-        say("scan wants a book and at least one note; chultarvi --help tells more");
-        return TROUBLE;
+    shelf s = {.with = {.threshold = 0.9f, .shallow = 0.99f, .optimize = true, .passes = 10, .budget = UINT64_MAX, .jobs = 1}};
+    char **names = take((size_t)count * sizeof *names);
+    size_t name_count = 0;
+    int status;
+    if (read_words(count, words, &s.with, names, &name_count, &status)) {
+        if (name_count > 0) status = scan_names(&s, names, name_count);
+        else say("scan wants a book and at least one note; chultarvi scan --help tells more");
+        close_shelf(&s);
     }
-    char **notes = words + optind;
-    int many = count - optind, status = DONE;
-    /* progress only for a person who waits */
-    s.watched = many > 1 && isatty(STDERR_FILENO);
-    if (!open_scanner(&s)) status = TROUBLE;
-    else
-        for (int i = 0; i < many; i++) {
-            if (s.watched) show_progress(i, many, notes[i]);
-            int one = scan_note(&s, notes[i]);
-            if (one > status) status = one;
-            /* each answer is seen when it is there; when none can be written any more, the rest is not worth its time */
-            if (fflush(stdout) != 0) break;
-        }
-    close_scanner(&s);
+    free(names);
     return status;
 }

@@ -1,0 +1,80 @@
+/* The calls of the library that the subcommand scan makes, over a whole note or over lines of it, against whole books or parts of them. A part of a
+   sound book that begins and ends between licences is a sound book. Each call is lent only what its text needs, since the library clears it. */
+#include "scan.h"
+#include <stdlib.h>
+#include <string.h>
+
+chultarvi_note_scanned eliminate_part(const worker *w, part text, const part books[2], float threshold, bool optimize, uint64_t budget) {
+    const settings *s = &w->from->with;
+    const memory *m = &w->lent;
+    return chultarvi_eliminate_both(text.bytes, text.len, books[0].bytes, books[0].len, books[1].bytes, books[1].len, threshold, s->shallow, optimize,
+                                    s->passes, budget, m->area, lent_bytes(text.len), m->words, lent_words(text.len), w->results,
+                                    chultarvi_elimination_results(optimize, s->passes));
+}
+
+void whole_books(const shelf *s, part books[2], const char *files[2]) {
+    for (int i = 0; i < 2; i++) {
+        books[i] = (part){s->books[i].bytes, s->books[i].len};
+        files[i] = s->books[i].file;
+    }
+}
+
+static size_t count_lines(part text) {
+    size_t lines = 1;
+    for (size_t i = 0; i < text.len; i++) lines += text.bytes[i] == '\n';
+    return lines < CHULTARVI_LINES_MOST ? lines : CHULTARVI_LINES_MOST;
+}
+
+chultarvi_note_scanned scan_whole(const worker *w, part text) {
+    const settings *s = &w->from->with;
+    const memory *m = &w->lent;
+    part books[2];
+    const char *files[2];
+    whole_books(w->from, books, files);
+    if (!s->down) return eliminate_part(w, text, books, s->threshold, s->optimize, s->budget);
+    return chultarvi_top_down_both(text.bytes, text.len, books[0].bytes, books[0].len, books[1].bytes, books[1].len, s->threshold, s->shallow,
+                                   s->step, s->budget, m->area, lent_bytes(text.len), m->words, lent_words(text.len), w->results,
+                                   chultarvi_top_down_results(count_lines(text)));
+}
+
+stored_text named_by(const chultarvi_note_scanned *a, const part books[2], const char *const files[2]) {
+    if (!a->kind) return (stored_text){0};
+    const char *name = (const char *)chultarvi_name(books[0].bytes, books[1].bytes, a);
+    return (stored_text){name, files[a->second], a->len, a->kind};
+}
+
+finding *add_finding(findings *to, finding f) {
+    if (to->count == to->room) {
+        to->room = 2 * to->room + 8;
+        to->at = realloc(to->at, to->room * sizeof *to->at);
+        if (!to->at) {
+            say("no memory for %zu findings", to->room);
+            exit(TROUBLE);
+        }
+    }
+    to->at[to->count] = f;
+    return to->at + to->count++;
+}
+
+void add_records(const worker *w, const chultarvi_note_scanned *a, uint32_t first, findings *to) {
+    for (uint32_t k = 0; k < a->records; k++) {
+        const uint32_t *record = w->results + CHULTARVI_RECORD_WIDTH * (size_t)k;
+        finding f = {.text = w->from->stored[record[0]], .number = record[0], .first = first + record[1], .after = first + record[2]};
+        memcpy(&f.score, record + 3, sizeof f.score);
+        add_finding(to, f);
+    }
+}
+
+uint64_t left_of(const report *r) { return r->from->with.budget - r->answer.count - r->more; }
+
+void find_lines(worker *w, part text) {
+    w->lines = 0;
+    w->starts[w->lines++] = 0;
+    for (size_t i = 0; i < text.len; i++) if (text.bytes[i] == '\n') w->starts[w->lines++] = (uint32_t)i + 1;
+    w->starts[w->lines] = (uint32_t)text.len + 1;
+}
+
+part lines_part(const worker *w, part text, uint32_t first, uint32_t after) {
+    if (first >= after) return (part){text.bytes, 0};
+    return (part){text.bytes + w->starts[first], w->starts[after] - 1 - w->starts[first]};
+}

@@ -1,0 +1,126 @@
+/* What the files of the subcommand scan share: its settings, its books, a note with all that was found in it, and the memory of one worker.
+   scan.c reads the words and goes through the notes, walk.c finds them in folders, row.c keeps their answers in order, calls.c calls the library,
+   further.c looks for licences that the scan left unread, doubt.c for a licence that scores as high, report.c says it all. */
+#ifndef SCAN_H
+#define SCAN_H
+
+#include "host.h"
+
+/* beside: the file of the second book; null where the scan has one. */
+typedef struct {
+    const char *book, *beside;
+    float threshold, shallow;
+    bool optimize, down, json, thorough, second, ascii, recursive;
+    uint16_t passes;
+    uint64_t step, budget;
+    size_t jobs;
+} settings;
+
+/* The books of a scan with their stored texts, by number. Nothing here changes while notes are scanned, so all workers read it at once. */
+typedef struct {
+    settings with;
+    lent_book books[2];
+    stored_text *stored;
+    size_t stored_count;
+} shelf;
+
+/* A licence that was found, in the whole note or in the lines from `first` up to, and without, `after`. No name: none was found.
+   other: the best of the other licences on the same lines, with its score; `looked` is false where the budget did not pay for the look. */
+typedef struct {
+    stored_text text;
+    uint32_t number, first, after;
+    float score;
+    stored_text other;
+    float other_score;
+    bool looked;
+} finding;
+typedef struct { finding *at; size_t count, room; } findings;
+finding *add_finding(findings *to, finding f);
+
+/* All that there is to say of one note. The further scans made `more` scorings; `stopped` says that the budget ended them.
+   unheld: lines with words that neither a range nor a further finding holds. */
+typedef struct {
+    const char *file;
+    const uint8_t *text;
+    size_t len, changed;
+    const shelf *from;
+    chultarvi_note_scanned answer;
+    finding whole;
+    findings ranges, further;
+    uint64_t more;
+    bool stopped;
+    size_t unheld;
+} report;
+
+/* Bytes of a text or of a book. */
+typedef struct { const uint8_t *bytes; size_t len; } part;
+
+/* One worker's memory, taken once. `raw` is for the note as it was read, where --ascii changes it; `blanked` for the note without what was found
+   (doubt.c); what is by lines, for further.c. */
+typedef struct {
+    const shelf *from;
+    memory lent;
+    uint8_t *raw, *blanked;
+    uint32_t *results;
+    uint32_t *starts, *seen;
+    float *best;
+    bool *held;
+    size_t lines;
+} worker;
+
+/* calls.c */
+
+/* Scans a text against two books, of which either may be empty; the same as against one alone where it is. */
+chultarvi_note_scanned eliminate_part(const worker *w, part text, const part books[2], float threshold, bool optimize, uint64_t budget);
+chultarvi_note_scanned scan_whole(const worker *w, part text);
+/* The licence that an answer names, as if it were stored; `books` are those that were lent, `files` theirs. All is null where none is named. */
+stored_text named_by(const chultarvi_note_scanned *a, const part books[2], const char *const files[2]);
+/* Both books whole, and their files. */
+void whole_books(const shelf *s, part books[2], const char *files[2]);
+/* Adds what the answer recorded, its lines counted on from `first`. */
+void add_records(const worker *w, const chultarvi_note_scanned *a, uint32_t first, findings *to);
+/* What is left of the budget. */
+uint64_t left_of(const report *r);
+/* Where each line starts, and one past the end of the last; the text is no longer than a text may be. */
+void find_lines(worker *w, part text);
+part lines_part(const worker *w, part text, uint32_t first, uint32_t after);
+
+/* further.c */
+void look_further(worker *w, report *r);
+/* Marks what ranges hold, and counts the lines with words that none holds. */
+void count_unheld(worker *w, report *r);
+
+/* doubt.c */
+void look_for_others(worker *w, report *r);
+/* Does another licence score as high on the same lines, or higher? */
+bool has_rival(const finding *f);
+
+/* ascii.c */
+
+/* Writes a text as ASCII: what has a like in ASCII as that, the rest not at all. Lines stay. Gives how many characters it changed; `len` is the
+   length written, at most `most`, and where that is too little, most. */
+size_t to_ascii(const uint8_t *from, size_t from_len, uint8_t *to, size_t most, size_t *len);
+
+/* walk.c */
+
+/* The notes to scan. A folder's are those of its files; of what it skips there is a count. */
+enum { SKIPPED_LARGE, SKIPPED_ODD, SKIPPED_LINKS, SKIPPED_GIT, SKIPPED_KINDS };
+typedef struct { const char *folder; size_t notes, skipped[SKIPPED_KINDS]; } walked;
+typedef struct { char **at; size_t count, room; walked *folders; size_t folder_count; int status; } notes;
+/* Adds a word of the command line: itself, or where it is a folder and folders are walked, the notes in it. */
+void add_word(notes *to, char *word, const settings *s);
+void free_notes(notes *n);
+
+/* row.c */
+
+/* Does all of `count` tasks by workers, as many as `jobs`, and writes what each says in their order: to standard output and standard error.
+   Gives the worst status of all. `progress`, where there is one, shows which task is waited for, and with the number `count` nothing. */
+typedef int task(worker *w, size_t index, FILE *out, FILE *err);
+int do_in_row(worker *workers, size_t jobs, size_t count, task *do_one, void (*progress)(size_t index));
+
+/* report.c */
+void report_note(const report *r, FILE *out, FILE *err);
+void report_trouble(const char *file, const char *why, bool json, FILE *out, FILE *err);
+void report_folder(const walked *f, bool json);
+
+#endif
