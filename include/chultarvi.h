@@ -1,5 +1,9 @@
-/* Chultarvi for C and C++: a licence-note scanner whose every answer is proved. Link target/staticlib/libchultarvi.a (x86-64, made by
-   `rt staticlib chultarvi`). host/cli/memory.c and host/cli/scan.c are callers to copy from; host/tests/face.c calls everything here.
+/* Chultarvi for C and C++: a licence-note scanner whose every answer is proved. examples/embed.c is a whole caller to copy; host/cli/ is a larger one,
+   and host/tests/face.c calls everything here. host/install.sh puts header, archive, pkg-config file and CMake config in place.
+
+   Platform. libchultarvi.a is code for x86-64 in ELF, by the System V calling convention (Linux, the BSDs; not Windows). It needs no library and calls
+   nothing back. It has no unwind tables: a debugger or profiler cannot walk the stack through it, and since it calls nothing, nothing is thrown through
+   it. Floating point must round to nearest, as it does when a program starts. A call takes less than 8 KiB of stack.
 
    Arguments. A slice is two arguments, a pointer and a count of elements (not bytes: for uint32_t one element is four bytes). A pointer may
    be null only where its count is 0; that is an empty slice. Pointers to uint32_t are aligned as C has it.
@@ -9,16 +13,31 @@
    books. Texts and books are only read, and may be the same. Calls keep no state, so several threads may call at once, each with areas of its
    own. The time of a call grows with the areas lent, since they are cleared: lend no more than the text needs.
 
-   Answers. `refusal` is 0, or the first of these numbers that applies, in this order:
-     1 text over 1,048,576 bytes    2 a byte of 128 or more         3 over 65,536 lines          4 unsound book
-     5 no stored text               6 a limit not from 0.0 to 1.0   7 top-down step 0            8 view out of range
-     9 stored number N or more     10 a lent area too small        11 output too short          12 stopped by the budget
-   With a refusal from 1 to 11 all else in the answer is 0. With 12 the answer holds what the scan had until it stopped.
+   Answers. `refusal` is 0, or the first number of `enum chultarvi_refusal` that applies, in its order. With a refusal from 1 to 11 all else in the
+   answer is 0. With 12 the answer holds what the scan had until it stopped.
    After 1 to 10 no lent area has changed. After 0, 11 and 12 every element of area and words is 0, also those beyond what the text needs;
    out and results have changed only where the answer says that something was written (with 11: nowhere).
 
    Lines count from 0, and a text has one line more than it has newline bytes, so an empty text has one. A range of lines is its first line
-   and the line after its last; where both are equal it is empty. Scores are IEEE 754 binary32, rounded to nearest as C does from the start. */
+   and the line after its last; where both are equal it is empty. Scores are IEEE 754 binary32.
+
+   A book. Records, one behind the other, fill it; numbers are little-endian.
+     record   u32 length of the body, u16 kind, the body
+     kind 1   a licence's name: 1 to 64 bytes from 33 to 126. Names strictly rise by their bytes
+     kind 2   its original, a table: one, right behind the name
+     kind 3   its alternates, each a table, any number
+     kind 4   its headers, each a table, any number
+     kind 5   its aliases, each like a name, any number; no scan reads them
+     table    u32 total, u32 distinct, the entries, which fill it: distinct is how many, total the sum of their counts, at most 8,388,608
+     entry    u32 count, from 1 on, u32 length, the bytes: two words of a-z, 0-9 and _ with one space between. Entries strictly rise by their bytes
+   Stored texts are the records of kinds 2 to 4, numbered from 0 as they stand. chultarvi_compile makes tables; `chultarvi book` makes books.
+
+   Time, on the machine of docs/SPEED.md. A call first checks its books: some 2 ns for each byte of them. The first scoring of some lines sorts them:
+   at most 60 ns for each of their bytes. Against further stored texts the same lines are scored in 1 to 80 us each. Elimination scores the whole text
+   against all N stored texts. With optimize each pass does so again, and searches bounds: up to 55 scorings of other lines each.
+   The budget. Without optimize a scan makes N scorings, so a budget of N stops none. To save a document in t milliseconds, the check aside, lend a note
+   of n bytes a budget of N + 16,000 * t / n: the answer for the whole text is always there then, and 12 says that ranges may be missing. Scan the note
+   again later, with UINT64_MAX. */
 #ifndef CHULTARVI_H
 #define CHULTARVI_H
 
@@ -30,14 +49,65 @@
 extern "C" {
 #endif
 
+#define CHULTARVI_VERSION "0.2.0"
+#define CHULTARVI_VERSION_MAJOR 0
+#define CHULTARVI_VERSION_MINOR 2
+#define CHULTARVI_VERSION_PATCH 0
+
 #define CHULTARVI_TEXT_MOST 1048576u   /* bytes of a text */
 #define CHULTARVI_LINES_MOST 65536u    /* lines of a text */
 #define CHULTARVI_BOOK_MOST 16777216u  /* bytes of a book */
 #define CHULTARVI_STORED_MOST 1024u    /* stored texts of a book */
 #define CHULTARVI_NAME_MOST 64u        /* bytes of a name */
 #define CHULTARVI_RECORD_WIDTH 4u      /* numbers of a record in the results */
+#define CHULTARVI_RECORD_HEAD 6u       /* bytes of a book's record before its body */
 
-enum { CHULTARVI_NONE = 0, CHULTARVI_ORIGINAL = 2, CHULTARVI_ALTERNATE = 3, CHULTARVI_HEADER = 4 };
+/* Kinds of a book's records. An answer names CHULTARVI_NONE or that of a stored text: CHULTARVI_ORIGINAL, _ALTERNATE, _HEADER. */
+enum {
+    CHULTARVI_NONE = 0,
+    CHULTARVI_LICENCE_NAME = 1,
+    CHULTARVI_ORIGINAL = 2,
+    CHULTARVI_ALTERNATE = 3,
+    CHULTARVI_HEADER = 4,
+    CHULTARVI_ALIAS = 5
+};
+
+enum chultarvi_refusal {
+    CHULTARVI_ANSWERED = 0,
+    CHULTARVI_REFUSED_TEXT_LONG = 1,
+    CHULTARVI_REFUSED_TEXT_NOT_ASCII = 2, /* a byte of 128 or more */
+    CHULTARVI_REFUSED_LINES_MANY = 3,
+    CHULTARVI_REFUSED_BOOK_UNSOUND = 4,
+    CHULTARVI_REFUSED_BOOK_EMPTY = 5,
+    CHULTARVI_REFUSED_LIMIT = 6,
+    CHULTARVI_REFUSED_STEP_ZERO = 7,
+    CHULTARVI_REFUSED_VIEW = 8,
+    CHULTARVI_REFUSED_NUMBER = 9, /* a stored number of N or more */
+    CHULTARVI_REFUSED_AREA_SMALL = 10,
+    CHULTARVI_REFUSED_OUTPUT_SHORT = 11,
+    CHULTARVI_STOPPED_BY_BUDGET = 12
+};
+
+/* A refusal in words, in English, for people; "unknown" for a number that is none. Never null. */
+static inline const char *chultarvi_refusal_text(uint32_t refusal)
+{
+    static const char *const words[] = {
+        "none",
+        "the text is over 1,048,576 bytes",
+        "the text is not ASCII",
+        "the text is over 65,536 lines",
+        "the book is not sound",
+        "the book has no stored text",
+        "the threshold or the shallow limit is not from 0.0 to 1.0",
+        "the top-down step is 0",
+        "the view is out of the text's range",
+        "the book has no stored text of this number",
+        "a lent area is too small",
+        "the output is shorter than the table",
+        "stopped by the budget",
+    };
+    return refusal < sizeof words / sizeof *words ? words[refusal] : "unknown";
+}
 
 /* How much to lend, in elements. `area` and `words`, for a text of n bytes; areas for CHULTARVI_TEXT_MOST serve every text, since a longer one is
    refused by its length. `out`, for the table of a text of n bytes: more is never needed (proved: compiled-fits, crates/compile/proofs). `results`,

@@ -1,15 +1,35 @@
-/* The subcommand book: a book from a list of lines `NAME KIND FILE`. The list is sorted by name and kind and refused as a whole where it cannot
-   give a sound book; texts are compiled into memory, the book is checked, and only then does it take its place. */
+/* The subcommand book: a book from a list of lines `NAME KIND FILE`. All that is wrong with the list and its files is said in one run, each with its
+   line. Texts are compiled into memory in the order of names and kinds, the book is checked, and only then does it take its place. */
 #include "host.h"
+#include "../records.h"
 #include <inttypes.h>
 #include <stdlib.h>
 #include <string.h>
 
 enum { LIST_MOST = 4194304 };
 
-/* One line of the list; `file` is the alias itself where the kind is alias. */
-typedef struct { const char *name, *file; uint32_t kind; size_t line; } entry;
-typedef struct { entry *at; size_t count; const char *list; } entries;
+/* One line of the list. file: the alias itself where the kind is alias. table, len: a text's table in the book, once it is compiled. */
+typedef struct { const char *name, *file; const uint8_t *table; size_t len, line; uint32_t kind; } entry;
+/* status: the worst that was met so far. */
+typedef struct { entry *at; size_t count; const char *list; int status; } entries;
+
+/* The line is refused. */
+static void refuse(entries *all, const entry *e, const char *why) {
+    say_of(all->list, "line %zu: %s", e->line, why);
+    if (all->status < REFUSED) all->status = REFUSED;
+}
+
+/* The same for the file that the line names. */
+static void refuse_file(entries *all, const entry *e, int status, const char *why) {
+    fputs("chultarvi: ", stderr);
+    put_plain(stderr, all->list);
+    fprintf(stderr, ": line %zu: ", e->line);
+    put_plain(stderr, e->file);
+    fprintf(stderr, ": %s\n", why);
+    if (all->status < status) all->status = status;
+}
+
+/* ---- the list */
 
 static bool is_name(const char *s) {
     size_t len = strlen(s);
@@ -30,137 +50,203 @@ static char *cut(char *p) {
     return p + strspn(p, " \t");
 }
 
-static bool read_entry(entry *e, char *text, const char *list, size_t line) {
-    char *kind = cut(text), *file = cut(kind);
-    *e = (entry){text, file, kind_of(kind), line};
-    const char *wrong = 0;
-    if (!is_name(text)) wrong = "the name is not 1 to 64 bytes of 33 to 126";
-    else if (!e->kind) wrong = "the kind is not original, alternate, header or alias";
-    else if (*file == 0) wrong = e->kind == KIND_ALIAS ? "no alias" : "no file";
-    else if (e->kind == KIND_ALIAS && !is_name(file)) wrong = "the alias is not 1 to 64 bytes of 33 to 126";
-    if (wrong) say_of(list, "line %zu: %s; a line is NAME KIND FILE", line, wrong);
-    return !wrong;
+/* Null, or what is wrong with the entry. */
+static const char *wrong_entry(const entry *e) {
+    if (!is_name(e->name)) return "the name is not 1 to 64 bytes of 33 to 126; a line is NAME KIND FILE";
+    if (!e->kind) return "the kind is not original, alternate, header or alias; a line is NAME KIND FILE";
+    if (e->kind != KIND_ALIAS) return *e->file ? 0 : "no file; a line is NAME KIND FILE";
+    if (*e->file == 0) return "no alias; a line is NAME alias ALIAS";
+    return is_name(e->file) ? 0 : "the alias is not 1 to 64 bytes of 33 to 126";
 }
 
 /* An empty line and one that begins with `# ` say nothing. (`#` alone begins no comment: `#1` is a name.) */
 static bool is_comment(const char *line) { return *line == 0 || strcmp(line, "#") == 0 || strncmp(line, "# ", 2) == 0; }
 
-static bool read_entries(entries *all, char *text) {
-    bool good = true;
+/* Cuts the line at p off the next one, whose beginning it gives; null behind the last. A line may end with CR LF. */
+static char *cut_line(char *p) {
+    char *next = strchr(p, '\n'), *end = next ? next : p + strlen(p);
+    if (next) *next++ = 0;
+    if (end > p && end[-1] == '\r') end[-1] = 0;
+    return next;
+}
+
+/* A line that is wrong is said and left out. */
+static void read_entries(entries *all, char *text) {
     size_t line = 1;
     for (char *p = text, *next; p; p = next, line++) {
-        next = strchr(p, '\n');
-        if (next) *next++ = 0;
+        next = cut_line(p);
         if (is_comment(p)) continue;
-        good = read_entry(all->at + all->count++, p, all->list, line) && good;
+        char *kind = cut(p), *file = cut(kind);
+        entry e = {.name = p, .file = file, .line = line, .kind = kind_of(kind)};
+        const char *wrong = wrong_entry(&e);
+        if (wrong) refuse(all, &e, wrong);
+        else all->at[all->count++] = e;
     }
-    return good;
 }
 
-/* By name and kind, as a book's records stand; then aliases by their bytes, and texts as the list has them. */
-static int order(const void *a, const void *b) {
-    const entry *x = a, *y = b;
+static bool same_name(const entry *x, const entry *y) { return strcmp(x->name, y->name) == 0; }
+static int by_number(size_t x, size_t y) { return x < y ? -1 : x > y; }
+static int by_name_and_kind(const entry *x, const entry *y) {
     int by_name = strcmp(x->name, y->name);
-    if (by_name) return by_name;
-    if (x->kind != y->kind) return x->kind < y->kind ? -1 : 1;
-    int by_alias = x->kind == KIND_ALIAS ? strcmp(x->file, y->file) : 0;
-    if (by_alias) return by_alias;
-    return x->line < y->line ? -1 : x->line > y->line;
+    return by_name ? by_name : by_number(x->kind, y->kind);
 }
 
-static bool same_name(const entries *all, size_t i, size_t k) { return strcmp(all->at[i].name, all->at[k].name) == 0; }
-
-/* Does the same file stand earlier for the same kind of the same name? Aliases are sorted, so of them the last one tells; there may be many. */
-static bool is_double(const entries *all, size_t i) {
-    const entry *e = all->at + i;
-    for (size_t k = i; k-- > 0 && same_name(all, k, i) && all->at[k].kind == e->kind;) {
-        if (strcmp(all->at[k].file, e->file) == 0) return true;
-        if (e->kind == KIND_ALIAS) return false;
-    }
-    return false;
+/* As a book's records stand; then aliases by their bytes, and texts as the list has them. */
+static int book_order(const void *a, const void *b) {
+    const entry *x = a, *y = b;
+    int order = by_name_and_kind(x, y);
+    if (!order && x->kind == KIND_ALIAS) order = strcmp(x->file, y->file);
+    return order ? order : by_number(x->line, y->line);
 }
 
-static bool refuse_many(const entries *all) {
+/* So that those with the same name, kind and file stand side by side. */
+static int file_order(const void *a, const void *b) {
+    const entry *x = a, *y = b;
+    int order = by_name_and_kind(x, y);
+    if (!order) order = strcmp(x->file, y->file);
+    return order ? order : by_number(x->line, y->line);
+}
+
+/* The line is that of the first text too many. */
+static bool are_many(entries *all) {
     size_t texts = 0;
-    for (size_t i = 0; i < all->count; i++) texts += all->at[i].kind != KIND_ALIAS;
-    if (texts > CHULTARVI_STORED_MOST) say_of(all->list, "%zu texts; a book has at most 1,024", texts);
-    return texts <= CHULTARVI_STORED_MOST;
+    const entry *over = 0;
+    for (const entry *e = all->at; e < all->at + all->count; e++) {
+        texts += is_stored(e->kind);
+        if (texts > CHULTARVI_STORED_MOST && !over) over = e;
+    }
+    if (!over) return false;
+    char why[MESSAGE_MOST];
+    snprintf(why, sizeof why, "%zu texts; a book has at most 1,024, so make two of the list", texts);
+    refuse(all, over, why);
+    return true;
 }
 
-static bool refuse_doubles(const entries *all) {
-    bool good = true;
+static void refuse_named(entries *all, const entry *e, const char *why) {
+    char words[MESSAGE_MOST];
+    snprintf(words, sizeof words, "%s %s", e->name, why);
+    refuse(all, e, words);
+}
+
+/* Two equal originals are two originals, which are refused anyhow. */
+static void refuse_doubles(entries *all) {
+    qsort(all->at, all->count, sizeof *all->at, file_order);
+    for (size_t i = 1; i < all->count; i++) {
+        const entry *e = all->at + i;
+        if (e->kind != CHULTARVI_ORIGINAL && by_name_and_kind(e - 1, e) == 0 && strcmp(e[-1].file, e->file) == 0)
+            refuse_named(all, e, "stands twice with the same kind and file");
+    }
+}
+
+/* The list is in the order of the book. */
+static void refuse_originals(entries *all) {
     for (size_t i = 0; i < all->count; i++) {
         const entry *e = all->at + i;
-        bool first = i == 0 || !same_name(all, i - 1, i);
-        const char *wrong = 0;
-        if (first && e->kind != CHULTARVI_ORIGINAL) wrong = "has no original";
-        else if (!first && e->kind == CHULTARVI_ORIGINAL) wrong = "has two originals";
-        else if (is_double(all, i)) wrong = "stands twice with the same kind and file";
-        if (!wrong) continue;
-        say_of(all->list, "line %zu: %s %s", e->line, e->name, wrong);
-        good = false;
+        bool first = i == 0 || !same_name(e - 1, e), original = e->kind == CHULTARVI_ORIGINAL;
+        if (first && !original) refuse_named(all, e, "has no original");
+        if (!first && original) refuse_named(all, e, "has two originals");
     }
-    return good;
 }
 
-typedef struct { uint8_t *bytes; size_t len; } book;
+/* ---- the book */
 
-static int no_room(const char *list) {
-    say_of(list, "the book would be over 16,777,216 bytes");
-    return REFUSED;
+typedef struct { uint8_t *bytes; size_t len; bool over; } book;
+
+/* Said once. Nothing of the book will stand, so its room serves to look at the files that are left. */
+static void no_room(book *b, const entry *e, entries *all) {
+    if (!b->over) refuse(all, e, "with this the book would be over 16,777,216 bytes; make two of the list");
+    b->over = true;
+    b->len = 0;
 }
 
-static void put_head(book *b, uint32_t kind, size_t len) {
-    for (int i = 0; i < 4; i++) b->bytes[b->len++] = (uint8_t)(len >> 8 * i);
-    b->bytes[b->len++] = (uint8_t)kind;
-    b->bytes[b->len++] = 0;
-}
+static bool has_room(const book *b, size_t len) { return CHULTARVI_BOOK_MOST - b->len >= RECORD_HEAD + len; }
 
-static int put_word(book *b, uint32_t kind, const char *word, const char *list) {
+static void put_word(book *b, uint32_t kind, const char *word, const entry *e, entries *all) {
     size_t len = strlen(word);
-    if (CHULTARVI_BOOK_MOST - b->len < RECORD_HEAD + len) return no_room(list);
-    put_head(b, kind, len);
-    memcpy(b->bytes + b->len, word, len);
-    b->len += len;
-    return DONE;
+    if (!has_room(b, len)) no_room(b, e, all);
+    b->len = (size_t)(put_record(b->bytes + b->len, kind, word, len) - b->bytes);
 }
 
-static int put_text(book *b, const entry *e, const memory *m, const char *list) {
+/* Compiles the text that stands in the memory, right into its place. */
+static void put_text(book *b, entry *e, const memory *m, size_t len, entries *all) {
+    if (!has_room(b, 0)) no_room(b, e, all);
+    uint8_t *body = b->bytes + b->len + RECORD_HEAD;
+    chultarvi_text_compiled c = compile_text(m, len, body, CHULTARVI_BOOK_MOST - b->len - RECORD_HEAD);
+    if (c.refusal == CHULTARVI_REFUSED_OUTPUT_SHORT) {
+        no_room(b, e, all);
+    } else if (c.refusal) {
+        char why[MESSAGE_MOST];
+        refusal_message(why, c.refusal, m->text, len);
+        refuse_file(all, e, REFUSED, why);
+    } else {
+        if (get_number(body) == 0) refuse_file(all, e, DONE, "warning: no bigrams, so no note is like it; is this the right file?");
+        e->table = body;
+        e->len = c.len;
+        b->len = (size_t)(put_record(b->bytes + b->len, e->kind, body, c.len) - b->bytes);
+    }
+}
+
+static void read_text(book *b, entry *e, const memory *m, entries *all) {
     size_t len;
-    const char *why = read_file(e->file, m->text, CHULTARVI_TEXT_MOST, &len);
-    if (why) {
-        say_of(e->file, "cannot be read: %s", why);
-        return TROUBLE;
+    const char *reason = read_file(e->file, m->text, CHULTARVI_TEXT_MOST, &len);
+    if (!reason) {
+        put_text(b, e, m, len, all);
+        return;
     }
-    if (CHULTARVI_BOOK_MOST - b->len < RECORD_HEAD) return no_room(list);
-    size_t body = b->len + RECORD_HEAD;
-    chultarvi_text_compiled c = compile_text(m, len, b->bytes + body, CHULTARVI_BOOK_MOST - body);
-    if (c.refusal == 11) return no_room(list);
-    if (c.refusal) {
-        char message[MESSAGE_MOST];
-        refusal_message(message, c.refusal, m->text, len);
-        say_of(e->file, "%s", message);
-        return REFUSED;
-    }
-    put_head(b, e->kind, c.len);
-    b->len += c.len;
-    return DONE;
+    char why[MESSAGE_MOST];
+    snprintf(why, sizeof why, "cannot be read: %s", reason);
+    refuse_file(all, e, TROUBLE, why);
 }
 
-static int build(book *b, const entries *all) {
+/* A file in trouble does not keep the others from being looked at. */
+static void build(book *b, entries *all) {
     memory m = take_memory();
-    int status = DONE;
-    for (size_t i = 0; i < all->count && status == DONE; i++) {
-        const entry *e = all->at + i;
-        if (i == 0 || !same_name(all, i - 1, i)) status = put_word(b, KIND_NAME, e->name, all->list);
-        if (status != DONE) break;
-        status = e->kind == KIND_ALIAS ? put_word(b, e->kind, e->file, all->list) : put_text(b, e, &m, all->list);
+    for (size_t i = 0; i < all->count; i++) {
+        entry *e = all->at + i;
+        if (i == 0 || !same_name(e - 1, e)) put_word(b, KIND_NAME, e->name, e, all);
+        if (e->kind == KIND_ALIAS) put_word(b, KIND_ALIAS, e->file, e, all);
+        else read_text(b, e, &m, all);
     }
-    free(m.text);
-    free(m.area);
-    free(m.words);
-    return status;
+    free_memory(&m);
 }
+
+/* ---- two names with one text */
+
+static bool same_table(const entry *x, const entry *y) { return x->len == y->len && memcmp(x->table, y->table, x->len) == 0; }
+
+/* Equal tables side by side, as they stand in the book. */
+static int table_order(const void *a, const void *b) {
+    const entry *x = *(const entry *const *)a, *y = *(const entry *const *)b;
+    int order = by_number(x->len, y->len);
+    if (!order) order = memcmp(x->table, y->table, x->len);
+    return order ? order : x < y ? -1 : x > y;
+}
+
+/* Texts with bigrams, by their tables; the caller frees them. */
+static const entry **sort_tables(const entries *all, size_t *count) {
+    const entry **texts = take((all->count + 1) * sizeof *texts);
+    *count = 0;
+    for (const entry *e = all->at; e < all->at + all->count; e++)
+        if (is_stored(e->kind) && get_number(e->table) > 0) texts[(*count)++] = e;
+    qsort(texts, *count, sizeof *texts, table_order);
+    return texts;
+}
+
+/* Of equal scores the text that stands first wins, so the other name is never said. */
+static void warn_of_equals(const entries *all) {
+    size_t count;
+    const entry **texts = sort_tables(all, &count), *first = 0;
+    for (size_t i = 0; i < count; i++) {
+        const entry *e = texts[i];
+        if (!first || !same_table(first, e)) first = e;
+        else if (!same_name(texts[i - 1], e))
+            say_of(all->list, "line %zu: warning: %s %s has the same table as %s %s, line %zu; a scan names %s for both", e->line, e->name,
+                   kind_words(e->kind), first->name, kind_words(first->kind), first->line, first->name);
+    }
+    free(texts);
+}
+
+/* ---- the command */
 
 /* What stands at `out` is replaced only by a book that the library finds sound. */
 static int stand(const book *b, const char *out, const char *list) {
@@ -171,43 +257,54 @@ static int stand(const book *b, const char *out, const char *list) {
     }
     if (!write_file(out, b->bytes, b->len)) return TROUBLE;
     put_plain(stdout, out);
-    printf(": %zu bytes, %" PRIu32 " stored text%s\n", b->len, c.texts, c.texts == 1 ? "" : "s");
+    printf(": %zu bytes, %" PRIu32 " stored text%s\n", b->len, c.texts, plural(c.texts));
     return DONE;
 }
 
-static int make_book(const char *out, entries *all, char *text) {
-    if (!read_entries(all, text) || !refuse_many(all)) return REFUSED;
-    qsort(all->at, all->count, sizeof *all->at, order);
-    if (!refuse_doubles(all)) return REFUSED;
-    book b = {take(CHULTARVI_BOOK_MOST), 0};
-    int status = build(&b, all);
-    if (status == DONE) status = stand(&b, out, all->list);
-    if (status != DONE) say_of(out, "no new book stands there");
+static void make_book(const char *out, entries *all, char *text) {
+    read_entries(all, text);
+    if (are_many(all)) return;
+    bool whole = all->status == DONE;
+    /* without the lines left out a name may seem to lack its original */
+    if (whole) refuse_doubles(all);
+    qsort(all->at, all->count, sizeof *all->at, book_order);
+    if (whole) refuse_originals(all);
+    book b = {.bytes = take(CHULTARVI_BOOK_MOST)};
+    build(&b, all);
+    if (all->status == DONE) {
+        warn_of_equals(all);
+        all->status = stand(&b, out, all->list);
+    }
     free(b.bytes);
-    return status;
+}
+
+/* The list with a zero behind it; null where it cannot be read, which is said. The caller frees it. */
+static char *read_list(const char *list, size_t *len) {
+    char *text = take(LIST_MOST + 1);
+    const char *why = read_file(list, (uint8_t *)text, LIST_MOST, len);
+    if (!why && *len > LIST_MOST) why = "over 4,194,304 bytes";
+    if (!why && memchr(text, 0, *len)) why = "a list is text, and this has a zero byte";
+    if (!why) {
+        text[*len] = 0;
+        return text;
+    }
+    unreadable(list, why);
+    free(text);
+    return 0;
 }
 
 int run_book(int count, char **words) {
-    if (count != 3) {
-        say("book wants OUT and LIST; chultarvi --help tells more");
-        return TROUBLE;
-    }
-    const char *list = words[2];
-    char *text = take(LIST_MOST + 1);
+    int status;
+    if (!read_options(&count, words, 0, 0, &status)) return status;
+    if (count != 3) return wrong_words("book", "wants OUT and LIST");
     size_t len;
-    const char *why = read_file(list, (uint8_t *)text, LIST_MOST, &len);
-    if (!why && len > LIST_MOST) why = "over 4,194,304 bytes";
-    if (!why && memchr(text, 0, len)) why = "a list is text, and this has a zero byte";
-    if (why) {
-        say_of(list, "cannot be read: %s", why);
-        free(text);
-        return TROUBLE;
-    }
-    text[len] = 0;
-    /* a line that is looked at has at least one byte and its newline */
-    entries all = {take((len / 2 + 1) * sizeof(entry)), 0, list};
-    int status = make_book(words[1], &all, text);
+    char *text = read_list(words[2], &len);
+    if (!text) return TROUBLE;
+    /* a good line has at least nine bytes, as `A alias b`, and its newline */
+    entries all = {take((len / 10 + 1) * sizeof(entry)), 0, words[2], DONE};
+    make_book(words[1], &all, text);
+    if (all.status != DONE) say_of(words[1], "no new book stands there");
     free(all.at);
     free(text);
-    return status;
+    return all.status;
 }

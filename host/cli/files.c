@@ -113,14 +113,13 @@ static bool write_through(const char *path, const uint8_t *bytes, size_t len) {
 }
 
 bool write_file(const char *path, const uint8_t *bytes, size_t len) {
-    /* an interrupt waits until the file stands or its beginning is removed; a write over the size limit is an error, not a death */
+    /* an interrupt waits until the file stands or its beginning is removed */
     sigset_t waiting, before;
     sigemptyset(&waiting);
     sigaddset(&waiting, SIGINT);
     sigaddset(&waiting, SIGTERM);
     sigaddset(&waiting, SIGHUP);
     sigprocmask(SIG_BLOCK, &waiting, &before);
-    signal(SIGXFSZ, SIG_IGN);
     bool done = write_through(path, bytes, len);
     sigprocmask(SIG_SETMASK, &before, 0);
     return done;

@@ -7,12 +7,12 @@
 #include <stdarg.h>
 #include <stdio.h>
 
-#define VERSION "0.1.0"
+#define VERSION CHULTARVI_VERSION
 
 /* Exit statuses. Of several notes the highest counts. */
 enum { DONE = 0, REFUSED = 1, TROUBLE = 2 };
 
-enum { KIND_NAME = 1, KIND_ALIAS = 5, RECORD_HEAD = 6 };
+enum { KIND_NAME = CHULTARVI_LICENCE_NAME, KIND_ALIAS = CHULTARVI_ALIAS, RECORD_HEAD = CHULTARVI_RECORD_HEAD };
 
 /* files.c */
 
@@ -69,5 +69,31 @@ size_t list_stored(const lent_book *book, stored_text *to);
 
 /* help.c */
 bool print_help(const char *command);
+
+/* The other subcommands: list.c, compile.c */
+int run_check(int count, char **words);
+int run_list(int count, char **words);
+int run_compile(int count, char **words);
+
+/* help.c */
+
+/* The help of a command, or of the program where it is null, to standard output. False where there is no such command. */
+bool print_help(const char *command);
+/* Says what is wrong with the words of a command, and where its help is. Gives the exit status. */
+int wrong_words(const char *command, const char *why);
+
+/* options.c */
+
+/* An option of a command: its letter, its long name or null, and where the value goes; without a place for one it is a switch. */
+typedef struct { char letter; const char *name; const char **value; bool *given; } option_place;
+/* Reads a command's options wherever they stand before `--`, and -h and --help of each command. The names that are left follow words[0], and *count
+   counts them with it. False where all is said, and *status is the exit status; then there is nothing more to do. */
+bool read_options(int *count, char **words, const option_place *places, size_t many, int *status);
+
+/* The reason why a file cannot be read. Gives the exit status. */
+int unreadable(const char *path, const char *why);
+/* One of them counts none of the letter s at its end. */
+const char *plural(size_t count);
+void free_memory(memory *m);
 
 #endif

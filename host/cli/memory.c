@@ -1,5 +1,6 @@
 /* Memory of the command line: taken once, lent to the library for each call. */
 #include "host.h"
+#include "../records.h"
 #include <stdlib.h>
 
 void *take(size_t bytes) {
@@ -26,6 +27,10 @@ chultarvi_text_compiled compile_text(const memory *m, size_t text_len, uint8_t *
     return chultarvi_compile(m->text, text_len, m->area, lent_bytes(text_len), m->words, lent_words(text_len), out, out_len);
 }
 
-uint32_t number_at(const uint8_t *bytes) {
-    return bytes[0] | (uint32_t)bytes[1] << 8 | (uint32_t)bytes[2] << 16 | (uint32_t)bytes[3] << 24;
+uint32_t number_at(const uint8_t *bytes) { return get_number(bytes); }
+
+void free_memory(memory *m) {
+    free(m->text);
+    free(m->area);
+    free(m->words);
 }

@@ -111,29 +111,10 @@ size_t first_not_ascii(const uint8_t *text, size_t len) {
     return i;
 }
 
-static const char *refusal_words(uint32_t refusal) {
-    static const char *const words[] = {
-        "none",
-        "the text is over 1,048,576 bytes",
-        "the text is not ASCII",
-        "the text is over 65,536 lines",
-        "the book is not sound",
-        "the book has no stored text",
-        "the threshold or the shallow limit is not from 0.0 to 1.0",
-        "the top-down step is 0",
-        "the view is out of the text's range",
-        "the book has no stored text of this number",
-        "a lent area is too small",
-        "the output is shorter than the table",
-        "stopped by the budget",
-    };
-    return refusal < sizeof words / sizeof *words ? words[refusal] : "unknown";
-}
-
 void refusal_message(char to[MESSAGE_MOST], uint32_t refusal, const uint8_t *text, size_t len) {
-    size_t at = refusal == 2 ? first_not_ascii(text, len) : len;
+    size_t at = refusal == CHULTARVI_REFUSED_TEXT_NOT_ASCII ? first_not_ascii(text, len) : len;
     if (at == len) {
-        snprintf(to, MESSAGE_MOST, "refused (%" PRIu32 "): %s", refusal, refusal_words(refusal));
+        snprintf(to, MESSAGE_MOST, "refused (%" PRIu32 "): %s", refusal, chultarvi_refusal_text(refusal));
         return;
     }
     size_t line = 1, byte = 1;
@@ -142,5 +123,12 @@ void refusal_message(char to[MESSAGE_MOST], uint32_t refusal, const uint8_t *tex
         line += text[i] == '\n';
     }
     snprintf(to, MESSAGE_MOST, "refused (2): %s: line %zu, byte %zu is 0x%02x; nothing is filtered, so change it before the scan",
-             refusal_words(refusal), line, byte, text[at]);
+             chultarvi_refusal_text(refusal), line, byte, text[at]);
 }
+
+int unreadable(const char *path, const char *why) {
+    say_of(path, "cannot be read: %s", why);
+    return TROUBLE;
+}
+
+const char *plural(size_t count) { return count == 1 ? "" : "s"; }

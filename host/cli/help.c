@@ -1,0 +1,93 @@
+/* The help texts: one for the program, one for each command. */
+#include "host.h"
+#include <string.h>
+
+#define STATUS "Exit status: 0 all is answered; 1 something was refused, or stopped by the budget; 2 wrong usage, or trouble with a file.\n"
+#define ENDING "Options stand before or behind the names; '--' ends them. -h and --help print this.\n" STATUS
+
+static const char program_help[] =
+    "Chultarvi says which licence a note holds, its score and its lines.\n"
+    "\n"
+    "  chultarvi scan [options] BOOK NOTE...   scan notes against a book, or against two\n"
+    "  chultarvi list BOOK [--json]            the licences of a book, their texts and aliases\n"
+    "  chultarvi check BOOK...                 are books sound, and how many licences and texts have they?\n"
+    "  chultarvi book OUT LIST                 make a book from a list of lines NAME KIND FILE\n"
+    "  chultarvi compile TEXT [-o OUT]         the table of a text: its size; its bytes into OUT\n"
+    "  chultarvi COMMAND --help                the options of a command, and what it prints\n"
+    "  chultarvi --help | --version\n"
+    "\n"
+    "'-' reads standard input, once. A name that begins with '-' stands after '--', or as ./-NAME.\n"
+    "Texts are ASCII of at most 1,048,576 bytes and 65,536 lines. Books have at most 16,777,216 bytes and 1,024 texts.\n"
+    "\n" STATUS;
+
+static const char scan_help[] =
+    "chultarvi scan [options] BOOK NOTE...\n"
+    "\n"
+    "Says of each note which licence of the book it holds as a whole, and in which lines it holds which.\n"
+    "\n"
+    "  --beside BOOK2    scan against this book too, and say of each licence which book holds it; of equal scores BOOK's wins\n"
+    "  --threshold X     a licence is named above this score (0.9)\n"
+    "  --shallow X       above this score a note is one licence as a whole, and no ranges are looked for (0.99)\n"
+    "  --passes N        at most this many ranges, up to 65535 (10)\n"
+    "  --no-optimize     look for no ranges\n"
+    "  --top-down STEP   look for ranges from the first line on, growing by STEP lines, and for no licence of the whole\n"
+    "  --thorough        look for further licences in the lines that no range holds\n"
+    "  --second          show the next licence too, and its score\n"
+    "  --budget N        stop before scoring number N + 1 (no limit)\n"
+    "  --ascii           map or drop what is not ASCII, and say how many characters that were\n"
+    "  -r, --recursive   walk folders\n"
+    "  -j, --jobs N      scan with N threads\n"
+    "  --json            one line of JSON for each note\n"
+    "\n"
+    "For people lines count from 1. JSON counts lines from 0 and gives the line after the last; its number of a stored text counts\n"
+    "from 0 through BOOK and on into BOOK2.\n"
+    "\n" ENDING;
+
+static const char list_help[] =
+    "chultarvi list BOOK [--json]\n"
+    "\n"
+    "Prints the licences of a book, a line each: its name; of each stored text the kind, how many bigrams (pairs of words) it has and\n"
+    "how many of them are distinct; its aliases. The last line says how many licences, texts, aliases and bytes.\n"
+    "\n"
+    "  --json   one line of JSON for each licence, with the numbers of its stored texts, and no last line\n"
+    "\n" ENDING;
+
+static const char check_help[] =
+    "chultarvi check BOOK...\n"
+    "\n"
+    "Says of each book whether it is sound, and how many licences and stored texts it has. Of several the worst exit status counts.\n"
+    "\n" ENDING;
+
+static const char book_help[] =
+    "chultarvi book OUT LIST\n"
+    "\n"
+    "Makes the book OUT from a list of lines NAME KIND FILE, for example 'MIT original texts/mit.txt'. OUT changes only once all is\n"
+    "read and the library finds the book sound.\n"
+    "\n"
+    "KIND is original, alternate, header, or alias, where FILE is the alias itself. Each name has one original. FILE is all that is\n"
+    "left of the line, from the folder where the program runs. An empty line and one that begins with '# ' say nothing. Lines may end\n"
+    "with CR LF. A text without bigrams and two names with one text are warned of.\n"
+    "\n" ENDING;
+
+static const char compile_help[] =
+    "chultarvi compile TEXT [-o OUT]\n"
+    "\n"
+    "Says how large the table of a text is, which is what a book stores of it.\n"
+    "\n"
+    "  -o OUT   write the table into this file; with '-o -' to standard output, and nothing else\n"
+    "\n" ENDING;
+
+bool print_help(const char *command) {
+    static const struct { const char *name, *text; } helps[] = {
+        {"scan", scan_help}, {"list", list_help}, {"check", check_help}, {"book", book_help}, {"compile", compile_help},
+    };
+    if (!command) return fputs(program_help, stdout), true;
+    for (size_t i = 0; i < sizeof helps / sizeof *helps; i++)
+        if (strcmp(command, helps[i].name) == 0) return fputs(helps[i].text, stdout), true;
+    return false;
+}
+
+int wrong_words(const char *command, const char *why) {
+    say("%s %s; chultarvi %s --help tells more", command, why, command);
+    return TROUBLE;
+}
