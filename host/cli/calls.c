@@ -40,7 +40,7 @@ chultarvi_note_scanned scan_whole(const worker *w, part text) {
 stored_text named_by(const chultarvi_note_scanned *a, const part books[2], const char *const files[2]) {
     if (!a->kind) return (stored_text){0};
     const char *name = (const char *)chultarvi_name(books[0].bytes, books[1].bytes, a);
-    return (stored_text){name, files[a->second], a->len, a->kind};
+    return (stored_text){.name = name, .book = files[a->second], .len = a->len, .kind = a->kind};
 }
 
 finding *add_finding(findings *to, finding f) {
@@ -56,10 +56,11 @@ finding *add_finding(findings *to, finding f) {
     return to->at + to->count++;
 }
 
-void add_records(const worker *w, const chultarvi_note_scanned *a, uint32_t first, findings *to) {
+void add_records(const worker *w, const chultarvi_note_scanned *a, uint32_t first, const uint32_t *numbers, findings *to) {
     for (uint32_t k = 0; k < a->records; k++) {
         const uint32_t *record = w->results + CHULTARVI_RECORD_WIDTH * (size_t)k;
-        finding f = {.text = w->from->stored[record[0]], .number = record[0], .first = first + record[1], .after = first + record[2]};
+        uint32_t number = numbers ? numbers[record[0]] : record[0];
+        finding f = {.text = w->from->stored[number], .number = number, .first = first + record[1], .after = first + record[2]};
         memcpy(&f.score, record + 3, sizeof f.score);
         add_finding(to, f);
     }

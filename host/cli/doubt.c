@@ -1,5 +1,5 @@
-/* Doubt about an answer: the best of the other licences on the same lines, by a scan against the books without the records of the licence that
-   was found. That the whole note's licence has a rival is known from the texts behind it alone, since of equal scores the lower number wins. */
+/* Doubt about an answer: the best of the other licences on the same lines. For a rival that is a scan against those texts alone that may be named
+   there; for the next one in any case (--second) a scan against the books without the records of the licence that was found. */
 #include "scan.h"
 #include <string.h>
 
@@ -34,18 +34,31 @@ static bool see_parts(worker *w, report *r, part text, const part books[2], cons
     return true;
 }
 
-/* Does a rival's text have to stand behind the licence? In the whole note a text before it with the same score would have won. */
-static void look_for_other(worker *w, report *r, part text, finding *f, bool behind_only) {
+/* The next licence, whatever its score. */
+static void look_for_second(worker *w, report *r, part text, finding *f) {
     const shelf *s = r->from;
-    bool in_second = f->text.book != s->books[0].file;
     f->looked = true;
-    for (int i = 0; i < 2 && f->looked; i++) {
-        part books[2] = {{0}, {0}};
-        if (!s->books[i].bytes || (behind_only && in_second && i == 0)) continue;
+    for (int i = 0; i < 2 && f->looked && s->books[i].bytes; i++) {
+        part books[2];
         part_book(s->books + i, &f->text, books, books + 1);
-        if (behind_only && in_second == (i == 1)) books[0].len = 0;
         f->looked = see_parts(w, r, text, books, s->books[i].file, f);
     }
+}
+
+static void look_for_rival(worker *w, report *r, part text, finding *f) {
+    part books[2];
+    f->looked = true;
+    if (!choose_texts(w, text, &f->text, books)) return;
+    chultarvi_note_scanned a = eliminate_part(w, text, books, 0.0f, false, left_of(r));
+    r->more += a.count;
+    f->looked = a.refusal == 0;
+    f->other = chosen_by(w, &a);
+    f->other_score = a.score;
+}
+
+static void look_for_other(worker *w, report *r, part text, finding *f) {
+    if (r->from->with.second) look_for_second(w, r, text, f);
+    else look_for_rival(w, r, text, f);
 }
 
 /* Elimination blanks what it has recorded, and a later range may reach over it; so its lines are looked at as they were then. */
@@ -53,10 +66,27 @@ static void look_in_all(worker *w, report *r, findings *all) {
     for (size_t i = 0; i < all->count; i++) {
         finding *f = all->at + i;
         part lines = lines_part(w, (part){w->blanked, r->len}, f->first, f->after);
-        look_for_other(w, r, lines, f, false);
+        look_for_other(w, r, lines, f);
         uint8_t *at = w->blanked + (lines.bytes - w->blanked);
         for (size_t k = 0; k < lines.len; k++) if (at[k] != '\n') at[k] = ' ';
     }
+}
+
+static bool is_higher(const finding *f) { return has_rival(f) && f->other_score > f->score; }
+
+/* The finding as if the other licence had been found first. */
+static finding turned(const finding *f) {
+    finding t = *f;
+    t.text = f->other, t.score = f->other_score;
+    t.other = f->text, t.other_score = f->score;
+    return t;
+}
+
+/* A scan names a range after the text that was best before its bounds were known; another may score higher within them. Of the scan's own ranges
+   that is said beside, and with --thorough it is a further finding; what is found further is named after the highest. */
+static void name_highest(report *r) {
+    for (size_t i = 0; i < r->further.count; i++) if (is_higher(r->further.at + i)) r->further.at[i] = turned(r->further.at + i);
+    for (size_t i = 0; i < r->ranges.count; i++) if (is_higher(r->ranges.at + i)) add_finding(&r->further, turned(r->ranges.at + i));
 }
 
 void look_for_others(worker *w, report *r) {
@@ -64,9 +94,10 @@ void look_for_others(worker *w, report *r) {
     bool named = r->whole.text.kind;
     if (r->answer.refusal) return;
     memcpy(w->blanked, r->text, r->len);
-    if (named || (s->second && !s->down)) look_for_other(w, r, (part){r->text, r->len}, &r->whole, named && !s->second);
+    if (named || (s->second && !s->down)) look_for_other(w, r, (part){r->text, r->len}, &r->whole);
     look_in_all(w, r, &r->ranges);
     look_in_all(w, r, &r->further);
+    if (s->thorough) name_highest(r);
 }
 
 bool has_rival(const finding *f) { return f->text.kind && f->looked && f->other.kind && f->other_score >= f->score; }

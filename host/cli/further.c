@@ -5,8 +5,8 @@
 #include <stdlib.h>
 #include <string.h>
 
-/* Stanzas that no found licence touches: lines with words between lines without. best: the best score that a scan of its lines had. */
-typedef struct { uint32_t first, after; float best; } stanza;
+/* Lines that are not blank and that nothing found holds, between such as are. */
+typedef struct { uint32_t first, after; } stanza;
 typedef struct { stanza *at; size_t count; } stanzas;
 
 static bool is_blank(const worker *w, part text, uint32_t line) {
@@ -41,32 +41,53 @@ void count_unheld(worker *w, report *r) {
     for (uint32_t line = 0; line < w->lines; line++) r->unheld += !w->held[line] && has_word(w, text, line);
 }
 
-/* What one scan of lines has found: its ranges, or the lines as a whole where these have no range of the same licence. */
+/* Of each line the range of the scan's own that holds it, counted from 1; where several do, the one that was found first. */
+static void list_owners(worker *w, const report *r) {
+    memset(w->owner, 0, w->lines * sizeof *w->owner);
+    for (size_t i = r->ranges.count; i > 0; i--)
+        for (uint32_t line = r->ranges.at[i - 1].first; line < r->ranges.at[i - 1].after; line++) w->owner[line] = (uint32_t)i;
+}
+
+/* Is the same licence found on some of these lines by the scan itself? */
+static bool is_double(const worker *w, const report *r, const finding *f) {
+    for (uint32_t line = f->first; line < f->after; line++)
+        if (w->owner[line] && same_licence(&r->ranges.at[w->owner[line] - 1].text, &f->text)) return true;
+    return false;
+}
+
+/* What one scan of lines has found: its ranges, or the lines as a whole where there are none. */
 static void take_answer(worker *w, report *r, const chultarvi_note_scanned *a, uint32_t first, uint32_t after) {
-    part books[2];
-    const char *files[2];
-    whole_books(r->from, books, files);
-    finding whole = {.text = named_by(a, books, files), .first = first, .after = after, .score = a->score};
-    size_t before = r->further.count;
-    add_records(w, a, first, &r->further);
-    if (whole.text.kind && before == r->further.count) add_finding(&r->further, whole);
-    for (size_t i = before; i < r->further.count; i++) hold(w, r->further.at + i);
+    finding whole = {.text = chosen_by(w, a), .first = first, .after = after, .score = a->score};
+    findings found = {0};
+    add_records(w, a, first, w->chosen, &found);
+    if (whole.text.kind && found.count == 0) add_finding(&found, whole);
+    for (size_t i = 0; i < found.count; i++) {
+        hold(w, found.at + i);
+        if (!is_double(w, r, found.at + i)) add_finding(&r->further, found.at[i]);
+    }
+    free(found.at);
+}
+
+/* Lines of ranges that do not reach the shallow limit are looked at again: such a range may lie over two licences that are like a third. */
+static void release_weak(worker *w, const report *r) {
+    memset(w->held, 0, w->lines * sizeof *w->held);
+    for (size_t i = 0; i < r->ranges.count; i++) if (r->ranges.at[i].score > r->from->with.shallow) hold(w, r->ranges.at + i);
+    for (size_t i = 0; i < r->further.count; i++) hold(w, r->further.at + i);
 }
 
 /* Scans lines, without those at either end that are blank, unless the same lines were scanned last from there. True where a licence is found. */
 static bool scan_lines(worker *w, report *r, uint32_t first, uint32_t after) {
     part text = {r->text, r->len}, books[2];
-    const char *files[2];
     while (first < after && is_blank(w, text, first)) first++;
     while (first < after && is_blank(w, text, after - 1)) after--;
     if (first == after || w->seen[first] == after || r->stopped) return false;
     w->seen[first] = after;
-    whole_books(r->from, books, files);
+    part lines = lines_part(w, text, first, after);
     size_t before = r->further.count;
-    chultarvi_note_scanned a = eliminate_part(w, lines_part(w, text, first, after), books, r->from->with.threshold, true, left_of(r));
+    if (!choose_texts(w, lines, 0, books)) return false;
+    chultarvi_note_scanned a = eliminate_part(w, lines, books, r->from->with.threshold, true, left_of(r));
     r->more += a.count;
     r->stopped = a.refusal == 12;
-    for (uint32_t line = first; line < after; line++) if (a.score > w->best[line]) w->best[line] = a.score;
     take_answer(w, r, &a, first, after);
     return r->further.count > before;
 }
@@ -93,10 +114,9 @@ static void list_stanzas(const worker *w, part text, stanzas *to) {
         }
         if (!last) {
             last = to->at + to->count++;
-            *last = (stanza){line, line, 0};
+            *last = (stanza){line, line};
         }
         last->after = line + 1;
-        if (w->best[line] > last->best) last->best = w->best[line];
     }
 }
 
@@ -108,40 +128,34 @@ static size_t run_from(const worker *w, const stanzas *all, size_t k, size_t mos
     return count;
 }
 
-/* A score is twice the common pairs over the pairs of both. So where a licence stands in `count` stanzas, one of them has at least that part of its
-   pairs, and scores about 2 / (count + 1) alone. Half of that is asked: pairs across two stanzas count in neither. */
-static bool may_hold_licence(const stanza *at, size_t count) {
-    float best = 0;
-    for (size_t i = 0; i < count; i++) if (at[i].best > best) best = at[i].best;
-    return best * (float)(count + 1) >= 1.0f;
-}
-
-/* Runs of `width` stanzas, each from the middle of the last. After a find the next begins behind it. Gives the longest run that there is. */
-static size_t scan_runs(worker *w, report *r, const stanzas *all, size_t width) {
-    size_t longest = 0;
+/* Runs of `width` stanzas, each from the middle of the last. After a find the next begins behind it. True where some run is as wide as that. */
+static bool scan_runs(worker *w, report *r, const stanzas *all, size_t width) {
+    bool wide = false;
     for (size_t k = 0; k < all->count;) {
         size_t count = run_from(w, all, k, width);
         const stanza *from = all->at + k, *last = from + count - 1;
-        if (count > longest) longest = count;
-        bool found = count > 1 && may_hold_licence(from, count) && scan_lines(w, r, from->first, last->after);
+        wide = wide || count == width;
+        bool found = count > 1 && scan_lines(w, r, from->first, last->after);
         k += count < width || found ? count : width / 2;
     }
-    return longest;
+    return wide;
 }
 
 void look_further(worker *w, report *r) {
     part text = {r->text, r->len};
     if (r->answer.refusal || is_one_licence(r)) return;
     memset(w->seen, 0, w->lines * sizeof *w->seen);
-    memset(w->best, 0, w->lines * sizeof *w->best);
+    list_owners(w, r);
     count_unheld(w, r);
     if (r->ranges.count > 0) scan_gaps(w, r);
+    release_weak(w, r);
     stanzas all = {take(w->lines * sizeof *all.at), 0};
     list_stanzas(w, text, &all);
     for (size_t k = 0; k < all.count; k++) scan_lines(w, r, all.at[k].first, all.at[k].after);
-    for (size_t width = 2, longest = 2; longest >= width && !r->stopped; width *= 2) {
+    bool wide = true;
+    for (size_t width = 2; wide && !r->stopped; width *= 2) {
         list_stanzas(w, text, &all);
-        longest = scan_runs(w, r, &all, width);
+        wide = scan_runs(w, r, &all, width);
     }
     free(all.at);
 }

@@ -63,12 +63,10 @@ int run_scan(int count, char **words);
 /* A book as it was read, and whether the library finds it sound. */
 typedef struct { const char *file; uint8_t *bytes; size_t len; bool sound; } lent_book;
 
-/* Of each stored text its licence's name, its book's file and its kind, by number. The list of a sound book goes to `to`; gives its length. */
-typedef struct { const char *name, *book; uint32_t len, kind; } stored_text;
+/* Of each stored text its licence's name, its book's file, its kind and its table's body, by number. The list of a sound book goes to `to`; gives
+   its length. */
+typedef struct { const char *name, *book; uint32_t len, kind; const uint8_t *body; uint32_t body_len; } stored_text;
 size_t list_stored(const lent_book *book, stored_text *to);
-
-/* help.c */
-bool print_help(const char *command);
 
 /* The other subcommands: list.c, compile.c */
 int run_check(int count, char **words);

@@ -144,7 +144,7 @@ static void scan_text(worker *w, report *r) {
     if (r->answer.refusal != 0 && r->answer.refusal != 12) return;
     whole_books(w->from, books, files);
     r->whole = (finding){.text = named_by(&r->answer, books, files), .score = r->answer.score};
-    add_records(w, &r->answer, 0, &r->ranges);
+    add_records(w, &r->answer, 0, 0, &r->ranges);
     find_lines(w, text);
     r->whole.after = (uint32_t)w->lines;
     if (w->from->with.thorough) look_further(w, r);
@@ -226,6 +226,7 @@ static bool open_shelf(shelf *s) {
     /* an unsound book is refused with each note, by the library's number; its records are not to be walked */
     for (size_t i = 0; i < books; i++)
         if (s->books[i].sound) s->stored_count += list_stored(s->books + i, s->stored + s->stored_count);
+    open_pairs(s);
     return true;
 }
 
@@ -233,6 +234,8 @@ static void close_shelf(shelf *s) {
     free(s->books[0].bytes);
     free(s->books[1].bytes);
     free(s->stored);
+    free(s->pairs);
+    free(s->pair_room);
 }
 
 static void open_worker(worker *w, const shelf *s) {
@@ -243,9 +246,10 @@ static void open_worker(worker *w, const shelf *s) {
     w->results = take(chultarvi_top_down_results(CHULTARVI_LINES_MOST) * sizeof *w->results);
     w->starts = take((CHULTARVI_LINES_MOST + 1) * sizeof *w->starts);
     w->held = take(CHULTARVI_LINES_MOST * sizeof *w->held);
+    open_choice(w);
     if (!s->with.thorough) return;
     w->seen = take(CHULTARVI_LINES_MOST * sizeof *w->seen);
-    w->best = take(CHULTARVI_LINES_MOST * sizeof *w->best);
+    w->owner = take(CHULTARVI_LINES_MOST * sizeof *w->owner);
 }
 
 static void close_worker(worker *w) {
@@ -258,7 +262,8 @@ static void close_worker(worker *w) {
     free(w->starts);
     free(w->held);
     free(w->seen);
-    free(w->best);
+    free(w->owner);
+    close_choice(w);
 }
 
 static int scan_all(const shelf *s) {

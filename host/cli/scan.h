@@ -16,12 +16,17 @@ typedef struct {
     size_t jobs;
 } settings;
 
-/* The books of a scan with their stored texts, by number. Nothing here changes while notes are scanned, so all workers read it at once. */
+/* The pairs of words of a stored text: of each a hash and its count, one after the other; how many distinct ones, and how many in all. */
+typedef struct { const uint32_t *at; uint32_t count, total; } pair_list;
+
+/* The books of a scan with their stored texts, by number, and these texts' pairs. Nothing here changes while notes are scanned, so all workers read it at once. */
 typedef struct {
     settings with;
     lent_book books[2];
     stored_text *stored;
     size_t stored_count;
+    pair_list *pairs;
+    uint32_t *pair_room;
 } shelf;
 
 /* A licence that was found, in the whole note or in the lines from `first` up to, and without, `after`. No name: none was found.
@@ -56,16 +61,20 @@ typedef struct {
 typedef struct { const uint8_t *bytes; size_t len; } part;
 
 /* One worker's memory, taken once. `raw` is for the note as it was read, where --ascii changes it; `blanked` for the note without what was found
-   (doubt.c); what is by lines, for further.c. */
+   (doubt.c); what is by lines, for further.c; from `table` on, for choice.c. */
 typedef struct {
     const shelf *from;
     memory lent;
     uint8_t *raw, *blanked;
     uint32_t *results;
-    uint32_t *starts, *seen;
-    float *best;
+    uint32_t *starts, *seen, *owner;
     bool *held;
     size_t lines;
+    uint8_t *table, *few[2];
+    void *slots;
+    size_t slot_room, chosen_count;
+    bool *may;
+    uint32_t *chosen;
 } worker;
 
 /* calls.c */
@@ -77,13 +86,24 @@ chultarvi_note_scanned scan_whole(const worker *w, part text);
 stored_text named_by(const chultarvi_note_scanned *a, const part books[2], const char *const files[2]);
 /* Both books whole, and their files. */
 void whole_books(const shelf *s, part books[2], const char *files[2]);
-/* Adds what the answer recorded, its lines counted on from `first`. */
-void add_records(const worker *w, const chultarvi_note_scanned *a, uint32_t first, findings *to);
+/* Adds what the answer recorded, its lines counted on from `first`. `numbers` says which stored text each number of the answer means; null where
+   the numbers are the shelf's own. */
+void add_records(const worker *w, const chultarvi_note_scanned *a, uint32_t first, const uint32_t *numbers, findings *to);
 /* What is left of the budget. */
 uint64_t left_of(const report *r);
 /* Where each line starts, and one past the end of the last; the text is no longer than a text may be. */
 void find_lines(worker *w, part text);
 part lines_part(const worker *w, part text, uint32_t first, uint32_t after);
+
+/* choice.c */
+void open_pairs(shelf *s);
+void open_choice(worker *w);
+void close_choice(worker *w);
+/* Books of those stored texts alone that may be named on these lines, without the licence `but`, where it is not null. False where there are none. */
+bool choose_texts(worker *w, part text, const stored_text *but, part books[2]);
+/* The licence that an answer over the chosen texts names. */
+stored_text chosen_by(const worker *w, const chultarvi_note_scanned *a);
+bool same_licence(const stored_text *a, const stored_text *b);
 
 /* further.c */
 void look_further(worker *w, report *r);
