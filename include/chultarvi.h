@@ -91,7 +91,7 @@ enum chultarvi_refusal {
 /* A refusal in words, in English, for people; "unknown" for a number that is none. Never null. */
 static inline const char *chultarvi_refusal_text(uint32_t refusal)
 {
-    static const char *const words[] = {
+    static const char *const refusal_texts[] = {
         "none",
         "the text is over 1,048,576 bytes",
         "the text is not ASCII",
@@ -106,7 +106,7 @@ static inline const char *chultarvi_refusal_text(uint32_t refusal)
         "the output is shorter than the table",
         "stopped by the budget",
     };
-    return refusal < sizeof words / sizeof *words ? words[refusal] : "unknown";
+    return refusal < sizeof refusal_texts / sizeof *refusal_texts ? refusal_texts[refusal] : "unknown";
 }
 
 /* How much to lend, in elements. `area` and `words`, for a text of n bytes; areas for CHULTARVI_TEXT_MOST serve every text, since a longer one is
