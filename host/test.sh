@@ -1,8 +1,8 @@
 #!/bin/sh
 # shellcheck disable=SC1091,SC2086,SC2154
-# Passes all tests of the host: builds what is missing, runs host/tests/callers.sh, host/tests/face.c compiled as C and as C++, oracle/rows.py --quick,
-# and over the command line, the drivers and the installation host/tests/line.sh, commands.sh, drivers.sh and install.sh. All that it makes stands in a
-# folder of its own under target/, so that several runs at once do not meet.
+# Passes all tests of the host: builds what is missing, runs host/tests/callers.sh, host/tests/face.c compiled as C and as C++,
+# oracle/rows.py --quick, and line.sh, commands.sh, drivers.sh and install.sh of host/tests. All that it makes stands in a folder of its own under
+# target/, so that several runs at once do not meet.
 # The last line is 'N passed, M failed', the sum; the exit status is 0 only where M is 0.
 set -eu
 root=$(cd "$(dirname "$(readlink -f "$0")")/.." && pwd)

@@ -76,7 +76,7 @@ static void give_back(areas_t a, size_t used) {
 /* ---- books of the questions: each has room for CHULTARVI_BOOK_MOST bytes, and `at` of them are written */
 
 static size_t add_record(uint8_t *to, size_t at, uint32_t kind, const uint8_t *body, size_t len) {
-    if (CHULTARVI_BOOK_MOST - at < CHULTARVI_RECORD_HEAD || CHULTARVI_BOOK_MOST - at - CHULTARVI_RECORD_HEAD < len) stop("a book is over 16,777,216 bytes");
+    if (CHULTARVI_BOOK_MOST - at < CHULTARVI_RECORD_HEAD + len) stop("a book is over 16,777,216 bytes");
     return (size_t)(put_record(to + at, kind, body, len) - to);
 }
 static size_t add_table(uint8_t *to, size_t at, uint32_t kind, text_t t) {
@@ -154,7 +154,8 @@ static void add(char **w) {
     text_t name = unhex(w[1]), t = unhex(w[3]);
     if (name.len < 1 || name.len > CHULTARVI_NAME_MOST) stop("a name is not of 1 to 64 bytes");
     size_t at = book_len;
-    if (name.len != name_above_len || memcmp(name.bytes, name_above, name.len) != 0) at = add_record(book, at, CHULTARVI_LICENCE_NAME, name.bytes, name.len);
+    bool above = name.len == name_above_len && memcmp(name.bytes, name_above, name.len) == 0;
+    if (!above) at = add_record(book, at, CHULTARVI_LICENCE_NAME, name.bytes, name.len);
     book_len = add_table(book, at, (uint32_t)whole(w[2], UINT16_MAX), t);
     memcpy(name_above, name.bytes, name.len);
     name_above_len = name.len;

@@ -57,7 +57,8 @@ static size_t paint_gone(call_t *c) {
     return STACK - low;
 }
 static size_t used(text_t text, void (*run)(call_t *)) {
-    call_t c = {nothing, text, room(chultarvi_area_bytes(text.len)), room(chultarvi_table_bytes(text.len)), room(4 * chultarvi_area_words(text.len)), 0, 0};
+    call_t c = {.run = nothing, .text = text, .area = room(chultarvi_area_bytes(text.len)), .out = room(chultarvi_table_bytes(text.len))};
+    c.words = room(4 * chultarvi_area_words(text.len));
     c.results = room(4 * (chultarvi_top_down_results(text.lines) + chultarvi_elimination_results(true, PASSES)));
     size_t base = paint_gone(&c);
     c.run = run;

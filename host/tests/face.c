@@ -421,10 +421,12 @@ static void test_table_bytes(void) {
 
 /* The words of each refusal, which stand in the header; the numbers are the library's. */
 static void test_refusal_texts(void) {
-    static const char *const part[] = {"none", "1,048,576", "ASCII", "65,536", "sound", "stored", "limit", "step", "view", "number", "area", "output", "budget"};
+    static const char *const part[] = {"none", "1,048,576", "ASCII", "65,536", "sound",  "stored", "limit",
+                                       "step", "view",      "number", "area",  "output", "budget"};
     static_assert(CHULTARVI_ANSWERED == 0 && CHULTARVI_REFUSED_BOOK_UNSOUND == 4 && CHULTARVI_STOPPED_BY_BUDGET == 12, "numbers of refusals");
     for (uint32_t n = 0; n < 13; n++) check(strstr(chultarvi_refusal_text(n), part[n]) != 0, part[n]);
-    check(strcmp(chultarvi_refusal_text(13), "unknown") == 0 && strcmp(chultarvi_refusal_text(UINT32_MAX), "unknown") == 0, "a number that is no refusal");
+    check(strcmp(chultarvi_refusal_text(13), "unknown") == 0, "13 is no refusal");
+    check(strcmp(chultarvi_refusal_text(UINT32_MAX), "unknown") == 0, "the largest number is no refusal");
     lent l = lend("\x80", 1, book_a, BOOK_A);
     check(score(&l, 0, 1, 0, "areas").refusal == CHULTARVI_REFUSED_TEXT_NOT_ASCII, "an answer's refusal is one of the enum");
     enum chultarvi_refusal held = CHULTARVI_REFUSED_AREA_SMALL;
