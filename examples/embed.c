@@ -12,7 +12,7 @@
 #include <stdlib.h>
 #include <string.h>
 
-enum { PASSES = 10 };
+enum { PASSES = 10, MILLISECONDS_MOST = 1000000 };
 
 typedef struct { uint8_t *bytes; size_t len; } held;
 typedef struct { uint8_t *area; uint32_t *words, *results; size_t area_len, words_len, results_len; } lent;
@@ -75,9 +75,13 @@ static void print_answer(const held *book, const chultarvi_note_scanned *answer,
     printf("  %" PRIu64 " scorings\n", answer->count);
 }
 
-static int scan(const held *book, const held *note, uint64_t milliseconds, const lent *l) {
+/* Without a limit of time the budget is one that no scan reaches. */
+static uint64_t budget_of(const held *book, const held *note, const uint64_t *milliseconds) {
     uint64_t texts = chultarvi_check_book(book->bytes, book->len).texts;
-    uint64_t budget = milliseconds ? texts + 16000 * milliseconds / (note->len ? note->len : 1) : UINT64_MAX;
+    return milliseconds ? texts + 16000 * *milliseconds / (note->len ? note->len : 1) : UINT64_MAX;
+}
+
+static int scan(const held *book, const held *note, uint64_t budget, const lent *l) {
     chultarvi_note_scanned answer = chultarvi_eliminate(note->bytes, note->len, book->bytes, book->len, 0.9f, 0.99f, true, PASSES, budget, l->area,
                                                         l->area_len, l->words, l->words_len, l->results, l->results_len);
     bool stopped = answer.refusal == CHULTARVI_STOPPED_BY_BUDGET;
@@ -86,17 +90,22 @@ static int scan(const held *book, const held *note, uint64_t milliseconds, const
     return answer.refusal ? 1 : 0;
 }
 
+static bool read_number(const char *word, uint64_t *number) {
+    char *end;
+    *number = strtoull(word, &end, 10);
+    return end != word && *end == 0 && *number <= MILLISECONDS_MOST;
+}
+
 int main(int count, char **words) {
     if (count != 3 && count != 4) return trouble("usage", "embed BOOK NOTE [MILLISECONDS]");
-    char *end = 0;
-    unsigned long milliseconds = count == 4 ? strtoul(words[3], &end, 10) : 0;
-    if (end && (*end || milliseconds > 1000000)) return trouble(words[3], "no number of milliseconds up to 1,000,000");
+    uint64_t milliseconds = 0;
+    if (count == 4 && !read_number(words[3], &milliseconds)) return trouble(words[3], "no number of milliseconds up to 1,000,000");
     held book = {0}, note = {0};
     lent areas = {0};
     int status = read_file(words[1], CHULTARVI_BOOK_MOST, &book);
     if (!status) status = read_file(words[2], CHULTARVI_TEXT_MOST, &note);
     if (!status) status = take_areas(note.len, &areas);
-    if (!status) status = scan(&book, &note, milliseconds, &areas);
+    if (!status) status = scan(&book, &note, budget_of(&book, &note, count == 4 ? &milliseconds : 0), &areas);
     free(book.bytes);
     free(note.bytes);
     free(areas.area);

@@ -142,6 +142,7 @@ try_example() {
     run 0 $RUN "$embed" "$work/a.book" "$work/license" 5
     out_is 'A, score 1.0000
   1 scorings'
+    run 1 $RUN "$embed" "$work/a.book" "$work/two" 0
     run 1 $RUN "$embed" "$work/a.book" "$work/long" 1
     err_has 'refused (12): stopped by the budget'
     out_is 'no licence as a whole, score 0.6667
@@ -162,8 +163,10 @@ refuse_example() {
     err_has "embed: $work/nowhere: No such file or directory"
     run 2 $RUN "$embed" "$work/a.book" "$work"
     err_has "embed: $work: cannot be read"
-    run 2 $RUN "$embed" "$work/a.book" "$work/two" soon
-    err_has 'soon: no number of milliseconds'
+    for wrong in soon '' -1 5x 1000001; do
+        run 2 $RUN "$embed" "$work/a.book" "$work/two" "$wrong"
+        err_has "$wrong: no number of milliseconds"
+    done
     run 2 $RUN "$embed"
     err_has 'embed BOOK NOTE [MILLISECONDS]'
 }
