@@ -42,12 +42,18 @@ need_archive() {
     }
     echo 'host: proving and building the archive (rt staticlib chultarvi)' >&2
     mkdir -p "$root/target"
-    : >"$root/target/archive.began"
-    (cd "$root" && rt staticlib chultarvi) >&2
-    touch -r "$root/target/archive.began" "$archive"
+    began=$(mktemp "$root/target/archive.XXXXXX")
+    (cd "$root" && rt staticlib chultarvi) >&2 || {
+        rm -f "$began"
+        exit 2
+    }
+    touch -r "$began" "$archive"
+    rm -f "$began"
 }
 
+# by their paths from the root, where all compiling is done
 sources='host/cli/*.c'
+headers='include/chultarvi.h host/records.h'
 
 # stale FILE OTHER...: is one of the others newer than the file, or the file not there?
 stale() {
@@ -58,6 +64,22 @@ stale() {
     return 1
 }
 
+# build_to FILE WORD...: what the compiler makes of the words. It stands beside its place until it is whole, so that nobody runs half a program and
+# builds at the same time do not meet.
+build_to() {
+    made=$1
+    shift
+    mkdir -p "${made%/*}"
+    beside=$(mktemp "$made.XXXXXX")
+    if $CC $flags $LINK -o "$beside" "$@"; then
+        chmod 755 "$beside"
+        mv -f "$beside" "$made"
+    else
+        rm -f "$beside"
+        return 1
+    fi
+}
+
 # need_driver NAME FLAG...: target/NAME, made of host/drivers/NAME.c over the archive
 need_driver() {
     driver=$1
@@ -65,8 +87,8 @@ need_driver() {
     need "$CC" ${RUN%% *}
     need_archive
     cd "$root"
-    stale "target/$driver" "$archive" "host/drivers/$driver.c" include/chultarvi.h || return 0
-    $CC $flags "$@" $LINK -o "target/$driver" "host/drivers/$driver.c" "$archive"
+    stale "target/$driver" "$archive" "host/drivers/$driver.c" $headers || return 0
+    build_to "target/$driver" "$@" "host/drivers/$driver.c" "$archive"
 }
 
 need_program() {
@@ -74,9 +96,8 @@ need_program() {
     need_archive
     (
         cd "$root"
-        stale target/chultarvi "$archive" $sources host/cli/host.h include/chultarvi.h || exit 0
+        stale target/chultarvi "$archive" $sources host/cli/host.h $headers || exit 0
         echo 'host: building target/chultarvi' >&2
-        mkdir -p target
-        $CC $flags $LINK -o target/chultarvi $sources "$archive"
+        build_to target/chultarvi $sources "$archive"
     )
 }

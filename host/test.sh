@@ -1,7 +1,8 @@
 #!/bin/sh
 # shellcheck disable=SC1091,SC2086,SC2154
-# Passes all tests of the host: builds what is missing, runs host/tests/callers.sh, host/tests/face.c compiled as C and as C++, oracle/rows.py --quick, and
-# host/tests/line.sh over the command line.
+# Passes all tests of the host: builds what is missing, runs host/tests/callers.sh, host/tests/face.c compiled as C and as C++,
+# oracle/rows.py --quick, and line.sh, commands.sh, drivers.sh and install.sh of host/tests. All that it makes stands in a folder of its own under
+# target/, so that several runs at once do not meet.
 # The last line is 'N passed, M failed', the sum; the exit status is 0 only where M is 0.
 set -eu
 root=$(cd "$(dirname "$(readlink -f "$0")")/.." && pwd)
@@ -9,23 +10,26 @@ root=$(cd "$(dirname "$(readlink -f "$0")")/.." && pwd)
 need_program
 need "$CXX"
 cd "$root"
+folder=$(mktemp -d target/test.XXXXXX)
+trap 'rm -rf "$folder"' EXIT
+trap 'exit 2' HUP INT TERM
 warn='-O2 -Wall -Wextra -Wconversion -Wshadow -Werror'
 wraps='-Wl,--wrap=read,--wrap=write,--wrap=fsync,--wrap=close,--wrap=rename,--wrap=malloc'
 echo 'host: building the tests' >&2
 # Linked by the C compiler and without libm: the static one of Debian's cross packages names files that are not there.
-$CC -std=c11 -D_GNU_SOURCE $warn $LINK -o target/test_face_c host/tests/face.c "$archive"
-$CXX -x c++ -std=c++17 -fno-exceptions $warn -c -o target/test_face_cxx.o host/tests/face.c
-$CC $LINK -o target/test_face_cxx target/test_face_cxx.o "$archive"
-$CC -std=c11 -D_GNU_SOURCE $warn $LINK $wraps -o target/chultarvi-faults $sources host/tests/faults.c "$archive"
+$CC -std=c11 -D_GNU_SOURCE $warn $LINK -o "$folder/face_c" host/tests/face.c "$archive"
+$CXX -x c++ -std=c++17 -fno-exceptions $warn -c -o "$folder/face_cxx.o" host/tests/face.c
+$CC $LINK -o "$folder/face_cxx" "$folder/face_cxx.o" "$archive"
+$CC -std=c11 -D_GNU_SOURCE $warn $LINK $wraps -o "$folder/faulty" $sources host/tests/faults.c "$archive"
 
 passed=0 failed=0
 # part NAME COMMAND...: its last line is 'N passed, M failed'; a part that does not come so far has failed
 part() {
     name=$1
     shift
-    "$@" >target/test.out || true
-    sed '$d' target/test.out
-    last=$(tail -n 1 target/test.out)
+    "$@" >"$folder/out" || true
+    sed '$d' "$folder/out"
+    last=$(tail -n 1 "$folder/out")
     case $last in
     *' passed, '*' failed')
         echo "$name: $last"
@@ -40,14 +44,18 @@ part() {
     esac
 }
 part 'who scores' sh host/tests/callers.sh
-part 'the header from C' $RUN target/test_face_c
-part 'the header from C++' $RUN target/test_face_cxx
-export RUN
+part 'the header from C' $RUN "$folder/face_c"
+part 'the header from C++' $RUN "$folder/face_cxx"
+export RUN CC LINK
 if command -v python3 >/dev/null; then
     part 'answers and areas against a second reading' python3 oracle/rows.py --quick
 else
     echo 'not run here: answers and areas against a second reading (no python3)'
 fi
-part 'the command line' sh host/tests/line.sh target/chultarvi target/chultarvi-faults books/debian.book examples/note.txt
+set -- target/chultarvi "$folder/faulty" books/debian.book examples/note.txt
+part 'the command line: scan' sh host/tests/line.sh "$@"
+part 'the command line: the other commands' sh host/tests/commands.sh "$@"
+part 'the drivers' sh host/tests/drivers.sh
+part 'the installation' sh host/tests/install.sh
 echo "$passed passed, $failed failed"
 [ "$failed" = 0 ]

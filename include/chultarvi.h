@@ -1,9 +1,9 @@
 /* Chultarvi for C and C++: a licence-note scanner whose every answer is proved. examples/embed.c is a whole caller to copy; host/cli/ is a larger one,
    and host/tests/face.c calls everything here. host/install.sh puts header, archive, pkg-config file and CMake config in place.
 
-   Platform. libchultarvi.a is code for x86-64 in ELF, by the System V calling convention (Linux, the BSDs; not Windows). It needs no library and calls
-   nothing back. It has no unwind tables: a debugger or profiler cannot walk the stack through it, and since it calls nothing, nothing is thrown through
-   it. Floating point must round to nearest, as it does when a program starts. A call takes less than 8 KiB of stack.
+   Platform. libchultarvi.a is x86-64 code (ELF, the System V ABI: Linux and the BSDs, not Windows). Of other libraries it calls memcpy and memset only.
+   It has no unwind tables: a debugger or profiler cannot walk the stack through it; no exception can pass, since it calls nothing that throws. Floating
+   point must round to nearest, as it does when a program starts. A call takes less than 8 KiB of stack.
 
    Arguments. A slice is two arguments, a pointer and a count of elements (not bytes: for uint32_t one element is four bytes). A pointer may
    be null only where its count is 0; that is an empty slice. Pointers to uint32_t are aligned as C has it.
@@ -32,12 +32,12 @@
      entry    u32 count, from 1 on, u32 length, the bytes: two words of a-z, 0-9 and _ with one space between. Entries strictly rise by their bytes
    Stored texts are the records of kinds 2 to 4, numbered from 0 as they stand. chultarvi_compile makes tables; `chultarvi book` makes books.
 
-   Time, on the machine of docs/SPEED.md. A call first checks its books: some 2 ns for each byte of them. The first scoring of some lines sorts them:
-   at most 60 ns for each of their bytes. Against further stored texts the same lines are scored in 1 to 80 us each. Elimination scores the whole text
-   against all N stored texts. With optimize each pass does so again, and searches bounds: up to 55 scorings of other lines each.
-   The budget. Without optimize a scan makes N scorings, so a budget of N stops none. To save a document in t milliseconds, the check aside, lend a note
-   of n bytes a budget of N + 16,000 * t / n: the answer for the whole text is always there then, and 12 says that ranges may be missing. Scan the note
-   again later, with UINT64_MAX. */
+   What a scoring costs, measured (docs/SPEED.md). Each call checks its books first: some 2 ns for each byte of them. Scoring some lines sorts them, in up
+   to 60 ns for each of their bytes; against the next stored texts the same lines take 1 to 80 us each. Elimination scores the whole text against all
+   N stored texts: that is the licence's answer. With optimize each pass does so again, and a search for bounds scores some 40 to 55 other views.
+   A budget for Save. Without optimize a scan makes N scorings, and a budget of N never stops it: check, one sort and N steps. For ranges that may take
+   t milliseconds more, in a note of n bytes, lend N + 16,000 * t / n; after 12 the licence's answer is there and ranges may be missing. Whole scans,
+   with UINT64_MAX, are for later. */
 #ifndef CHULTARVI_H
 #define CHULTARVI_H
 
@@ -91,7 +91,7 @@ enum chultarvi_refusal {
 /* A refusal in words, in English, for people; "unknown" for a number that is none. Never null. */
 static inline const char *chultarvi_refusal_text(uint32_t refusal)
 {
-    static const char *const words[] = {
+    static const char *const refusal_texts[] = {
         "none",
         "the text is over 1,048,576 bytes",
         "the text is not ASCII",
@@ -106,7 +106,7 @@ static inline const char *chultarvi_refusal_text(uint32_t refusal)
         "the output is shorter than the table",
         "stopped by the budget",
     };
-    return refusal < sizeof words / sizeof *words ? words[refusal] : "unknown";
+    return refusal < sizeof refusal_texts / sizeof *refusal_texts ? refusal_texts[refusal] : "unknown";
 }
 
 /* How much to lend, in elements. `area` and `words`, for a text of n bytes; areas for CHULTARVI_TEXT_MOST serve every text, since a longer one is

@@ -77,14 +77,20 @@ static const char compile_help[] =
     "  -o OUT   write the table into this file; with '-o -' to standard output, and nothing else\n"
     "\n" ENDING;
 
-bool print_help(const char *command) {
+static const char *help_of(const char *command) {
     static const struct { const char *name, *text; } helps[] = {
         {"scan", scan_help}, {"list", list_help}, {"check", check_help}, {"book", book_help}, {"compile", compile_help},
     };
-    if (!command) return fputs(program_help, stdout), true;
+    if (!command) return program_help;
     for (size_t i = 0; i < sizeof helps / sizeof *helps; i++)
-        if (strcmp(command, helps[i].name) == 0) return fputs(helps[i].text, stdout), true;
-    return false;
+        if (strcmp(command, helps[i].name) == 0) return helps[i].text;
+    return 0;
+}
+
+bool print_help(const char *command) {
+    const char *text = help_of(command);
+    if (text) fputs(text, stdout);
+    return text != 0;
 }
 
 int wrong_words(const char *command, const char *why) {

@@ -88,9 +88,11 @@ typedef struct { char letter; const char *name; const char **value; bool *given;
    counts them with it. False where all is said, and *status is the exit status; then there is nothing more to do. */
 bool read_options(int *count, char **words, const option_place *places, size_t many, int *status);
 
-/* The reason why a file cannot be read. Gives the exit status. */
+/* words.c and memory.c, for these */
+
+/* Says why a file cannot be read. Gives the exit status. */
 int unreadable(const char *path, const char *why);
-/* One of them counts none of the letter s at its end. */
+/* What stands behind a word that is counted: "s", or nothing behind one. */
 const char *plural(size_t count);
 void free_memory(memory *m);
 

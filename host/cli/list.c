@@ -62,7 +62,9 @@ static void put_plain_record(const book_record *r, size_t number, totals before)
     int len = (int)r->len;
     if (r->kind == KIND_NAME) printf("%.*s:", len, (const char *)r->body);
     else if (r->kind == KIND_ALIAS) printf("%s %.*s", before.aliases ? "," : "; aliases", len, (const char *)r->body);
-    else printf("%s %s %" PRIu32 " bigrams, %" PRIu32 " distinct", before.texts ? ";" : "", kind_words(r->kind), get_number(r->body), get_number(r->body + 4));
+    else
+        printf("%s %s %" PRIu32 " bigrams, %" PRIu32 " distinct", before.texts ? ";" : "", kind_words(r->kind), get_number(r->body),
+               get_number(r->body + 4));
 }
 
 static void put_json_record(const book_record *r, size_t number, totals before) {
@@ -104,8 +106,8 @@ static void put_book(const lent_book *b, bool json) {
     }
     if (json || ferror(stdout)) return;
     put_plain(stdout, b->file);
-    printf(": %zu licence%s, %zu stored text%s, %zu alias%s, %zu byte%s\n", all.licences, plural(all.licences), all.texts, plural(all.texts), all.aliases,
-           all.aliases == 1 ? "" : "es", b->len, plural(b->len));
+    printf(": %zu licence%s, %zu stored text%s, %zu alias%s, %zu byte%s\n", all.licences, plural(all.licences), all.texts, plural(all.texts),
+           all.aliases, all.aliases == 1 ? "" : "es", b->len, plural(b->len));
 }
 
 int run_list(int count, char **words) {

@@ -49,18 +49,21 @@ static int fill_place(const char *command, const option_place *place) {
     return DONE;
 }
 
+/* One word's worth: a name goes to its place among the names. False where the reading ends. */
+static bool read_one(int which, char **words, int *names, const option_place *place, int *status) {
+    if (which == NAME) words[(*names)++] = optarg;
+    else if (which == 'h' || which == HELP) return !print_help(words[0]);
+    else *status = place ? fill_place(words[0], place) : wrong_option(words[0], words[optind - 1], which);
+    return *status == DONE;
+}
+
 bool read_options(int *count, char **words, const option_place *places, size_t many, int *status) {
     tables t = tables_of(places, many);
     int names = 1;
     opterr = 0;
     *status = DONE;
-    for (int which; (which = getopt_long(*count, words, t.letters, t.names, 0)) != -1;) {
-        const option_place *place = place_of(which, places, many);
-        if (which == NAME) words[names++] = optarg;
-        else if (which == 'h' || which == HELP) return print_help(words[0]), false;
-        else *status = place ? fill_place(words[0], place) : wrong_option(words[0], words[optind - 1], which);
-        if (*status != DONE) return false;
-    }
+    for (int which; (which = getopt_long(*count, words, t.letters, t.names, 0)) != -1;)
+        if (!read_one(which, words, &names, place_of(which, places, many), status)) return false;
     while (optind < *count) words[names++] = words[optind++];
     *count = names;
     return true;

@@ -1,34 +1,66 @@
 /* Answers the oracle's questions (oracle/README.md) by the archive: table, score, countbounds, clear, add, counteliminate, countdown; behind
    `border K` by the calls that take two books. Every area is filled with garbage before a call and looked at after it, and so is the name's part.
-   Build and run: host/drivers/answers.sh. Nothing here is part of the gate. */
-#include "../../include/chultarvi.h"
+   A question that cannot be held or read stops the program with a message and status 2. Build and run: host/drivers/answers.sh. Nothing here is part
+   of the gate. */
+#include "../records.h"
+#include <errno.h>
 #include <inttypes.h>
-#include <limits.h>
 #include <stdio.h>
 #include <stdlib.h>
-#include <string.h>
 
-enum { SPARE = 3, WORDS = 10 };
+enum { SPARE = 3, WORDS = 10, LINE_MOST = 16 << 20 };
 static uint8_t book[CHULTARVI_BOOK_MOST];
 static size_t book_len;
-static char name_above[CHULTARVI_NAME_MOST + 1];
+/* The name that the next text stands under, if it has the same; with no licence yet it is empty, which is no name. */
+static uint8_t name_above[CHULTARVI_NAME_MOST];
+static size_t name_above_len;
 
 static void stop(const char *why) { fprintf(stderr, "answers: %s\n", why); exit(2); }
+static void *take(size_t bytes) {
+    void *p = malloc(bytes ? bytes : 1);
+    if (!p) stop("no memory");
+    return p;
+}
+
+/* ---- what a question is made of */
 
 typedef struct { uint8_t *bytes; size_t len; } text_t;
+
+static uint8_t digit(char c) {
+    if (c >= '0' && c <= '9') return (uint8_t)(c - '0');
+    if (c >= 'a' && c <= 'f') return (uint8_t)(c - 'a' + 10);
+    stop("a text is not written in the digits 0 to 9 and a to f");
+    return 0;
+}
 static text_t unhex(const char *w) {
-    text_t t = {malloc(strlen(w) / 2 + 1), 0};
-    if (strcmp(w, "-") == 0) return t;
-    for (; w[0] && w[1]; w += 2) { unsigned x; if (sscanf(w, "%2x", &x) != 1) stop("no hex"); t.bytes[t.len++] = (uint8_t)x; }
+    size_t digits = strcmp(w, "-") == 0 ? 0 : strlen(w);
+    if (digits % 2) stop("a text has half a byte");
+    text_t t = {take(digits / 2), digits / 2};
+    for (size_t i = 0; i < t.len; i++) t.bytes[i] = (uint8_t)(digit(w[2 * i]) << 4 | digit(w[2 * i + 1]));
     return t;
 }
+static uint64_t number_of(const char *w, int base, uint64_t most) {
+    char *end;
+    errno = 0;
+    unsigned long long x = strtoull(w, &end, base);
+    if (errno || end == w || *end || *w == '-' || x > most) stop("a number is none, or too large");
+    return x;
+}
+static uint64_t whole(const char *w, uint64_t most) { return number_of(w, 10, most); }
+static uint32_t bits(float x) { uint32_t b; memcpy(&b, &x, 4); return b; }
+static float unbits(const char *w) { uint32_t b = (uint32_t)number_of(w, 16, UINT32_MAX); float x; memcpy(&x, &b, 4); return x; }
+
+/* ---- the areas */
 
 typedef struct { uint8_t *area; uint32_t *words, *results; size_t bytes, count, room; } areas_t;
 static areas_t lend(size_t n, size_t room) {
-    areas_t a = {0};
-    a.bytes = chultarvi_area_bytes(n) + SPARE; a.count = chultarvi_area_words(n) + SPARE; a.room = room;
-    a.area = malloc(a.bytes); a.words = malloc(4 * a.count); a.results = malloc(4 * (room + SPARE));
-    memset(a.area, 0xa5, a.bytes); memset(a.words, 0x5a, 4 * a.count); memset(a.results, 0xc3, 4 * (room + SPARE));
+    areas_t a = {.bytes = chultarvi_area_bytes(n) + SPARE, .count = chultarvi_area_words(n) + SPARE, .room = room};
+    a.area = take(a.bytes);
+    a.words = take(4 * a.count);
+    a.results = take(4 * (room + SPARE));
+    memset(a.area, 0xa5, a.bytes);
+    memset(a.words, 0x5a, 4 * a.count);
+    memset(a.results, 0xc3, 4 * (room + SPARE));
     return a;
 }
 /* both work areas are zero, and the results beyond what is recorded as they were */
@@ -36,37 +68,36 @@ static void give_back(areas_t a, size_t used) {
     for (size_t i = 0; i < a.bytes; i++) if (a.area[i]) stop("a byte of the area is left");
     for (size_t i = 0; i < a.count; i++) if (a.words[i]) stop("a number of the area is left");
     for (size_t i = used; i < a.room + SPARE; i++) if (a.results[i] != 0xc3c3c3c3u) stop("the results are written past the records");
-    free(a.area); free(a.words); free(a.results);
+    free(a.area);
+    free(a.words);
+    free(a.results);
 }
 
-static size_t put_record(uint8_t *to, uint32_t kind, const uint8_t *body, uint32_t len) {
-    for (int i = 0; i < 4; i++) to[i] = (uint8_t)(len >> 8 * i);
-    to[4] = (uint8_t)kind; to[5] = 0;
-    memmove(to + 6, body, len);
-    return 6 + (size_t)len;
+/* ---- books of the questions: each has room for CHULTARVI_BOOK_MOST bytes, and `at` of them are written */
+
+static size_t add_record(uint8_t *to, size_t at, uint32_t kind, const uint8_t *body, size_t len) {
+    if (CHULTARVI_BOOK_MOST - at < CHULTARVI_RECORD_HEAD + len) stop("a book is over 16,777,216 bytes");
+    return (size_t)(put_record(to + at, kind, body, len) - to);
 }
-static size_t put_table(uint8_t *to, uint32_t kind, text_t t) {
+static size_t add_table(uint8_t *to, size_t at, uint32_t kind, text_t t) {
     areas_t a = lend(t.len, 0);
-    size_t room = 64 + 64 * (t.len + 1);
-    uint8_t *out = malloc(room);
+    size_t room = chultarvi_table_bytes(t.len);
+    uint8_t *out = take(room);
     chultarvi_text_compiled c = chultarvi_compile(t.bytes, t.len, a.area, a.bytes, a.words, a.count, out, room);
-    if (c.refusal) stop("a text is not compiled");
+    if (c.refusal) stop(chultarvi_refusal_text(c.refusal));
     give_back(a, 0);
-    size_t n = put_record(to, kind, out, (uint32_t)c.len);
+    at = add_record(to, at, kind, out, c.len);
     free(out);
-    return n;
+    return at;
 }
-static uint32_t bits(float x) { uint32_t b; memcpy(&b, &x, 4); return b; }
-static float unbits(const char *w) { uint32_t b = (uint32_t)strtoul(w, 0, 16); float x; memcpy(&x, &b, 4); return x; }
-static uint32_t number_at(const uint8_t *p) { return p[0] | (uint32_t)p[1] << 8 | (uint32_t)p[2] << 16 | (uint32_t)p[3] << 24; }
 
 static void answer_table(const char *w) {
     text_t t = unhex(w);
     static uint8_t one[CHULTARVI_BOOK_MOST];
-    size_t n = put_table(one, 2, t);
-    printf("%" PRIu32, number_at(one + 6));
+    size_t n = add_table(one, 0, CHULTARVI_ORIGINAL, t);
+    printf("%" PRIu32, get_number(one + 6));
     for (size_t i = 14; i < n;) {
-        uint32_t count = number_at(one + i), len = number_at(one + i + 4);
+        uint32_t count = get_number(one + i), len = get_number(one + i + 4);
         printf(" %" PRIu32 ":", count);
         for (uint32_t k = 0; k < len; k++) printf("%02x", one[i + 8 + k]);
         i += 8 + len;
@@ -108,40 +139,46 @@ static void print_bounds(text_t t, books_t b, size_t start, size_t end, uint32_t
 static void answer_view(char **w, const char *border, bool whole_bounds) {
     text_t t = unhex(w[3]), licence = unhex(w[4]);
     static uint8_t one[CHULTARVI_BOOK_MOST];
-    size_t n = put_record(one, 1, (const uint8_t *)"A", 1);
-    n += put_table(one + n, 2, licence);
+    size_t n = add_record(one, 0, CHULTARVI_LICENCE_NAME, (const uint8_t *)"A", 1);
+    n = add_table(one, n, CHULTARVI_ORIGINAL, licence);
     uint32_t number;
     books_t b = beside_store(one, n, border, &number);
-    size_t start = strtoull(w[1], 0, 10), end = strtoull(w[2], 0, 10);
+    size_t start = whole(w[1], SIZE_MAX), end = whole(w[2], SIZE_MAX);
     if (whole_bounds) print_bounds(t, b, start, end, number);
     else printf("%08" PRIx32 "\n", bits(score_of(t, b, start, end, number)));
-    free(t.bytes); free(licence.bytes);
+    free(t.bytes);
+    free(licence.bytes);
 }
+/* A new name is a new licence of the store. */
 static void add(char **w) {
     text_t name = unhex(w[1]), t = unhex(w[3]);
-    name.bytes[name.len] = 0;
-    if (strcmp((char *)name.bytes, name_above) != 0) {
-        book_len += put_record(book + book_len, 1, name.bytes, (uint32_t)name.len);
-        strcpy(name_above, (char *)name.bytes);
-    }
-    book_len += put_table(book + book_len, (uint32_t)strtoul(w[2], 0, 10), t);
+    if (name.len < 1 || name.len > CHULTARVI_NAME_MOST) stop("a name is not of 1 to 64 bytes");
+    size_t at = book_len;
+    bool above = name.len == name_above_len && memcmp(name.bytes, name_above, name.len) == 0;
+    if (!above) at = add_record(book, at, CHULTARVI_LICENCE_NAME, name.bytes, name.len);
+    book_len = add_table(book, at, (uint32_t)whole(w[2], UINT16_MAX), t);
+    memcpy(name_above, name.bytes, name.len);
+    name_above_len = name.len;
     if (chultarvi_check_book(book, book_len).refusal) stop("the book is unsound");
     printf("ok\n");
-    free(name.bytes); free(t.bytes);
+    free(name.bytes);
+    free(t.bytes);
 }
 /* the store, or its licences before the border and those from it on */
 static books_t parted(const char *border) {
-    unsigned long before = border ? strtoul(border, 0, 10) : ULONG_MAX;
+    uint64_t before = border ? whole(border, UINT64_MAX) : UINT64_MAX;
     size_t at = 0;
-    for (; at < book_len; at += 6 + number_at(book + at)) if (book[at + 4] == 1 && before-- == 0) break;
+    for (; at < book_len; at = record_at(book, at).after) if (record_at(book, at).kind == CHULTARVI_LICENCE_NAME && before-- == 0) break;
     return (books_t){book, book + at, at, book_len - at, border != 0};
 }
 /* where the name that stored text k stands under starts in the store */
 static const uint8_t *name_of(uint32_t k) {
     const uint8_t *name = 0;
-    for (size_t at = 0; at < book_len; at += 6 + number_at(book + at)) {
-        if (book[at + 4] == 1) name = book + at + 6;
-        else if (k-- == 0) break;
+    book_record r;
+    for (size_t at = 0; at < book_len; at = r.after) {
+        r = record_at(book, at);
+        if (r.kind == CHULTARVI_LICENCE_NAME) name = r.body;
+        else if (is_stored(r.kind) && k-- == 0) break;
     }
     return name;
 }
@@ -168,31 +205,36 @@ static void print_named(const chultarvi_note_scanned *s, text_t t, books_t b) {
     if (chultarvi_name(b.first, b.second, s) != name || memcmp(name, s->name, s->len) != 0) stop("the name is not where it stands");
     if (s->second != (b.two && s->kind && name >= b.second)) stop("the name is not in the book that holds it");
 }
+/* What a scan is asked: of elimination optimize and passes count, of top-down the step. */
+typedef struct { float threshold, shallow; bool down, optimize; uint16_t passes; uint64_t step, budget; } scan_t;
+static scan_t scan_asked(char **w, bool down) {
+    scan_t q = {.threshold = unbits(w[1]), .shallow = unbits(w[2]), .down = down, .budget = whole(w[down ? 4 : 5], UINT64_MAX)};
+    if (down) q.step = whole(w[3], UINT64_MAX);
+    else q.optimize = strcmp(w[3], "1") == 0, q.passes = (uint16_t)whole(w[4], UINT16_MAX);
+    return q;
+}
+static chultarvi_note_scanned scan(scan_t q, text_t t, books_t b, areas_t a) {
+    if (q.down)
+        return b.two ? chultarvi_top_down_both(TEXT_AND_BOTH, q.threshold, q.shallow, q.step, q.budget, WORK_AND_RESULTS)
+                     : chultarvi_top_down(TEXT_AND_BOOK, q.threshold, q.shallow, q.step, q.budget, WORK_AND_RESULTS);
+    return b.two ? chultarvi_eliminate_both(TEXT_AND_BOTH, q.threshold, q.shallow, q.optimize, q.passes, q.budget, WORK_AND_RESULTS)
+                 : chultarvi_eliminate(TEXT_AND_BOOK, q.threshold, q.shallow, q.optimize, q.passes, q.budget, WORK_AND_RESULTS);
+}
 static void answer_scan(char **w, const char *border, bool down) {
-    size_t at = down ? 5 : 6;
-    text_t t = unhex(w[at]);
+    scan_t q = scan_asked(w, down);
+    text_t t = unhex(w[down ? 5 : 6]);
     books_t b = parted(border);
-    float threshold = unbits(w[1]), shallow = unbits(w[2]);
-    uint64_t budget = strtoull(w[at - 1], 0, 10), step = strtoull(w[3], 0, 10);
-    bool optimize = !down && strcmp(w[3], "1") == 0;
-    uint16_t passes = down ? 0 : (uint16_t)strtoul(w[4], 0, 10);
-    areas_t a = lend(t.len, down ? chultarvi_top_down_results(lines_of(t)) : chultarvi_elimination_results(optimize, passes));
-    chultarvi_note_scanned s;
-    if (down)
-        s = b.two ? chultarvi_top_down_both(TEXT_AND_BOTH, threshold, shallow, step, budget, WORK_AND_RESULTS)
-                  : chultarvi_top_down(TEXT_AND_BOOK, threshold, shallow, step, budget, WORK_AND_RESULTS);
-    else
-        s = b.two ? chultarvi_eliminate_both(TEXT_AND_BOTH, threshold, shallow, optimize, passes, budget, WORK_AND_RESULTS)
-                  : chultarvi_eliminate(TEXT_AND_BOOK, threshold, shallow, optimize, passes, budget, WORK_AND_RESULTS);
-    if (s.refusal != 0 && s.refusal != 12) stop("a scan is refused");
+    areas_t a = lend(t.len, down ? chultarvi_top_down_results(lines_of(t)) : chultarvi_elimination_results(q.optimize, q.passes));
+    chultarvi_note_scanned s = scan(q, t, b, a);
+    if (s.refusal && s.refusal != CHULTARVI_STOPPED_BY_BUDGET) stop(chultarvi_refusal_text(s.refusal));
     printf("%" PRIu32 " %" PRIu64 " %08" PRIx32 " ", s.refusal, s.count, bits(s.score));
     print_named(&s, t, b);
-    for (uint32_t k = 0; k < s.records; k++) {
-        const uint32_t *r = a.results + 4 * k;
+    for (size_t k = 0; k < s.records; k++) {
+        const uint32_t *r = a.results + CHULTARVI_RECORD_WIDTH * k;
         printf(" ; %" PRIu32 " %" PRIu32 " %" PRIu32 " %08" PRIx32, r[0], r[1], r[2], r[3]);
     }
     printf("\n");
-    give_back(a, 4 * (size_t)s.records);
+    give_back(a, CHULTARVI_RECORD_WIDTH * (size_t)s.records);
     free(t.bytes);
 }
 
@@ -204,22 +246,30 @@ static void answer(char **w, int n, const char *border) {
     else if (!strcmp(w[0], "countdown") && n == 6) answer_scan(w, border, true);
     else if (border) stop("no such question of two books");
     else if (!strcmp(w[0], "table") && n == 2) answer_table(w[1]);
-    else if (!strcmp(w[0], "clear") && n == 1) { book_len = 0; name_above[0] = 0; printf("ok\n"); }
+    else if (!strcmp(w[0], "clear") && n == 1) { book_len = 0; name_above_len = 0; printf("ok\n"); }
     else if (!strcmp(w[0], "add") && n == 4) add(w);
     else stop("no such question");
 }
 
+/* Parts the line at its spaces. One word more than a question may have suffices to find it wrong. */
+static int words_of(char *line, char *w[WORDS]) {
+    char *save = 0;
+    int n = 0;
+    for (char *p = strtok_r(line, " \n", &save); p && n < WORDS; p = strtok_r(0, " \n", &save)) w[n++] = p;
+    return n;
+}
+
 int main(void) {
-    size_t room = 16u << 20;
-    char *line = malloc(room);
-    while (fgets(line, (int)room, stdin)) {
-        char *w[WORDS] = {0}, *save = 0;
-        int n = 0;
-        for (char *p = strtok_r(line, " \n", &save); p && n < WORDS; p = strtok_r(0, " \n", &save)) w[n++] = p;
+    char *line = take(LINE_MOST);
+    while (fgets(line, LINE_MOST, stdin)) {
+        if (strlen(line) == LINE_MOST - 1 && line[LINE_MOST - 2] != '\n') stop("a question is over 16,777,214 bytes");
+        char *w[WORDS] = {0};
+        int n = words_of(line, w);
         if (n == 0 || w[0][0] == '#') continue;
         if (!strcmp(w[0], "border") && n > 2) answer(w + 2, n - 2, w[1]);
         else answer(w, n, 0);
-        fflush(stdout);
+        if (fflush(stdout) != 0) stop("an answer is not taken");
     }
+    free(line);
     return 0;
 }

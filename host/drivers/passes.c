@@ -1,19 +1,16 @@
 /* Shows that the passes, the sort and the table take n log n: compile of a text of n bytes and of 2n, of each kind that could be slow, timed
    in one run. Build and run: host/drivers/passes.sh. Nothing here is part of the gate. */
-#include <stdint.h>
+#include "../../include/chultarvi.h"
 #include <stdio.h>
 #include <stdlib.h>
 #include <string.h>
 #include <time.h>
 
-typedef struct { uint32_t refusal; size_t len; } compiled;
-compiled chultarvi_compile(const uint8_t *text, size_t n, uint8_t *area, size_t area_len, uint32_t *words, size_t words_len,
-                           uint8_t *out, size_t out_len);
-
-enum { MOST = 1048576, LINES = 65536 };
+enum { MOST = CHULTARVI_TEXT_MOST, LINES = CHULTARVI_LINES_MOST };
 static uint8_t text[MOST], *area, *out;
 static uint32_t *words;
-static const size_t out_len = (size_t)64 * MOST;
+
+static void stop(const char *why) { fprintf(stderr, "passes: %s\n", why); exit(2); }
 
 /* The same draw in each run. */
 static uint32_t draw(void) {
@@ -67,27 +64,30 @@ static const struct { const char *name; void (*fill)(size_t); size_t most; } kin
 static double seconds(size_t n) {
     struct timespec s, e;
     clock_gettime(CLOCK_PROCESS_CPUTIME_ID, &s);
-    compiled c = chultarvi_compile(text, n, area, 8 * n + 64, words, 12 * n + 64, out, out_len);
+    chultarvi_text_compiled c =
+        chultarvi_compile(text, n, area, chultarvi_area_bytes(n), words, chultarvi_area_words(n), out, chultarvi_table_bytes(n));
     clock_gettime(CLOCK_PROCESS_CPUTIME_ID, &e);
-    if (c.refusal != 0) { printf("refusal %u\n", c.refusal); exit(1); }
+    if (c.refusal) stop(chultarvi_refusal_text(c.refusal));
     return (double)(e.tv_sec - s.tv_sec) + 1e-9 * (double)(e.tv_nsec - s.tv_nsec);
 }
 
+static void best_of(double *best, void (*fill)(size_t), size_t n) {
+    fill(n);
+    double t = seconds(n);
+    if (t < *best) *best = t;
+}
+
 int main(void) {
-    area = malloc((size_t)8 * MOST + 64);
-    words = malloc(((size_t)12 * MOST + 64) * sizeof *words);
-    out = malloc(out_len);
-    if (!area || !words || !out) return 1;
+    area = malloc(chultarvi_area_bytes(MOST));
+    words = malloc(chultarvi_area_words(MOST) * sizeof *words);
+    out = malloc(chultarvi_table_bytes(MOST));
+    if (!area || !words || !out) stop("no memory");
     for (size_t i = 0; i < sizeof kinds / sizeof *kinds; i++) {
         size_t most = kinds[i].most, n = most / 2;
         double half = 1e9, whole = 1e9;
         for (int turn = 0; turn < 15; turn++) { /* in turns, and the best of each */
-            kinds[i].fill(n);
-            double t = seconds(n);
-            if (t < half) half = t;
-            kinds[i].fill(most);
-            t = seconds(most);
-            if (t < whole) whole = t;
+            best_of(&half, kinds[i].fill, n);
+            best_of(&whole, kinds[i].fill, most);
         }
         printf("%-18s %7zu bytes %8.2f ms, %7zu bytes %8.2f ms, %5.1f ns a byte, %.2f times\n",
                kinds[i].name, n, 1e3 * half, most, 1e3 * whole, 1e9 * whole / (double)most, whole / half);

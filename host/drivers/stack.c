@@ -1,10 +1,9 @@
 /* How much stack each export takes: it runs in a thread whose stack was painted before, and the paint that is gone is counted, less what a
    thread takes that calls nothing. Build and run: host/drivers/stack.sh. Nothing here is part of the gate. */
-#include "../../include/chultarvi.h"
+#include "../records.h"
 #include <pthread.h>
 #include <stdio.h>
 #include <stdlib.h>
-#include <string.h>
 
 enum { STACK = 1 << 20, PAINT = 0xa5, PASSES = 3 };
 static const uint64_t WHOLE = UINT64_MAX;
@@ -24,7 +23,7 @@ static size_t book_len;
 #define RESULTS c->results, chultarvi_top_down_results(c->text.lines) + chultarvi_elimination_results(true, PASSES)
 static void nothing(call_t *c) { c->refusal = 0; }
 static void check(call_t *c) { c->refusal = chultarvi_check_book(book, book_len).refusal; }
-static void compile(call_t *c) { c->refusal = chultarvi_compile(TEXT, AREAS, c->out, 16 * c->text.len + 64).refusal; }
+static void compile(call_t *c) { c->refusal = chultarvi_compile(TEXT, AREAS, c->out, chultarvi_table_bytes(c->text.len)).refusal; }
 static void score(call_t *c) { c->refusal = chultarvi_score(TEXT, book, book_len, 0, c->text.lines, 0, AREAS).refusal; }
 static void bounds(call_t *c) { c->refusal = chultarvi_bounds(TEXT, book, book_len, 0, c->text.lines, 0, AREAS).refusal; }
 static void eliminate(call_t *c) {
@@ -58,7 +57,8 @@ static size_t paint_gone(call_t *c) {
     return STACK - low;
 }
 static size_t used(text_t text, void (*run)(call_t *)) {
-    call_t c = {nothing, text, room(chultarvi_area_bytes(text.len)), room(16 * text.len + 64), room(4 * chultarvi_area_words(text.len)), 0, 0};
+    call_t c = {.run = nothing, .text = text, .area = room(chultarvi_area_bytes(text.len)), .out = room(chultarvi_table_bytes(text.len))};
+    c.words = room(4 * chultarvi_area_words(text.len));
     c.results = room(4 * (chultarvi_top_down_results(text.lines) + chultarvi_elimination_results(true, PASSES)));
     size_t base = paint_gone(&c);
     c.run = run;
@@ -80,23 +80,19 @@ static text_t words_of(size_t n, uint32_t most, uint32_t row) {
     for (size_t i = 0; i < n; i++) t.lines += t.bytes[i] == '\n';
     return t;
 }
-static size_t put_record(uint8_t *to, uint8_t kind, const uint8_t *body, size_t len) {
-    for (int i = 0; i < 4; i++) to[i] = (uint8_t)(len >> 8 * i);
-    to[4] = kind; to[5] = 0;
-    memcpy(to + 6, body, len);
-    return 6 + len;
-}
 /* two licences, the first a piece of the text, so that a scan finds what it must look at again */
 static void make_book(text_t text) {
-    uint32_t *words = room(4 * chultarvi_area_words(text.len));
-    uint8_t *area = room(chultarvi_area_bytes(text.len)), *out = room(16 * text.len + 64);
+    size_t area_len = chultarvi_area_bytes(text.len), words_len = chultarvi_area_words(text.len), out_len = chultarvi_table_bytes(text.len);
+    uint32_t *words = room(4 * words_len);
+    uint8_t *area = room(area_len), *out = room(out_len);
     size_t sizes[] = {text.len / 2, text.len / 64};
     book = room(CHULTARVI_BOOK_MOST), book_len = 0;
     for (int i = 0; i < 2; i++) {
-        chultarvi_text_compiled t = chultarvi_compile(text.bytes, sizes[i], area, chultarvi_area_bytes(text.len), words, chultarvi_area_words(text.len), out, 16 * text.len + 64);
+        chultarvi_text_compiled t = chultarvi_compile(text.bytes, sizes[i], area, area_len, words, words_len, out, out_len);
         if (t.refusal) stop("a licence is refused");
-        book_len += put_record(book + book_len, 1, (const uint8_t *)(i == 0 ? "A" : "B"), 1);
-        book_len += put_record(book + book_len, 2, out, t.len);
+        if (CHULTARVI_BOOK_MOST - book_len < 2 * CHULTARVI_RECORD_HEAD + 1 + t.len) stop("the book is too large");
+        uint8_t *p = put_record(book + book_len, CHULTARVI_LICENCE_NAME, i == 0 ? "A" : "B", 1);
+        book_len = (size_t)(put_record(p, CHULTARVI_ORIGINAL, out, t.len) - book);
     }
     free(words); free(area); free(out);
 }

@@ -1,7 +1,7 @@
 /* Tests of the library as C and C++ see it: this file is compiled as both. Layout of every answer; every export, over one book and over two; every
    refusal with the neighbour that is not refused; and after each call, what the lent areas hold and where the name stands. Prints what fails, then
    'N passed, M failed'. */
-#include "../../include/chultarvi.h"
+#include "../records.h"
 #include <assert.h>
 #include <float.h>
 #include <math.h>
@@ -251,16 +251,6 @@ static void test_texts(void) {
 }
 
 /* A sound book of `size` bytes with one text, whose entries are `aaaa aaaa` and up; the last is as long as it takes. */
-static uint8_t *put_number(uint8_t *p, size_t x) {
-    for (int i = 0; i < 4; i++) *p++ = (uint8_t)(x >> 8 * i);
-    return p;
-}
-static uint8_t *put_head(uint8_t *p, size_t len, uint8_t kind) {
-    p = put_number(p, len);
-    *p++ = kind;
-    *p++ = 0;
-    return p;
-}
 static void large_book(uint8_t *b, size_t size) {
     size_t entries = (size - 21) / 17, rest = (size - 21) % 17;
     uint8_t *p = put_head(b, 1, 1);
@@ -427,6 +417,27 @@ static void test_table_bytes(void) {
         check(compile(&l, "areas, words of two letters").refusal == 0, "chultarvi_table_bytes, words of two letters");
         check(compile(&u, "areas, short URLs").refusal == 0, "chultarvi_table_bytes, short URLs");
     }
+}
+
+/* The words of each refusal, which stand in the header; the numbers are the library's. */
+static void test_refusal_texts(void) {
+    static const char *const part[] = {"none", "1,048,576", "ASCII", "65,536", "sound",  "stored", "limit",
+                                       "step", "view",      "number", "area",  "output", "budget"};
+    static_assert(CHULTARVI_ANSWERED == 0 && CHULTARVI_REFUSED_BOOK_UNSOUND == 4 && CHULTARVI_STOPPED_BY_BUDGET == 12, "numbers of refusals");
+    for (uint32_t n = 0; n < 13; n++) check(strstr(chultarvi_refusal_text(n), part[n]) != 0, part[n]);
+    check(strcmp(chultarvi_refusal_text(13), "unknown") == 0, "13 is no refusal");
+    check(strcmp(chultarvi_refusal_text(UINT32_MAX), "unknown") == 0, "the largest number is no refusal");
+    lent l = lend("\x80", 1, book_a, BOOK_A);
+    check(score(&l, 0, 1, 0, "areas").refusal == CHULTARVI_REFUSED_TEXT_NOT_ASCII, "an answer's refusal is one of the enum");
+    enum chultarvi_refusal held = CHULTARVI_REFUSED_AREA_SMALL;
+    check(held == 10 && strstr(chultarvi_refusal_text(held), "area") != 0, "the enum as a type");
+}
+
+/* The version as a string says the same as its numbers. */
+static void test_version(void) {
+    char numbers[64];
+    snprintf(numbers, sizeof numbers, "%d.%d.%d", CHULTARVI_VERSION_MAJOR, CHULTARVI_VERSION_MINOR, CHULTARVI_VERSION_PATCH);
+    check(strcmp(numbers, CHULTARVI_VERSION) == 0, "the version's numbers");
 }
 
 static void test_budget(void) {
@@ -663,6 +674,8 @@ int main(void) {
     form = ALONE;
     test_output();
     test_table_bytes();
+    test_refusal_texts();
+    test_version();
     make_books();
     test_names();
     test_numbers();

@@ -1,111 +1,11 @@
 #!/bin/sh
-# shellcheck disable=SC2015,SC2059,SC2086
-# Tests of the command line, run by host/test.sh: line.sh PROGRAM FAULTY BOOK NOTE, where FAULTY is the program with host/tests/faults.c and
-# RUN what runs programs of x86-64. Each test is: run STATUS WORDS..., then what must stand in $out and $err. Prints what fails, then
-# 'N passed, M failed'.
+# shellcheck disable=SC1091,SC2015,SC2034,SC2059,SC2086,SC2154
+# Tests of the subcommand scan, run by host/test.sh: line.sh PROGRAM FAULTY BOOK NOTE (common.sh says which they are). The other commands are tested
+# in commands.sh.
 set -u
-work=$(mktemp -d)
-chmod 755 "$work"
-trap 'rm -rf "$work"' EXIT
-# copies, so that a path with spaces or one closed to others does no harm
-cp "$1" "$work/program" && cp "$2" "$work/faulty" && cp "$3" "$work/default.book" && cp "$4" "$work/example" && cd "$work" || exit 2
-program="${RUN-} ./program" faulty="${RUN-} ./faulty"
-LC_ALL=C
-export LC_ALL
-passed=0 failed=0
-
-good() { passed=$((passed + 1)); }
-bad() {
-    failed=$((failed + 1))
-    printf 'failed: %s\n  last command: %s\n  out: %s\n  err: %s\n' "$1" "$ran" "$out" "$err"
-}
-# judge STATUS: of the command that has just run
-judge() { [ "$got" = "$1" ] && good || bad "exit status $got, not $1"; }
-run() {
-    want=$1
-    shift
-    ran=$*
-    $program "$@" >.out 2>.err </dev/null
-    got=$?
-    out=$(cat .out) err=$(cat .err)
-    judge "$want"
-}
-# from FILE STATUS WORDS...: the same with standard input
-from() {
-    input=$1 want=$2
-    shift 2
-    ran="$* <$input"
-    $program "$@" >.out 2>.err <"$input"
-    got=$?
-    out=$(cat .out) err=$(cat .err)
-    judge "$want"
-}
-# broken FAULT STATUS WORDS...: the same with a fault
-broken() {
-    fault=$1 want=$2
-    shift 2
-    ran="FAULT=$fault $*"
-    FAULT=$fault $faulty "$@" >.out 2>.err </dev/null
-    got=$?
-    out=$(cat .out) err=$(cat .err)
-    judge "$want"
-}
-out_is() { [ "$out" = "$1" ] && good || bad "standard output is not: $1"; }
-err_is() { [ "$err" = "$1" ] && good || bad "standard error is not: $1"; }
-err_has() { case $err in *"$1"*) good ;; *) bad "standard error has no: $1" ;; esac; }
-out_has() { case $out in *"$1"*) good ;; *) bad "standard output has no: $1" ;; esac; }
-same() { cmp -s "$1" "$2" && good || bad "$1 and $2 differ"; }
-holds() { [ "$(cat "$1")" = "$2" ] && good || bad "$1 does not hold: $2"; }
-# json EXPRESSION WANT: what a JSON parser makes of the lines of standard output, each an element of `notes`
-if command -v python3 >/dev/null; then
-    json() {
-        value=$(python3 -c 'import json, os, sys
-notes = [json.loads(line) for line in open(".out", "rb")]
-print(json.dumps(eval(sys.argv[1])))' "$1" 2>&1)
-        [ "$value" = "$2" ] && good || bad "JSON: $1 is $value, not $2"
-    }
-else
-    echo 'not run here: JSON read by a parser (no python3)'
-    json() { :; }
-fi
-no_beside() { [ -z "$(find . -name '.chultarvi.*')" ] && good || { bad 'a file beside is left'; rm -f ./.chultarvi.*; }; }
-
-printf 'My First License' >license
-printf 'copyright 20xx me irl\n// My First License\nfn hello() {\n ...' >two
-printf '\002\000\000\000\002\000\000\000\001\000\000\000\015\000\000\000first license\001\000\000\000\010\000\000\000my first' >table
-{ printf '\001\000\000\000\001\000A\055\000\000\000\002\000'; cat table; } >a.book
-: >empty
-spaces() { head -c "$1" /dev/zero | tr '\0' ' '; }
-spaces 1048576 >most
-spaces 1048577 >over
-head -c 65535 /dev/zero | tr '\0' '\n' >lines
-head -c 65536 /dev/zero | tr '\0' '\n' >lines-over
-printf 'one\ntwo \303\244\n' >umlaut
-cut_book() { head -c 57 a.book; }
-cut_book >cut.book
-help='chultarvi --help tells more'
+. "$(dirname "$0")/common.sh"
 
 # usage
-run 0 --help
-out_has 'Exit status: 0 all is answered'
-run 0 --version
-out_is 'chultarvi 0.1.0'
-run 2
-err_is "chultarvi: no subcommand; $help"
-run 2 frob
-err_is "chultarvi: frob: no such subcommand; $help"
-run 2 check
-err_is "chultarvi: check wants one book; $help"
-run 2 check a.book a.book
-run 2 compile
-err_is "chultarvi: compile wants one text; $help"
-run 2 compile license two
-run 2 compile license -o
-err_is "chultarvi: -o wants one file; $help"
-run 2 compile -x license
-err_is "chultarvi: compile has no option but -o; $help"
-run 2 book out
-err_is "chultarvi: book wants OUT and LIST; $help"
 run 2 scan a.book
 err_is "chultarvi: scan wants a book and at least one note; $help"
 run 2 scan --frob a.book two
@@ -134,126 +34,6 @@ run 2 scan --top-down 1 --passes 3 a.book two
 err_is 'chultarvi: --passes and --no-optimize have no meaning with --top-down'
 run 2 scan --no-optimize --passes 3 a.book two
 err_is 'chultarvi: --passes has no meaning with --no-optimize'
-
-# check
-run 0 check a.book
-out_is 'a.book: sound, 1 stored text'
-run 0 check empty
-out_is 'empty: sound, 0 stored texts'
-run 1 check cut.book
-err_is 'chultarvi: cut.book: refused (4): the book is not sound'
-from a.book 0 check -
-out_is '-: sound, 1 stored text'
-run 1 check /dev/zero
-err_is 'chultarvi: /dev/zero: refused (4): the book is not sound; it is over 16,777,216 bytes'
-run 2 check nowhere
-err_is 'chultarvi: nowhere: cannot be read: No such file or directory'
-run 2 check .
-err_is 'chultarvi: .: cannot be read: Is a directory'
-run 0 check default.book
-out_has 'sound, 28 stored texts'
-
-# compile
-run 0 compile license
-out_is 'license: a table of 45 bytes, 2 bigrams, 2 of them distinct'
-run 0 compile -o made license
-same made table
-run 0 compile license -o -
-same .out table
-from license 0 compile - -o -
-same .out table
-run 0 compile empty
-out_is 'empty: a table of 8 bytes, 0 bigrams, 0 of them distinct'
-run 0 compile most
-run 1 compile over
-err_is 'chultarvi: over: refused (1): the text is over 1,048,576 bytes'
-run 1 compile /dev/zero
-err_is 'chultarvi: /dev/zero: refused (1): the text is over 1,048,576 bytes'
-run 1 compile umlaut -o made
-err_is 'chultarvi: umlaut: refused (2): the text is not ASCII: line 2, byte 5 is 0xc3; nothing is filtered, so change it before the scan'
-same made table
-run 0 compile lines
-run 1 compile lines-over
-err_is 'chultarvi: lines-over: refused (3): the text is over 65,536 lines'
-run 2 compile nowhere
-err_is 'chultarvi: nowhere: cannot be read: No such file or directory'
-# words of one letter and addresses, which grow most: the table still fits what the program takes
-awk 'BEGIN { for (i = 0; i < 349000; i++) printf "%c ", 97 + i * i % 26 }' >letters
-run 0 compile letters
-awk 'BEGIN { for (i = 0; i < 104857; i++) printf "http://%c a", 97 + i % 26 }' | head -c 1048576 >urls
-run 0 compile urls
-
-# book
-printf '# a comment\n\nA original license\n' >list
-run 0 book made.book list
-out_is 'made.book: 58 bytes, 1 stored text'
-same made.book a.book
-from list 0 book made.book -
-same made.book a.book
-printf 'B alias x\nB  original\ttwo\nA header two\nA alias z\nA alternate two\nA alternate license\nA alias b\nA original license' >list
-run 0 book made.book list
-out_has '5 stored texts'
-printf 'A original license\nA alternate two\nA alternate license\nA header two\nA alias b\nA alias z\nB original two\nB alias x\n' >list
-run 0 book sorted.book list
-same made.book sorted.book
-cp license 'a file with  spaces'
-printf 'A original a file with  spaces\n' >list
-run 0 book made.book list
-same made.book a.book
-name=$(spaces 64 | tr ' ' n)
-echo "$name original license" >list
-run 0 book long.book list
-run 0 scan long.book license
-out_has "license: $name, original, score 1.0000"
-cp a.book stands.book
-refused() { # refused LIST MESSAGE: and what stood there stays
-    printf "$1" >list
-    run 1 book stands.book list
-    err_has "$2"
-    same stands.book a.book
-}
-refused "n$name original license\n" 'list: line 1: the name is not 1 to 64 bytes of 33 to 126; a line is NAME KIND FILE'
-refused 'N\303\244me original license\n' 'line 1: the name is not'
-refused 'A frob license\n' 'line 1: the kind is not original, alternate, header or alias'
-refused 'A\n' 'line 1: the kind is not'
-refused '# x\nA original\n' 'line 2: no file'
-refused 'A original license\nA alias\n' 'line 2: no alias'
-refused 'A original license\nA alias b c\n' 'line 2: the alias is not 1 to 64 bytes of 33 to 126'
-refused 'A original license\nA original two\n' 'line 2: A has two originals'
-refused 'B original license\nA header two\n' 'line 2: A has no original'
-refused 'A alias b\n' 'line 1: A has no original'
-refused 'A original license\nA header two\nA header license\nA header two\n' 'line 4: A stands twice with the same kind and file'
-refused 'A original license\nA alias b\nA alias c\nA alias b\n' 'line 4: A stands twice with the same kind and file'
-refused 'A original umlaut\n' 'umlaut: refused (2): the text is not ASCII: line 2, byte 5 is 0xc3'
-refused 'A original over\n' 'over: refused (1)'
-refused 'A original lines-over\n' 'lines-over: refused (3)'
-err_has 'stands.book: no new book stands there'
-printf 'A original nowhere\n' >list
-run 2 book stands.book list
-err_has 'chultarvi: nowhere: cannot be read: No such file or directory'
-same stands.book a.book
-run 2 book stands.book nowhere
-printf 'A original license\000\n' >list
-run 2 book stands.book list
-err_is 'chultarvi: list: cannot be read: a list is text, and this has a zero byte'
-run 2 book stands.book /dev/zero
-err_is 'chultarvi: /dev/zero: cannot be read: over 4,194,304 bytes'
-yes x | head -c 4194304 >list
-run 1 book stands.book list
-awk 'BEGIN { for (i = 0; i < 1024; i++) printf "N%04d original license\n", i }' >list
-run 0 book many.book list
-out_has '1024 stored texts'
-echo 'N2000 original license' >>list
-run 1 book many.book list
-err_has '1025 texts; a book has at most 1,024'
-run 0 book empty.book empty
-out_is 'empty.book: 0 bytes, 0 stored texts'
-awk 'BEGIN { for (i = 0; i < 149000; i++) printf "%c%05x ", 103 + i % 20, i }' >wide
-for i in 1 2 3 4 5 6; do echo "N$i original wide"; done >list
-run 1 book stands.book list
-err_has 'list: the book would be over 16,777,216 bytes'
-same stands.book a.book
-
 # scan: the marked text, for people
 run 0 scan a.book two
 out_is 'two: no licence as a whole (best score 0.6667)
@@ -540,105 +320,17 @@ broken memory-75 0 scan a.book license
 broken memory-75 2 scan a.book --beside b.book license
 err_has 'no memory for'
 broken memory-91 0 scan a.book --beside b.book license
-
-# what is written stands whole, or what stood there stays
-cp table old
-fails() { # fails FAULT STATUS MESSAGE
-    printf 'old' >kept
-    broken "$1" "$2" compile license -o kept
-    err_has "$3"
-    holds kept old
-    no_beside
-}
-fails write 2 'kept: not written: No space left on device; what was there is unchanged'
-fails fsync 2 'kept: not written: Input/output error; what was there is unchanged'
-fails close 2 'kept: not written: Disk quota exceeded; what was there is unchanged'
-fails rename 2 'kept: not written: Permission denied; what was there is unchanged'
-fails read 2 'license: cannot be read: Input/output error'
-fails malloc 2 'no memory for'
-printf 'old' >kept
-broken rename-kill 137 compile license -o kept
-holds kept old
-rm -f ./.chultarvi.*
-broken write-kill 137 book kept list
-holds kept old
-rm -f ./.chultarvi.*
-broken rename-term 143 compile license -o kept
-same kept table
-no_beside
-printf 'old' >kept
-broken write-slow 0 compile license -o kept
-same kept table
-printf 'old' >kept
-broken folder 2 compile license -o kept
-err_has 'kept: written, but its folder is not flushed to disk: Input/output error'
-same kept table
-broken folder-unable 0 compile license -o kept
 broken read 2 scan a.book two
 err_has 'a.book: cannot be read: Input/output error'
-broken read 2 book kept list
-err_has 'list: cannot be read: Input/output error'
-printf 'A original license\n' >list
-cp a.book kept
-broken write 2 book kept list
-err_has 'kept: not written: No space left on device'
-same kept a.book
-no_beside
-run 2 compile license -o nowhere/out
-err_has 'nowhere/out: not written: No such file or directory'
-run 2 compile license -o .
-err_is 'chultarvi: .: not written: it stands there and is no regular file'
-run 2 compile license -o /dev/null
-err_is 'chultarvi: /dev/null: not written: it stands there and is no regular file'
-ln -s nothing loose
-run 2 compile license -o loose
-err_has 'loose: not written'
-printf old >real
-chmod 640 real
-ln -s real link
-run 0 compile license -o link
-same real table
-[ -L link ] && [ "$(stat -c %a real)" = 640 ] && good || bad 'a link or a mode is lost'
-mask=$(umask)
-umask 027
-run 0 compile license -o fresh
-umask "$mask"
-[ "$(stat -c %a fresh)" = 640 ] && good || bad 'a new file does not follow the umask'
-no_beside
 
 # standard output that takes nothing
-for words in 'check a.book' 'compile license' 'compile license -o -' 'scan a.book two' 'scan --json a.book two license' --help; do
+for words in 'scan a.book two' 'scan --json a.book two license'; do
     ran="$words >/dev/full"
     $program $words >/dev/full 2>.err
     got=$? out='' err=$(cat .err)
     judge 2
     err_is 'chultarvi: standard output: No space left on device'
 done
-
-# a disk that is full: a small one of its own where that is allowed, else the shell's limit on the size of files
-mkdir small
-if unshare -m sh -c 'mount -t tmpfs -o size=64k none small' 2>/dev/null; then
-    ran='compile wide onto a full disk'
-    unshare -m sh -c 'mount -t tmpfs -o size=64k none small && printf old >small/kept
-        '"$program"' compile wide -o small/kept 2>.err >.out
-        echo $? >.got; cat small/kept >.kept; ls -A small >.left'
-    got=$(cat .got) out=$(cat .out) err=$(cat .err)
-    judge 2
-    err_has 'No space left on device; what was there is unchanged'
-    holds .kept old
-    holds .left kept
-else
-    echo 'not run here: a full disk (no mount of its own allowed)'
-fi
-printf old >kept
-ran='compile wide under ulimit -f'
-(ulimit -f 1; $program compile wide -o kept 2>&1) >.err.limit
-got=$? out='' err=$(cat .err.limit)
-judge 2
-err_has 'kept: not written: File too large; what was there is unchanged'
-holds kept old
-no_beside
-
 # a note that may not be read
 printf secret >closed
 chmod 000 closed
@@ -671,5 +363,4 @@ fi
 run 0 scan a.book two license
 err_is ''
 
-echo "$passed passed, $failed failed"
-[ "$failed" = 0 ]
+the_end

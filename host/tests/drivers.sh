@@ -1,0 +1,102 @@
+#!/bin/sh
+# shellcheck disable=SC1091,SC2015,SC2086,SC2154
+# Tests of the drivers, run by host/test.sh: that they take the library's calls and the records from the headers, and that host/drivers/answers.c
+# holds what it is asked, or stops with a message and status 2. Prints what fails, then 'N passed, M failed'.
+set -eu
+root=$(cd "$(dirname "$(readlink -f "$0")")/../.." && pwd)
+. "$root/host/build.sh"
+need_driver answers
+need_driver rows
+cd "$root"
+work=$(mktemp -d)
+trap 'rm -rf "$work"' EXIT
+passed=0 failed=0
+good() { passed=$((passed + 1)); }
+bad() {
+    failed=$((failed + 1))
+    echo "failed: $1"
+}
+
+# nowhere else than in the headers
+declared='^[a-z].* chultarvi_[a-z_]+\([^=]*;$'
+if grep -nE "$declared" host/drivers/*.c host/tests/*.c host/cli/*.c; then bad 'a call is declared again'; else good; fi
+if grep -lE '>> 8 ?\* ?' host/cli/*.c host/drivers/*.c host/tests/*.c; then bad 'a record is written elsewhere than in host/records.h'; else good; fi
+if grep -L 'records\.h\|chultarvi\.h' host/drivers/*.c | grep .; then bad 'a driver without the header'; else good; fi
+
+# answers_are WANT: to the questions in the file `asked`
+answers_are() {
+    $RUN target/answers <"$work/asked" >"$work/out" 2>"$work/err" && [ "$(cat "$work/out")" = "$1" ] && good || bad "answers are '$(cat "$work/out" "$work/err")', not: $1"
+}
+# stops MESSAGE: status 2, and the last line of what is said
+stops() {
+    got=0
+    ${instead:-$RUN target/answers} <"$work/asked" >"$work/out" 2>"$work/err" || got=$?
+    [ "$got" = 2 ] && good || bad "status $got, not 2: $1"
+    [ "$(cat "$work/err")" = "answers: $1" ] && good || bad "said is '$(head -c 300 "$work/err")', not: $1"
+}
+hex() { od -An -v -tx1 | tr -d ' \n'; }
+ask() { printf '%s\n' "$@" >"$work/asked"; }
+licence=$(printf 'My First License' | hex)
+two=$(printf 'copyright 20xx me irl\n// My First License\nfn hello() {\n ...' | hex)
+name() { head -c "$1" /dev/zero | tr '\0' n | hex; }
+
+ask "table $licence" "score 0 4 $two $licence" "countbounds 0 4 $two $licence" "border 0 countbounds 0 4 $two $licence" "add $(name 64) 2 $licence" \
+    "counteliminate 3f666666 3f7d70a4 1 10 1000 $two" "border 0 counteliminate 3f666666 3f7d70a4 0 10 1000 $licence" "clear" "add 41 2 $licence" \
+    "countdown 3f666666 3f7d70a4 9 1000 $licence" "table -"
+answers_are "2 1:6669727374206c6963656e7365 1:6d79206669727374
+3f2aaaab
+8 1 2 3f800000
+8 1 2 3f800000
+ok
+0 20 3f2aaaab none ; 0 1 2 3f800000
+0 1 3f800000 0
+ok
+ok
+0 1 00000000 none
+0"
+
+ask "add $(name 65) 2 $licence"
+stops 'a name is not of 1 to 64 bytes'
+ask "add - 2 $licence"
+stops 'a name is not of 1 to 64 bytes'
+ask "add 41 3 $licence"
+stops 'the book is unsound'
+ask "add 41 65536 $licence"
+stops 'a number is none, or too large'
+for wrong in x -1 1x 18446744073709551616; do
+    ask "score $wrong 1 $two $licence"
+    stops 'a number is none, or too large'
+done
+ask "add 41 2 $licence" "counteliminate 3f666666 3f7d70a4 1 65536 1000 $two"
+stops 'a number is none, or too large'
+ask 'table 414'
+stops 'a text has half a byte'
+ask 'table 4g'
+stops 'a text is not written in the digits 0 to 9 and a to f'
+ask 'frob 1'
+stops 'no such question'
+ask 'border 1 clear'
+stops 'no such question of two books'
+ask 'table 41 41 41 41 41 41 41 41 41 41 41 41'
+stops 'no such question'
+{ printf 'table '; head -c 1048577 /dev/zero | hex; echo; } >"$work/asked"
+stops 'the text is over 1,048,576 bytes'
+{ printf 'table '; head -c 17000000 /dev/zero | tr '\0' 4; echo; } >"$work/asked"
+stops 'a question is over 16,777,214 bytes'
+# a table of some 3 MB, six times
+awk 'BEGIN { for (i = 0; i < 149000; i++) printf "%c%05x ", 103 + i % 20, i }' | hex >"$work/wide"
+for i in 1 2 3 4 5 6; do echo "add 4$i 2 $(cat "$work/wide")"; done >"$work/asked"
+stops 'a book is over 16,777,216 bytes'
+wraps='-Wl,--wrap=read,--wrap=write,--wrap=fsync,--wrap=close,--wrap=rename,--wrap=malloc'
+$CC $flags $LINK $wraps -o "$work/faulty" host/drivers/answers.c host/tests/faults.c "$archive"
+ask "table $licence"
+FAULT=malloc
+export FAULT
+instead="$RUN $work/faulty" stops 'no memory'
+unset FAULT
+got=0
+printf 'half a call' | $RUN target/rows >"$work/out" 2>"$work/err" || got=$?
+[ "$got" = 0 ] && [ ! -s "$work/out" ] && good || bad 'rows: half a call is answered'
+
+echo "$passed passed, $failed failed"
+[ "$failed" = 0 ]
