@@ -53,6 +53,7 @@ need_archive() {
 
 # by their paths from the root, where all compiling is done
 sources='host/cli/*.c'
+own_headers='host/cli/*.h'
 headers='include/chultarvi.h host/records.h'
 
 # stale FILE OTHER...: is one of the others newer than the file, or the file not there?
@@ -96,7 +97,7 @@ need_program() {
     need_archive
     (
         cd "$root"
-        stale target/chultarvi "$archive" $sources host/cli/host.h $headers || exit 0
+        stale target/chultarvi "$archive" $sources $own_headers $headers || exit 0
         echo 'host: building target/chultarvi' >&2
         build_to target/chultarvi $sources "$archive"
     )

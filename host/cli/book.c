@@ -176,10 +176,12 @@ static void put_text(book *b, entry *e, const memory *m, size_t len, entries *al
         no_room(b, e, all);
     } else if (c.refusal) {
         char why[MESSAGE_MOST];
-        refusal_message(why, c.refusal, m->text, len);
+        refusal_message(why, c.refusal, m->text, len, CHANGE_IT);
         refuse_file(all, e, REFUSED, why);
     } else {
-        if (get_number(body) == 0) refuse_file(all, e, DONE, "warning: no bigrams, so no note is like it; is this the right file?");
+        /* a name that has headers alone says so by an original from /dev/null */
+        bool meant = strcmp(e->file, "/dev/null") == 0;
+        if (get_number(body) == 0 && !meant) refuse_file(all, e, DONE, "warning: no bigrams, so no note is like it; is this the right file?");
         e->table = body;
         e->len = c.len;
         b->len = (size_t)(put_record(b->bytes + b->len, e->kind, body, c.len) - b->bytes);

@@ -1,15 +1,14 @@
 /* The calls of the library that the subcommand scan makes, over a whole note or over lines of it, against whole books or parts of them. A part of a
    sound book that begins and ends between licences is a sound book. Each call is lent only what its text needs, since the library clears it. */
 #include "scan.h"
-#include <stdlib.h>
 #include <string.h>
 
-chultarvi_note_scanned eliminate_part(const worker *w, part text, const part books[2], float threshold, bool optimize, uint64_t budget) {
-    const settings *s = &w->from->with;
+chultarvi_note_scanned eliminate_part(const worker *w, part text, const part books[2], way by) {
+    uint16_t passes = w->from->with.passes;
     const memory *m = &w->lent;
-    return chultarvi_eliminate_both(text.bytes, text.len, books[0].bytes, books[0].len, books[1].bytes, books[1].len, threshold, s->shallow, optimize,
-                                    s->passes, budget, m->area, lent_bytes(text.len), m->words, lent_words(text.len), w->results,
-                                    chultarvi_elimination_results(optimize, s->passes));
+    return chultarvi_eliminate_both(text.bytes, text.len, books[0].bytes, books[0].len, books[1].bytes, books[1].len, by.threshold, by.shallow,
+                                    by.optimize, passes, by.budget, m->area, lent_bytes(text.len), m->words, lent_words(text.len), w->results,
+                                    chultarvi_elimination_results(by.optimize, passes));
 }
 
 void whole_books(const shelf *s, part books[2], const char *files[2]) {
@@ -31,7 +30,7 @@ chultarvi_note_scanned scan_whole(const worker *w, part text) {
     part books[2];
     const char *files[2];
     whole_books(w->from, books, files);
-    if (!s->down) return eliminate_part(w, text, books, s->threshold, s->optimize, s->budget);
+    if (!s->down) return eliminate_part(w, text, books, (way){s->threshold, s->shallow, s->optimize, s->budget});
     return chultarvi_top_down_both(text.bytes, text.len, books[0].bytes, books[0].len, books[1].bytes, books[1].len, s->threshold, s->shallow,
                                    s->step, s->budget, m->area, lent_bytes(text.len), m->words, lent_words(text.len), w->results,
                                    chultarvi_top_down_results(count_lines(text)));
@@ -46,11 +45,7 @@ stored_text named_by(const chultarvi_note_scanned *a, const part books[2], const
 finding *add_finding(findings *to, finding f) {
     if (to->count == to->room) {
         to->room = 2 * to->room + 8;
-        to->at = realloc(to->at, to->room * sizeof *to->at);
-        if (!to->at) {
-            say("no memory for %zu findings", to->room);
-            exit(TROUBLE);
-        }
+        to->at = more_room(to->at, to->room * sizeof *to->at);
     }
     to->at[to->count] = f;
     return to->at + to->count++;

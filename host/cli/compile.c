@@ -1,5 +1,6 @@
 /* The subcommand compile: the table of one text, its size said or its bytes written. */
 #include "host.h"
+#include "../records.h"
 #include <inttypes.h>
 #include <stdlib.h>
 #include <string.h>
@@ -11,7 +12,7 @@ static int give_table(const char *text, const char *out, const uint8_t *table, s
     }
     if (out && !write_file(out, table, len)) return TROUBLE;
     put_plain(stdout, text);
-    printf(": a table of %zu bytes, %" PRIu32 " bigrams, %" PRIu32 " of them distinct\n", len, number_at(table), number_at(table + 4));
+    printf(": a table of %zu bytes, %" PRIu32 " bigrams, %" PRIu32 " of them distinct\n", len, get_number(table), get_number(table + 4));
     return DONE;
 }
 
@@ -24,7 +25,7 @@ static int compile_to(const char *path, const char *out, const memory *m) {
     int status = REFUSED;
     if (c.refusal) {
         char message[MESSAGE_MOST];
-        refusal_message(message, c.refusal, m->text, len);
+        refusal_message(message, c.refusal, m->text, len, CHANGE_IT);
         say_of(path, "%s", message);
     } else {
         status = give_table(path, out, table, c.len);

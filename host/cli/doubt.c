@@ -1,20 +1,17 @@
 /* Doubt about an answer: the best of the other licences on the same lines. For a rival that is a scan against those texts alone that may be named
    there; for the next one in any case (--second) a scan against the books without the records of the licence that was found. */
 #include "scan.h"
-#include <string.h>
+#include "../records.h"
 
 /* Where a licence's records stand in a book: the bytes before them, and those behind. A book without it is all before. */
 static void part_book(const lent_book *book, const stored_text *licence, part *before, part *behind) {
     size_t from = book->len, to = book->len;
-    bool inside = false;
-    for (size_t at = 0; at < book->len; at += RECORD_HEAD + (size_t)number_at(book->bytes + at)) {
-        if (book->bytes[at + 4] != KIND_NAME) continue;
-        if (inside) {
-            to = at;
-            break;
-        }
-        inside = number_at(book->bytes + at) == licence->len && memcmp(book->bytes + at + RECORD_HEAD, licence->name, licence->len) == 0;
-        if (inside) from = at;
+    book_record r;
+    for (size_t at = 0; at < book->len && to == book->len; at = r.after) {
+        r = record_at(book->bytes, at);
+        if (r.kind != KIND_NAME) continue;
+        if (from < at) to = at;
+        else if (r.len == licence->len && memcmp(r.body, licence->name, r.len) == 0) from = at;
     }
     *before = (part){book->bytes, from};
     *behind = (part){to < book->len ? book->bytes + to : book->bytes, book->len - to};
@@ -24,7 +21,7 @@ static void part_book(const lent_book *book, const stored_text *licence, part *b
 static bool see_parts(worker *w, report *r, part text, const part books[2], const char *file, finding *f) {
     if (books[0].len + books[1].len == 0) return true;
     const char *const files[2] = {file, file};
-    chultarvi_note_scanned a = eliminate_part(w, text, books, 0.0f, false, left_of(r));
+    chultarvi_note_scanned a = eliminate_part(w, text, books, (way){.budget = left_of(r)});
     r->more += a.count;
     if (a.refusal == 12) return false;
     if (a.refusal == 0 && a.kind && (!f->other.kind || a.score > f->other_score)) {
@@ -49,7 +46,7 @@ static void look_for_rival(worker *w, report *r, part text, finding *f) {
     part books[2];
     f->looked = true;
     if (!choose_texts(w, text, &f->text, books)) return;
-    chultarvi_note_scanned a = eliminate_part(w, text, books, 0.0f, false, left_of(r));
+    chultarvi_note_scanned a = eliminate_part(w, text, books, (way){.budget = left_of(r)});
     r->more += a.count;
     f->looked = a.refusal == 0;
     f->other = chosen_by(w, &a);
@@ -63,6 +60,7 @@ static void look_for_other(worker *w, report *r, part text, finding *f) {
 
 /* Elimination blanks what it has recorded, and a later range may reach over it; so its lines are looked at as they were then. */
 static void look_in_all(worker *w, report *r, findings *all) {
+    memcpy(w->blanked, r->text, r->len);
     for (size_t i = 0; i < all->count; i++) {
         finding *f = all->at + i;
         part lines = lines_part(w, (part){w->blanked, r->len}, f->first, f->after);
@@ -83,21 +81,24 @@ static finding turned(const finding *f) {
 }
 
 /* A scan names a range after the text that was best before its bounds were known; another may score higher within them. Of the scan's own ranges
-   that is said beside, and with --thorough it is a further finding; what is found further is named after the highest. */
-static void name_highest(report *r) {
+   that is said beside, and with --thorough it is a further finding, unless it is one already; what is found further is named after the highest. */
+static void name_highest(worker *w, report *r) {
     for (size_t i = 0; i < r->further.count; i++) if (is_higher(r->further.at + i)) r->further.at[i] = turned(r->further.at + i);
-    for (size_t i = 0; i < r->ranges.count; i++) if (is_higher(r->ranges.at + i)) add_finding(&r->further, turned(r->ranges.at + i));
+    list_owners(w, &r->further);
+    for (size_t i = 0; i < r->ranges.count; i++) {
+        finding t = turned(r->ranges.at + i);
+        if (is_higher(r->ranges.at + i) && !is_among(w, &r->further, &t)) add_finding(&r->further, t);
+    }
 }
 
 void look_for_others(worker *w, report *r) {
     const settings *s = &r->from->with;
     bool named = r->whole.text.kind;
     if (r->answer.refusal) return;
-    memcpy(w->blanked, r->text, r->len);
     if (named || (s->second && !s->down)) look_for_other(w, r, (part){r->text, r->len}, &r->whole);
     look_in_all(w, r, &r->ranges);
     look_in_all(w, r, &r->further);
-    if (s->thorough) name_highest(r);
+    if (s->thorough) name_highest(w, r);
 }
 
 bool has_rival(const finding *f) { return f->text.kind && f->looked && f->other.kind && f->other_score >= f->score; }

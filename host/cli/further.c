@@ -1,13 +1,17 @@
 /* Licences that a scan left unread (--thorough). What no range holds is cut out at the recorded lines and scanned; then each of its stanzas, which
    stand between empty lines; then runs of 2, 4, 8 .. stanzas, each run reaching half into the next, so that every licence of several stanzas lies
-   within a run of at most four times its own. Each line is scanned at most twice at each width, so the text that is scanned grows as n log n. */
+   within a run of at most four times its own; then the same once more of what is left, with stanzas between lines without a word (`.`, `*`, `---`).
+   The coarse stanzas come first, since a licence may be the first stanza of another (MIT of X11). Each line is scanned at most twice at each width, so
+   the text that is scanned grows as n log n. */
 #include "scan.h"
 #include <stdlib.h>
 #include <string.h>
 
-/* Lines that are not blank and that nothing found holds, between such as are. */
+/* Lines that part nothing and that nothing found holds, between such as do. */
 typedef struct { uint32_t first, after; } stanza;
 typedef struct { stanza *at; size_t count; } stanzas;
+/* Does a line part stanzas? */
+typedef bool parting(const worker *w, part text, uint32_t line);
 
 static bool is_blank(const worker *w, part text, uint32_t line) {
     part p = lines_part(w, text, line, line + 1);
@@ -15,13 +19,13 @@ static bool is_blank(const worker *w, part text, uint32_t line) {
     return true;
 }
 
-static bool has_word(const worker *w, part text, uint32_t line) {
+static bool is_wordless(const worker *w, part text, uint32_t line) {
     part p = lines_part(w, text, line, line + 1);
     for (size_t i = 0; i < p.len; i++) {
         uint8_t byte = p.bytes[i], low = byte | 32;
-        if ((low >= 'a' && low <= 'z') || (byte >= '0' && byte <= '9')) return true;
+        if ((low >= 'a' && low <= 'z') || (byte >= '0' && byte <= '9')) return false;
     }
-    return false;
+    return true;
 }
 
 static void hold(worker *w, const finding *f) {
@@ -38,21 +42,24 @@ void count_unheld(worker *w, report *r) {
     for (size_t i = 0; i < r->further.count; i++) hold(w, r->further.at + i);
     r->unheld = 0;
     if (is_one_licence(r)) return;
-    for (uint32_t line = 0; line < w->lines; line++) r->unheld += !w->held[line] && has_word(w, text, line);
+    for (uint32_t line = 0; line < w->lines; line++) r->unheld += !w->held[line] && !is_wordless(w, text, line);
 }
 
-/* Of each line the range of the scan's own that holds it, counted from 1; where several do, the one that was found first. */
-static void list_owners(worker *w, const report *r) {
+void list_owners(worker *w, const findings *all) {
     memset(w->owner, 0, w->lines * sizeof *w->owner);
-    for (size_t i = r->ranges.count; i > 0; i--)
-        for (uint32_t line = r->ranges.at[i - 1].first; line < r->ranges.at[i - 1].after; line++) w->owner[line] = (uint32_t)i;
+    for (size_t i = all->count; i > 0; i--)
+        for (uint32_t line = all->at[i - 1].first; line < all->at[i - 1].after; line++) w->owner[line] = (uint32_t)i;
 }
 
-/* Is the same licence found on some of these lines by the scan itself? */
-static bool is_double(const worker *w, const report *r, const finding *f) {
+bool is_among(const worker *w, const findings *all, const finding *f) {
     for (uint32_t line = f->first; line < f->after; line++)
-        if (w->owner[line] && same_licence(&r->ranges.at[w->owner[line] - 1].text, &f->text)) return true;
+        if (w->owner[line] && same_licence(&all->at[w->owner[line] - 1].text, &f->text)) return true;
     return false;
+}
+
+/* Has the scan itself found it, on some of these lines or as the licence of the whole note? */
+static bool is_double(const worker *w, const report *r, const finding *f) {
+    return (is_one_licence(r) && same_licence(&r->whole.text, &f->text)) || is_among(w, &r->ranges, f);
 }
 
 /* What one scan of lines has found: its ranges, or the lines as a whole where there are none. */
@@ -75,20 +82,25 @@ static void release_weak(worker *w, const report *r) {
     for (size_t i = 0; i < r->further.count; i++) hold(w, r->further.at + i);
 }
 
+/* Scans lines and takes what is found there. A text above `shallow` has all of them, and no range is looked for. */
+static void scan_cut(worker *w, report *r, uint32_t first, uint32_t after, float shallow) {
+    part lines = lines_part(w, (part){r->text, r->len}, first, after), books[2];
+    if (!choose_texts(w, lines, 0, books)) return;
+    chultarvi_note_scanned a = eliminate_part(w, lines, books, (way){r->from->with.threshold, shallow, true, left_of(r)});
+    r->more += a.count;
+    r->stopped = a.refusal == 12;
+    take_answer(w, r, &a, first, after);
+}
+
 /* Scans lines, without those at either end that are blank, unless the same lines were scanned last from there. True where a licence is found. */
 static bool scan_lines(worker *w, report *r, uint32_t first, uint32_t after) {
-    part text = {r->text, r->len}, books[2];
+    part text = {r->text, r->len};
     while (first < after && is_blank(w, text, first)) first++;
     while (first < after && is_blank(w, text, after - 1)) after--;
     if (first == after || w->seen[first] == after || r->stopped) return false;
     w->seen[first] = after;
-    part lines = lines_part(w, text, first, after);
     size_t before = r->further.count;
-    if (!choose_texts(w, lines, 0, books)) return false;
-    chultarvi_note_scanned a = eliminate_part(w, lines, books, r->from->with.threshold, true, left_of(r));
-    r->more += a.count;
-    r->stopped = a.refusal == 12;
-    take_answer(w, r, &a, first, after);
+    scan_cut(w, r, first, after, r->from->with.shallow);
     return r->further.count > before;
 }
 
@@ -104,11 +116,11 @@ static void scan_gaps(worker *w, report *r) {
     }
 }
 
-static void list_stanzas(const worker *w, part text, stanzas *to) {
+static void list_stanzas(const worker *w, part text, parting *parts, stanzas *to) {
     to->count = 0;
     stanza *last = 0;
     for (uint32_t line = 0; line < w->lines; line++) {
-        if (w->held[line] || is_blank(w, text, line)) {
+        if (w->held[line] || parts(w, text, line)) {
             last = 0;
             continue;
         }
@@ -141,21 +153,34 @@ static bool scan_runs(worker *w, report *r, const stanzas *all, size_t width) {
     return wide;
 }
 
-void look_further(worker *w, report *r) {
-    part text = {r->text, r->len};
-    if (r->answer.refusal || is_one_licence(r)) return;
-    memset(w->seen, 0, w->lines * sizeof *w->seen);
-    list_owners(w, r);
+/* Holds what the note's own scan has read: its ranges; of a note that is one licence the lines where that stands, which the scan did not look for. */
+static void hold_own(worker *w, report *r) {
     count_unheld(w, r);
-    if (r->ranges.count > 0) scan_gaps(w, r);
-    release_weak(w, r);
-    stanzas all = {take(w->lines * sizeof *all.at), 0};
-    list_stanzas(w, text, &all);
-    for (size_t k = 0; k < all.count; k++) scan_lines(w, r, all.at[k].first, all.at[k].after);
+    if (is_one_licence(r)) scan_cut(w, r, 0, (uint32_t)w->lines, 1.0f);
+}
+
+/* Stanzas by themselves, then runs of them. */
+static void scan_stanzas(worker *w, report *r, parting *parts, stanzas *all) {
+    part text = {r->text, r->len};
+    list_stanzas(w, text, parts, all);
+    for (size_t k = 0; k < all->count; k++) scan_lines(w, r, all->at[k].first, all->at[k].after);
     bool wide = true;
     for (size_t width = 2; wide && !r->stopped; width *= 2) {
-        list_stanzas(w, text, &all);
-        wide = scan_runs(w, r, &all, width);
+        list_stanzas(w, text, parts, all);
+        wide = scan_runs(w, r, all, width);
     }
+}
+
+void look_further(worker *w, report *r) {
+    bool one = is_one_licence(r);
+    if (r->answer.refusal || (one && r->whole.score == 1.0f)) return;
+    memset(w->seen, 0, w->lines * sizeof *w->seen);
+    list_owners(w, &r->ranges);
+    hold_own(w, r);
+    if (one || r->ranges.count > 0) scan_gaps(w, r);
+    if (!one) release_weak(w, r);
+    stanzas all = {take(w->lines * sizeof *all.at), 0};
+    scan_stanzas(w, r, is_blank, &all);
+    scan_stanzas(w, r, is_wordless, &all);
     free(all.at);
 }

@@ -66,7 +66,8 @@ static const char book_help[] =
     "\n"
     "KIND is original, alternate, header, or alias, where FILE is the alias itself. Each name has one original. FILE is all that is\n"
     "left of the line, from the folder where the program runs. An empty line and one that begins with '# ' say nothing. Lines may end\n"
-    "with CR LF. A text without bigrams and two names with one text are warned of.\n"
+    "with CR LF. A text without bigrams and two names with one text are warned of; an original from /dev/null is empty without a word,\n"
+    "for a name that has headers alone.\n"
     "\n" ENDING;
 
 static const char compile_help[] =

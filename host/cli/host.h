@@ -28,6 +28,10 @@ bool write_file(const char *path, const uint8_t *bytes, size_t len);
 
 void say(const char *format, ...) __attribute__((format(printf, 1, 2)));
 void say_of(const char *name, const char *format, ...) __attribute__((format(printf, 2, 3)));
+/* Says why a file cannot be read. Gives the exit status. */
+int unreadable(const char *path, const char *why);
+/* What stands behind a word that is counted: "s", or nothing behind one. */
+const char *plural(size_t count);
 /* A file name as a person may see it: controls and bytes that are no UTF-8 are written \n, \t, \xHH, a backslash twice. */
 void put_plain(FILE *to, const char *name);
 /* A JSON string with its quotes. A byte that is no UTF-8 is written as \udcHH, which says which byte it was. */
@@ -38,27 +42,33 @@ bool read_limit(const char *word, float *limit);
 /* The first byte of 128 or more; len where there is none. */
 size_t first_not_ascii(const uint8_t *text, size_t len);
 enum { MESSAGE_MOST = 256 };
-/* A refusal in words, with its number, and the place where the text is not ASCII. */
-void refusal_message(char to[MESSAGE_MOST], uint32_t refusal, const uint8_t *text, size_t len);
+/* A refusal in words, with its number; where the text is not ASCII, with the place and what to do next. */
+void refusal_message(char to[MESSAGE_MOST], uint32_t refusal, const uint8_t *text, size_t len, const char *next);
+#define CHANGE_IT "nothing is filtered, so change it first"
 
 /* memory.c */
 
 /* Lent to the library again and again. All of it is taken at the start, for the largest text; of each area a call is lent only what its text
    needs, since the library clears what it is lent. */
 typedef struct { uint8_t *text, *area; uint32_t *words; } memory;
+/* Room, or the end of the program with a word; `more_room` keeps what stood there. */
 void *take(size_t bytes);
+void *more_room(void *at, size_t bytes);
 memory take_memory(void);
 size_t lent_bytes(size_t text_len);
 size_t lent_words(size_t text_len);
 /* Compiles the text that stands in the memory. */
 chultarvi_text_compiled compile_text(const memory *m, size_t text_len, uint8_t *out, size_t out_len);
-uint32_t number_at(const uint8_t *bytes);
+void free_memory(memory *m);
 
-/* The subcommands: each takes what follows its name, and gives the exit status. */
+/* The subcommands: each takes its name and what follows it, and gives the exit status. check and list stand in list.c. */
 int run_book(int count, char **words);
+int run_check(int count, char **words);
+int run_compile(int count, char **words);
+int run_list(int count, char **words);
 int run_scan(int count, char **words);
 
-/* report.c */
+/* stored.c */
 
 /* A book as it was read, and whether the library finds it sound. */
 typedef struct { const char *file; uint8_t *bytes; size_t len; bool sound; } lent_book;
@@ -67,11 +77,6 @@ typedef struct { const char *file; uint8_t *bytes; size_t len; bool sound; } len
    its length. */
 typedef struct { const char *name, *book; uint32_t len, kind; const uint8_t *body; uint32_t body_len; } stored_text;
 size_t list_stored(const lent_book *book, stored_text *to);
-
-/* The other subcommands: list.c, compile.c */
-int run_check(int count, char **words);
-int run_list(int count, char **words);
-int run_compile(int count, char **words);
 
 /* help.c */
 
@@ -87,13 +92,5 @@ typedef struct { char letter; const char *name; const char **value; bool *given;
 /* Reads a command's options wherever they stand before `--`, and -h and --help of each command. The names that are left follow words[0], and *count
    counts them with it. False where all is said, and *status is the exit status; then there is nothing more to do. */
 bool read_options(int *count, char **words, const option_place *places, size_t many, int *status);
-
-/* words.c and memory.c, for these */
-
-/* Says why a file cannot be read. Gives the exit status. */
-int unreadable(const char *path, const char *why);
-/* What stands behind a word that is counted: "s", or nothing behind one. */
-const char *plural(size_t count);
-void free_memory(memory *m);
 
 #endif

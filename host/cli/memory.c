@@ -1,10 +1,16 @@
 /* Memory of the command line: taken once, lent to the library for each call. */
 #include "host.h"
-#include "../records.h"
 #include <stdlib.h>
 
 void *take(size_t bytes) {
     void *p = malloc(bytes);
+    if (p) return p;
+    say("no memory for %zu bytes", bytes);
+    exit(TROUBLE);
+}
+
+void *more_room(void *at, size_t bytes) {
+    void *p = realloc(at, bytes);
     if (p) return p;
     say("no memory for %zu bytes", bytes);
     exit(TROUBLE);
@@ -26,8 +32,6 @@ size_t lent_words(size_t text_len) { return chultarvi_area_words(bounded(text_le
 chultarvi_text_compiled compile_text(const memory *m, size_t text_len, uint8_t *out, size_t out_len) {
     return chultarvi_compile(m->text, text_len, m->area, lent_bytes(text_len), m->words, lent_words(text_len), out, out_len);
 }
-
-uint32_t number_at(const uint8_t *bytes) { return get_number(bytes); }
 
 void free_memory(memory *m) {
     free(m->text);

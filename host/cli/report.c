@@ -96,9 +96,8 @@ static char *message_of(const report *r) {
     if (to && r->from->with.beside && (refusal == 4 || refusal == 5)) put_books_message(to, r);
     else if (to) {
         char words[MESSAGE_MOST];
-        refusal_message(words, refusal, r->text, r->len);
+        refusal_message(words, refusal, r->text, r->len, "--ascii scans it with such characters mapped or dropped");
         fputs(words, to);
-        if (refusal == 2) fputs("; --ascii scans it with such characters mapped or dropped", to);
     }
     if (to && fclose(to) == 0) return message;
     say("no memory for a message");

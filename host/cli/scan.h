@@ -80,7 +80,8 @@ typedef struct {
 /* calls.c */
 
 /* Scans a text against two books, of which either may be empty; the same as against one alone where it is. */
-chultarvi_note_scanned eliminate_part(const worker *w, part text, const part books[2], float threshold, bool optimize, uint64_t budget);
+typedef struct { float threshold, shallow; bool optimize; uint64_t budget; } way;
+chultarvi_note_scanned eliminate_part(const worker *w, part text, const part books[2], way by);
 chultarvi_note_scanned scan_whole(const worker *w, part text);
 /* The licence that an answer names, as if it were stored; `books` are those that were lent, `files` theirs. All is null where none is named. */
 stored_text named_by(const chultarvi_note_scanned *a, const part books[2], const char *const files[2]);
@@ -107,6 +108,9 @@ bool same_licence(const stored_text *a, const stored_text *b);
 
 /* further.c */
 void look_further(worker *w, report *r);
+/* Notes of each line which finding holds it, where several do the first; and whether one of them is of the same licence on some of the same lines. */
+void list_owners(worker *w, const findings *all);
+bool is_among(const worker *w, const findings *all, const finding *f);
 /* Marks what ranges hold, and counts the lines with words that none holds. */
 void count_unheld(worker *w, report *r);
 

@@ -7,13 +7,6 @@
 #include <string.h>
 #include <sys/stat.h>
 
-static void *more_room(void *at, size_t bytes) {
-    void *p = realloc(at, bytes);
-    if (p) return p;
-    say("no memory for %zu bytes", bytes);
-    exit(TROUBLE);
-}
-
 static void add_note(notes *to, const char *path) {
     if (to->count == to->room) {
         to->room = 2 * to->room + 64;

@@ -111,7 +111,7 @@ size_t first_not_ascii(const uint8_t *text, size_t len) {
     return i;
 }
 
-void refusal_message(char to[MESSAGE_MOST], uint32_t refusal, const uint8_t *text, size_t len) {
+void refusal_message(char to[MESSAGE_MOST], uint32_t refusal, const uint8_t *text, size_t len, const char *next) {
     size_t at = refusal == CHULTARVI_REFUSED_TEXT_NOT_ASCII ? first_not_ascii(text, len) : len;
     if (at == len) {
         snprintf(to, MESSAGE_MOST, "refused (%" PRIu32 "): %s", refusal, chultarvi_refusal_text(refusal));
@@ -122,8 +122,7 @@ void refusal_message(char to[MESSAGE_MOST], uint32_t refusal, const uint8_t *tex
         byte = text[i] == '\n' ? 1 : byte + 1;
         line += text[i] == '\n';
     }
-    snprintf(to, MESSAGE_MOST, "refused (2): %s: line %zu, byte %zu is 0x%02x; nothing is filtered, so change it before the scan",
-             chultarvi_refusal_text(refusal), line, byte, text[at]);
+    snprintf(to, MESSAGE_MOST, "refused (2): %s: line %zu, byte %zu is 0x%02x; %s", chultarvi_refusal_text(refusal), line, byte, text[at], next);
 }
 
 int unreadable(const char *path, const char *why) {

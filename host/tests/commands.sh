@@ -5,15 +5,6 @@ set -u
 . "$(dirname "$0")/common.sh"
 
 tells() { echo "chultarvi $1 --help tells more"; }
-# so STATUS SHELL-WORDS: a line of the shell, in which $program stands for the program
-so() {
-    want=$1
-    ran=$2
-    (eval "$2") >.out 2>.err </dev/null
-    got=$?
-    out=$(cat .out) err=$(cat .err)
-    judge "$want"
-}
 
 # help, of the program and of each command
 for words in --help -h help; do
@@ -193,7 +184,7 @@ err_is 'chultarvi: over: refused (1): the text is over 1,048,576 bytes'
 run 1 compile /dev/zero
 err_is 'chultarvi: /dev/zero: refused (1): the text is over 1,048,576 bytes'
 run 1 compile umlaut -o made
-err_is 'chultarvi: umlaut: refused (2): the text is not ASCII: line 2, byte 5 is 0xc3; nothing is filtered, so change it before the scan'
+err_is 'chultarvi: umlaut: refused (2): the text is not ASCII: line 2, byte 5 is 0xc3; nothing is filtered, so change it first'
 same made table
 run 0 compile lines
 run 1 compile lines-over
@@ -284,7 +275,7 @@ printf 'A original nowhere\n\nB original umlaut\n# x\nC original .\nD original l
 run 2 book stands.book list
 err_is 'chultarvi: list: line 8: F has no original
 chultarvi: list: line 1: nowhere: cannot be read: No such file or directory
-chultarvi: list: line 3: umlaut: refused (2): the text is not ASCII: line 2, byte 5 is 0xc3; nothing is filtered, so change it before the scan
+chultarvi: list: line 3: umlaut: refused (2): the text is not ASCII: line 2, byte 5 is 0xc3; nothing is filtered, so change it first
 chultarvi: list: line 5: .: cannot be read: Is a directory
 chultarvi: list: line 7: over: refused (1): the text is over 1,048,576 bytes
 chultarvi: list: line 8: frob: cannot be read: No such file or directory
@@ -298,7 +289,7 @@ printf 'A frob license\nA header nowhere\nB original umlaut\n' >list
 run 2 book stands.book list
 err_is 'chultarvi: list: line 1: the kind is not original, alternate, header or alias; a line is NAME KIND FILE
 chultarvi: list: line 2: nowhere: cannot be read: No such file or directory
-chultarvi: list: line 3: umlaut: refused (2): the text is not ASCII: line 2, byte 5 is 0xc3; nothing is filtered, so change it before the scan
+chultarvi: list: line 3: umlaut: refused (2): the text is not ASCII: line 2, byte 5 is 0xc3; nothing is filtered, so change it first
 chultarvi: stands.book: no new book stands there'
 same stands.book a.book
 # neither does a book that is over
@@ -334,6 +325,10 @@ out_has '8 stored texts'
 run 0 scan warned.book license
 out_has 'license: A, original'
 printf 'A original license\nA alternate two\nA header license\nB original pairs\n' >list
+run 0 book warned.book list
+err_is ''
+# an original that is empty on purpose
+printf 'A original license\nB header two\nB original /dev/null\nC original /dev/null\n' >list
 run 0 book warned.book list
 err_is ''
 # 1,024 texts under as many names

@@ -16,7 +16,7 @@ passed=0 failed=0
 good() { passed=$((passed + 1)); }
 bad() {
     failed=$((failed + 1))
-    printf 'failed: %s\n  last command: %s\n  out: %s\n  err: %s\n' "$1" "$ran" "$out" "$err"
+    printf 'failed: %s\n  last command: %s\n  out: %.1500s\n  err: %.1500s\n' "$1" "$ran" "$out" "$err"
 }
 # judge STATUS: of the command that has just run
 judge() { [ "$got" = "$1" ] && good || bad "exit status $got, not $1"; }
@@ -28,6 +28,7 @@ run() {
     got=$?
     out=$(cat .out) err=$(cat .err)
     judge "$want"
+    schema
 }
 # from FILE STATUS WORDS...: the same with standard input
 from() {
@@ -35,6 +36,15 @@ from() {
     shift 2
     ran="$* <$input"
     $program "$@" >.out 2>.err <"$input"
+    got=$?
+    out=$(cat .out) err=$(cat .err)
+    judge "$want"
+}
+# so STATUS SHELL-WORDS: a line of the shell, in which $program stands for the program
+so() {
+    want=$1
+    ran=$2
+    (eval "$2") >.out 2>.err </dev/null
     got=$?
     out=$(cat .out) err=$(cat .err)
     judge "$want"
@@ -57,6 +67,13 @@ same() { cmp -s "$1" "$2" && good || bad "$1 and $2 differ"; }
 holds() { [ "$(cat "$1")" = "$2" ] && good || bad "$1 does not hold: $2"; }
 # json EXPRESSION WANT: what a JSON parser makes of the lines of standard output, each an element of `notes`
 if command -v python3 >/dev/null; then
+    # every line of `scan --json` and of `list --json` is held against its schema
+    schema() {
+        case " $ran " in " scan "*" --json "*) form=scan ;; " list "*" --json "*) form=list ;; *) return ;; esac
+        # a note may be named --json
+        case $out in '' | [!{]*) return ;; esac
+        value=$(python3 "$root/host/tests/schema.py" "$root/host/$form.schema.json" <.out 2>&1) && good || bad "schema: $value"
+    }
     json() {
         value=$(python3 -c 'import json, os, sys
 notes = [json.loads(line) for line in open(".out", "rb")]
@@ -66,6 +83,7 @@ print(json.dumps(eval(sys.argv[1])))' "$1" 2>&1)
 else
     echo 'not run here: JSON read by a parser (no python3)'
     json() { :; }
+    schema() { :; }
 fi
 no_beside() { [ -z "$(find . -name '.chultarvi.*')" ] && good || { bad 'a file beside is left'; rm -f ./.chultarvi.*; }; }
 

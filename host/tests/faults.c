@@ -61,11 +61,11 @@ int __wrap_rename(const char *from, const char *to) {
     if (fault("rename-term")) raise(SIGTERM);
     return __real_rename(from, to);
 }
-/* Nothing large is to be had; or all that is taken must stay below 75 or 91 MiB. */
+/* Nothing large is to be had; or all that is taken must stay below 101 or 117 MiB. */
 void *__wrap_malloc(size_t len) {
     static size_t taken;
     taken += len;
     if (fault("malloc") && len > 1000000) return 0;
-    if ((fault("memory-75") && taken > 75u << 20) || (fault("memory-91") && taken > 91u << 20)) return 0;
+    if ((fault("memory-101") && taken > 101u << 20) || (fault("memory-117") && taken > 117u << 20)) return 0;
     return __real_malloc(len);
 }

@@ -4,23 +4,25 @@
 # in commands.sh.
 set -u
 . "$(dirname "$0")/common.sh"
+scan_help='chultarvi scan --help tells more'
+unread='in no range; --thorough looks there'
 
 # usage
 run 2 scan a.book
-err_is "chultarvi: scan wants a book and at least one note; $help"
+err_is "chultarvi: scan wants a book and at least one note; $scan_help"
 run 2 scan --frob a.book two
-err_is "chultarvi: --frob: scan has no such option; $help"
+err_is "chultarvi: --frob: scan has no such option; $scan_help"
 run 2 scan -x a.book two
-err_is "chultarvi: -x: scan has no such option; $help"
+err_is "chultarvi: -x: scan has no such option; $scan_help"
 run 2 scan --json=yes a.book two
 err_is 'chultarvi: --json takes no value'
 run 2 scan --threshold
 err_is 'chultarvi: --threshold wants a value'
 run 2 scan --threshold x a.book two
-err_is "chultarvi: --threshold wants a number, not 'x'"
+err_is "chultarvi: --threshold wants a number from 0.0 to 1.0, not 'x'"
 run 2 scan --threshold '' a.book two
 run 2 scan --shallow 0.5x a.book two
-err_is "chultarvi: --shallow wants a number, not '0.5x'"
+err_is "chultarvi: --shallow wants a number from 0.0 to 1.0, not '0.5x'"
 run 2 scan --passes 65536 a.book two
 err_is "chultarvi: --passes wants a whole number up to 65535, not '65536'"
 run 0 scan --passes 65535 a.book two
@@ -29,16 +31,17 @@ run 2 scan --budget 18446744073709551616 a.book two
 err_is "chultarvi: --budget wants a number of scorings, not '18446744073709551616'"
 run 0 scan --budget 18446744073709551615 a.book two
 run 2 scan --top-down 1.5 a.book two
-err_is "chultarvi: --top-down wants a number of lines, not '1.5'"
+err_is "chultarvi: --top-down wants a number of lines, at least 1, not '1.5'"
 run 2 scan --top-down 1 --passes 3 a.book two
 err_is 'chultarvi: --passes and --no-optimize have no meaning with --top-down'
 run 2 scan --no-optimize --passes 3 a.book two
 err_is 'chultarvi: --passes has no meaning with --no-optimize'
 # scan: the marked text, for people
 run 0 scan a.book two
-out_is 'two: no licence as a whole (best score 0.6667)
+out_is "two: no licence as a whole (best score 0.6667)
   line 2: A, original, score 1.0000
-  20 scorings'
+  2 lines with words are $unread
+  20 scorings"
 err_is ''
 run 0 scan a.book license
 out_is 'license: A, original, score 1.0000
@@ -46,11 +49,13 @@ out_is 'license: A, original, score 1.0000
 run 0 scan --threshold 1 a.book license
 out_has 'no licence as a whole (best score 1.0000)'
 run 0 scan --no-optimize a.book two
-out_is 'two: no licence as a whole (best score 0.6667)
-  1 scoring'
+out_is "two: no licence as a whole (best score 0.6667)
+  3 lines with words are $unread
+  1 scoring"
 run 0 scan --passes 0 a.book two
-out_is 'two: no licence as a whole (best score 0.6667)
-  1 scoring'
+out_is "two: no licence as a whole (best score 0.6667)
+  3 lines with words are $unread
+  1 scoring"
 run 0 scan --threshold=0.5 --shallow=0.6 a.book two
 out_is 'two: A, original, score 0.6667
   1 scoring'
@@ -89,7 +94,8 @@ out_has ': MIT, original, score 0.9446
 # scan: refusals, and a note in trouble among others
 run 1 scan a.book over
 err_is 'chultarvi: over: refused (1): the text is over 1,048,576 bytes'
-run 1 scan a.book /dev/zero
+run 2 scan a.book /dev/zero
+err_is 'chultarvi: /dev/zero: cannot be read: it is a FIFO or a device, which is skipped; a note is a regular file, or - for standard input'
 run 1 scan a.book umlaut
 err_has 'refused (2): the text is not ASCII: line 2, byte 5 is 0xc3'
 out_is ''
@@ -103,13 +109,16 @@ run 1 scan /dev/zero two
 err_is 'chultarvi: two: refused (4): the book is not sound'
 run 1 scan empty two
 err_is 'chultarvi: two: refused (5): the book has no stored text'
-for limit in -0.1 1.1 nan inf; do
-    run 1 scan --threshold "$limit" a.book two
-    err_is 'chultarvi: two: refused (6): the threshold or the shallow limit is not from 0.0 to 1.0'
-    run 1 scan --shallow "$limit" a.book two
+# said once, however many notes there are
+for limit in -0.1 1.1 nan inf 1.0000001; do
+    run 2 scan --threshold "$limit" a.book two license
+    err_is "chultarvi: --threshold wants a number from 0.0 to 1.0, not '$limit'"
+    out_is ''
+    run 2 scan a.book two --shallow "$limit" license
+    err_is "chultarvi: --shallow wants a number from 0.0 to 1.0, not '$limit'"
 done
-run 1 scan --top-down 0 a.book two
-err_is 'chultarvi: two: refused (7): the top-down step is 0'
+run 2 scan --top-down 0 a.book two license
+err_is "chultarvi: --top-down wants a number of lines, at least 1, not '0'"
 run 2 scan nowhere two
 err_is 'chultarvi: nowhere: cannot be read: No such file or directory'
 run 2 scan a.book license nowhere . umlaut license
@@ -118,30 +127,31 @@ out_is 'license: A, original, score 1.0000
 license: A, original, score 1.0000
   1 scoring'
 err_has 'chultarvi: nowhere: cannot be read: No such file or directory
-chultarvi: .: cannot be read: Is a directory
+chultarvi: .: cannot be read: it is a folder; -r scans the files in it
 chultarvi: umlaut: refused (2)'
 run 1 scan a.book license umlaut license
 # the same memory serves a long note and the short ones around it
 run 1 scan --no-optimize a.book license most over two
-out_is 'license: A, original, score 1.0000
+out_is "license: A, original, score 1.0000
   1 scoring
 most: no licence as a whole (best score 0.0000)
   1 scoring
 two: no licence as a whole (best score 0.6667)
-  1 scoring'
+  3 lines with words are $unread
+  1 scoring"
 
 # scan: JSON
 run 0 scan --json a.book two license
-out_is '{"note":"two","refusal":0,"licence":null,"kind":null,"score":0.666666687,"scorings":20,"ranges":[{"licence":"A","kind":"original","number":0,"first":1,"after":2,"score":1}]}
-{"note":"license","refusal":0,"licence":"A","kind":"original","score":1,"scorings":1,"ranges":[]}'
+out_is '{"note":"two","refusal":0,"licence":null,"kind":null,"score":0.666666687,"rival":null,"scorings":20,"ranges":[{"licence":"A","kind":"original","number":0,"first":1,"after":2,"score":1,"rival":false}],"unheld":2,"more":0}
+{"note":"license","refusal":0,"licence":"A","kind":"original","score":1,"rival":false,"scorings":1,"ranges":[],"unheld":0,"more":0}'
 run 1 scan --json --budget 0 a.book two
-out_is '{"note":"two","refusal":12,"message":"refused (12): stopped by the budget","licence":null,"kind":null,"score":null,"scorings":0,"ranges":[]}'
+out_is '{"note":"two","refusal":12,"message":"refused (12): stopped by the budget","licence":null,"kind":null,"score":null,"rival":null,"scorings":0,"ranges":[],"unheld":3,"more":0}'
 run 0 scan --json --top-down 9 a.book license
-out_has '"licence":null,"kind":null,"score":null,"scorings":'
+out_has '"licence":null,"kind":null,"score":null,"rival":null,"scorings":'
 run 2 scan --json a.book nowhere umlaut
 json '[sorted(n) for n in notes]' '[["note", "trouble"], ["message", "note", "offset", "refusal"]]'
 out_is '{"note":"nowhere","trouble":"No such file or directory"}
-{"note":"umlaut","refusal":2,"message":"refused (2): the text is not ASCII: line 2, byte 5 is 0xc3; nothing is filtered, so change it before the scan","offset":8}'
+{"note":"umlaut","refusal":2,"message":"refused (2): the text is not ASCII: line 2, byte 5 is 0xc3; --ascii scans it with such characters mapped or dropped","offset":8}'
 err_is ''
 odd=$(printf 'q" b\\ t\tn\nc\033 \302\205 \303\244 \377 \355\240\200 \303')
 cp license "$odd"
@@ -157,20 +167,21 @@ run 0 scan --json odd.book license
 out_has '"licence":"\"\\<&>'"'"'","kind":"original"'
 json 'notes[0]["licence"]' '"\"\\<&>'"'"'"'
 
-# scan: where options may stand. The first note ends them, and so does '--'
+# scan: where options may stand: anywhere before '--'
 run 0 scan a.book --no-optimize two
-out_is 'two: no licence as a whole (best score 0.6667)
-  1 scoring'
+out_is "two: no licence as a whole (best score 0.6667)
+  3 lines with words are $unread
+  1 scoring"
 run 0 scan --json a.book --no-optimize --threshold=0.5 two
 json '[n["licence"] for n in notes]' '["A"]'
 run 2 scan --top-down 1 a.book --passes 3 two
 err_is 'chultarvi: --passes and --no-optimize have no meaning with --top-down'
 run 2 scan a.book --budget 5
-err_is "chultarvi: scan wants a book and at least one note; $help"
+err_is "chultarvi: scan wants a book and at least one note; $scan_help"
 run 2 scan a.book --
-err_is "chultarvi: scan wants a book and at least one note; $help"
+err_is "chultarvi: scan wants a book and at least one note; $scan_help"
 run 2 scan a.book --frob two
-err_is "chultarvi: --frob: scan has no such option; $help"
+err_is "chultarvi: --frob: scan has no such option; $scan_help"
 cp license ./-x
 cp license ./--json
 for words in '-- a.book -x' 'a.book -- -x' 'a.book --no-optimize -- -x'; do
@@ -178,21 +189,30 @@ for words in '-- a.book -x' 'a.book -- -x' 'a.book --no-optimize -- -x'; do
     out_is '-x: A, original, score 1.0000
   1 scoring'
 done
-run 0 scan a.book ./-x -x --json
+run 0 scan a.book -- ./-x -x --json
 out_is './-x: A, original, score 1.0000
   1 scoring
 -x: A, original, score 1.0000
   1 scoring
 --json: A, original, score 1.0000
   1 scoring'
+run 0 scan a.book ./-x --json license
+json '[n["note"] for n in notes]' '["./-x", "license"]'
 run 2 scan a.book -x
-err_is "chultarvi: -x: scan has no such option; $help"
+err_is "chultarvi: -x: scan has no such option; $scan_help"
 run 2 scan a.book "$(printf -- '-\001')" two
-err_is "chultarvi: -\\x01: scan has no such option; $help"
-run 2 scan a.book license --budget 5
-err_is 'chultarvi: --budget: cannot be read: No such file or directory; options stand before the notes
-chultarvi: 5: cannot be read: No such file or directory'
+err_is "chultarvi: -\\x01: scan has no such option; $scan_help"
+run 0 scan a.book license --budget 5
 out_has 'license: A, original, score 1.0000'
+run 2 scan a.book license --budget
+err_is 'chultarvi: --budget wants a value'
+for words in 'scan -h' 'scan --help' 'scan a.book --help license' 'scan --budget 1 -h'; do
+    run 0 $words
+    out_has '--thorough'
+    err_is ''
+done
+run 0 scan -- a.book license
+out_has 'license: A'
 
 # scan: a second book beside
 printf 'another text of some words' >other
@@ -216,16 +236,17 @@ out_is 'license: A, original, score 1.0000
   1 scoring'
 { cat two; printf '\n\n'; cat other; } >mixed
 run 0 scan b.book --beside a.book mixed
-out_is 'mixed: no licence as a whole (best score 0.6154)
+out_is "mixed: no licence as a whole (best score 0.6154)
   line 6: B, original, score 1.0000, from b.book
   line 2: A, original, score 1.0000, from a.book
-  39 scorings'
+  2 lines with words are $unread
+  39 scorings"
 run 0 scan b.book --beside a.book --top-down 1 mixed
 out_has 'mixed: ranges
   line 2: A, original, score 1.0000, from a.book
   line 6: B, original, score 1.0000, from b.book'
 run 0 scan --json b.book --beside a.book license mixed
-out_has '{"note":"license","refusal":0,"licence":"A","book":"a.book","kind":"original","score":1,"scorings":2,"ranges":[]}
+out_has '{"note":"license","refusal":0,"licence":"A","book":"a.book","kind":"original","score":1,"rival":false,"scorings":2,"ranges":[],"unheld":0,"more":0}
 {"note":"mixed","refusal":0,"licence":null,"book":null,"kind":null,'
 json '[[r["licence"], r["book"], r["number"], r["first"], r["after"]] for r in notes[1]["ranges"]]' '[["B", "b.book", 0, 5, 6], ["A", "a.book", 1, 1, 2]]'
 run 0 scan --json --top-down 1 a.book --beside b.book mixed
@@ -245,7 +266,7 @@ err_is "chultarvi: --beside wants a book, not ''"
 run 2 scan a.book --beside
 err_is 'chultarvi: --beside wants a value'
 run 2 scan a.book --beside b.book
-err_is "chultarvi: scan wants a book and at least one note; $help"
+err_is "chultarvi: scan wants a book and at least one note; $scan_help"
 run 2 scan a.book --beside nowhere license
 err_is 'chultarvi: nowhere: cannot be read: No such file or directory'
 out_is ''
@@ -316,10 +337,10 @@ out_is 'license: M1023, original, score 1.0000, from maker.book
 run 0 scan --json most.book --beside maker.book two
 json '[[r["licence"], r["book"], r["number"]] for r in notes[0]["ranges"]]' '[["M1023", "maker.book", 2047]]'
 # the memory that host/README.md names, in MiB; a second book's is taken only for one
-broken memory-75 0 scan a.book license
-broken memory-75 2 scan a.book --beside b.book license
+broken memory-101 0 scan a.book license
+broken memory-101 2 scan a.book --beside b.book license
 err_has 'no memory for'
-broken memory-91 0 scan a.book --beside b.book license
+broken memory-117 0 scan a.book --beside b.book license
 broken read 2 scan a.book two
 err_has 'a.book: cannot be read: Input/output error'
 

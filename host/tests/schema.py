@@ -1,5 +1,5 @@
 #!/usr/bin/env python3
-"""Holds lines of JSON against host/scan.schema.json: schema.py SCHEMA <LINES. Prints each line that is not as it says, and why; the exit status is 0
+"""Holds lines of JSON against a schema, as host/scan.schema.json: schema.py SCHEMA <LINES. Prints each line that is not as it says, and why; the exit status is 0
 only where there is none and at least one line. It knows the words of JSON Schema that the schema has, and stops at any other."""
 import json
 import sys
