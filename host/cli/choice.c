@@ -1,7 +1,7 @@
 /* Which stored texts may be named on given lines at all, and books of these alone, so that the many short scans of one note do not each read and
    check whole books. A score is twice the common pairs of words over the pairs of both. So a text that scores above T has more than T / (2 - T) of its
-   pairs in the lines (0.9: nine elevenths). Three quarters of that is asked, since a pass may change pairs at the ends of lines. What is left out
-   cannot be named there; what is kept is scored by the library. */
+   pairs in the lines (0.9: nine elevenths). Three quarters of that is asked: what is left out cannot be named on the lines as a whole, and on some of
+   them only if the passes, which see a view whole, change a quarter of its pairs between the two. What is kept is scored by the library. */
 #include "scan.h"
 #include "../records.h"
 #include <stdlib.h>
