@@ -1,10 +1,10 @@
 -- What antt computes of the definitions: the marked cases of the rules as one table and one statement, and a second table of the same
--- form: the errors that look right, the order of the refusals, damaged books, and what lies empty.
+-- form: the errors that look right, the order of the refusals, stored texts by their numbers, damaged books, and what lies empty.
 -- Assumes nothing.
 use Prim.Native.Nat.{ℕ}
 use Prim.Native.String.{String}
 use mathlib.Core.Path.{_≡_, refl}
-use mathlib.Core.Bool.{true, false}
+use mathlib.Core.Bool.{true, false, cond}
 use mathlib.Core.List.{List, [], _∷_, _++_, map}
 use lib.ListN.{length, take, replicate}
 use lib.Ieee.{toBits, ofBits, binary32}
@@ -17,7 +17,7 @@ use Rattle.rules.specs.Passes.{aggressive}
 use Rattle.rules.specs.Search.{View, view}
 use Rattle.rules.specs.Book.{written, compiled, recordAt, nextPlace, At, end, whole, broken}
 use Rattle.rules.specs.Refusal.{Areas}
-use Rattle.rules.specs.Jobs.{check, compile, outputAfter, areaAfter, scoreJob, boundsJob, scan, resultsAfter}
+use Rattle.rules.specs.Jobs.{check, compile, outputAfter, areaAfter, scoreJob, boundsJob, scan, resultsAfter, nameJob}
 use Rattle.rules.proofs.Opened.{opened}
 
 pub record Case : Type 0 where
@@ -159,6 +159,19 @@ shown broken = 2 ∷ []
 readCase : ℕ → List ℕ → Case
 readCase place w = record { got = shown (recordAt bookA place) ++ nextPlace place (recordAt bookA place) ∷ []; want = w }
 
+-- ---- a stored text by its number: refusal, kind; second, at, len of its licence's name
+nameCase : List (List ℕ) → ℕ → List ℕ → Case
+nameCase bs k w =
+    let r = nameJob bs k in
+    record { got = r .refusal ∷ r .kind ∷ cond (r .part .second) 1 0 ∷ r .part .at ∷ r .part .len ∷ []; want = w }
+
+-- four texts under two names, an alias between; and two texts under the first of these names
+several : List ℕ
+several = bare "A" ++ rec 3 (body 0 0 []) ++ rec 4 (body 0 0 []) ++ rec 5 (text "AA") ++ bare "BC"
+
+other : List ℕ
+other = bare "A" ++ rec 4 (body 0 0 [])
+
 -- ---- scans that are refused: the number, all else zero, results as they were
 refusedCase : List ℕ → List ℕ → Limits → Mode → Areas → ℕ → Case
 refusedCase t book lim mode a n = scanCase t book lim mode 0 a 3 ((n ∷ 0 ∷ 0 ∷ 0 ∷ 0 ∷ 0 ∷ []) ++ noName ++ 7 ∷ 7 ∷ 7 ∷ [])
@@ -252,6 +265,28 @@ others =
     compileCase note room 44 ((11 ∷ 0 ∷ []) ++ replicate 44 9 ++ 0 ∷ 0 ∷ []) ∷
     compileCase note room 46 ((0 ∷ 45 ∷ []) ++ bodyA ++ 9 ∷ 0 ∷ 0 ∷ []) ∷
     compileCase [] (record { bytes = 64; words = 64 }) 8 ((0 ∷ 8 ∷ []) ++ replicate 10 0) ∷
+    -- the name is the licence's, not the record's; numbers count on into the second book, where an equal name stands elsewhere; N is none
+    nameCase (several ∷ []) 0 (0 ∷ 2 ∷ 0 ∷ 6 ∷ 1 ∷ []) ∷
+    nameCase (several ∷ []) 1 (0 ∷ 3 ∷ 0 ∷ 6 ∷ 1 ∷ []) ∷
+    nameCase (several ∷ []) 2 (0 ∷ 4 ∷ 0 ∷ 6 ∷ 1 ∷ []) ∷
+    nameCase (several ∷ []) 3 (0 ∷ 2 ∷ 0 ∷ 63 ∷ 2 ∷ []) ∷
+    nameCase (several ∷ []) 4 (9 ∷ 0 ∷ 0 ∷ 0 ∷ 0 ∷ []) ∷
+    nameCase (several ∷ other ∷ []) 3 (0 ∷ 2 ∷ 0 ∷ 63 ∷ 2 ∷ []) ∷
+    nameCase (several ∷ other ∷ []) 4 (0 ∷ 2 ∷ 1 ∷ 6 ∷ 1 ∷ []) ∷
+    nameCase (several ∷ other ∷ []) 5 (0 ∷ 4 ∷ 1 ∷ 6 ∷ 1 ∷ []) ∷
+    nameCase (several ∷ other ∷ []) 6 (9 ∷ 0 ∷ 0 ∷ 0 ∷ 0 ∷ []) ∷
+    nameCase (other ∷ other ∷ []) 1 (0 ∷ 4 ∷ 0 ∷ 6 ∷ 1 ∷ []) ∷
+    nameCase (other ∷ other ∷ []) 2 (0 ∷ 2 ∷ 1 ∷ 6 ∷ 1 ∷ []) ∷
+    nameCase ([] ∷ several ∷ []) 3 (0 ∷ 2 ∷ 1 ∷ 63 ∷ 2 ∷ []) ∷
+    nameCase (several ∷ [] ∷ []) 3 (0 ∷ 2 ∷ 0 ∷ 63 ∷ 2 ∷ []) ∷
+    nameCase (several ∷ [] ∷ []) 0xFFFFFFFF (9 ∷ 0 ∷ 0 ∷ 0 ∷ 0 ∷ []) ∷
+    -- 4 before 5, 5 before 9
+    nameCase ((1 ∷ []) ∷ []) 0 (4 ∷ 0 ∷ 0 ∷ 0 ∷ 0 ∷ []) ∷
+    nameCase ((1 ∷ []) ∷ other ∷ []) 0 (4 ∷ 0 ∷ 0 ∷ 0 ∷ 0 ∷ []) ∷
+    nameCase (other ∷ (1 ∷ []) ∷ []) 0 (4 ∷ 0 ∷ 0 ∷ 0 ∷ 0 ∷ []) ∷
+    nameCase ([] ∷ (1 ∷ []) ∷ []) 9 (4 ∷ 0 ∷ 0 ∷ 0 ∷ 0 ∷ []) ∷
+    nameCase ([] ∷ []) 0 (5 ∷ 0 ∷ 0 ∷ 0 ∷ 0 ∷ []) ∷
+    nameCase ([] ∷ [] ∷ []) 9 (5 ∷ 0 ∷ 0 ∷ 0 ∷ 0 ∷ []) ∷
     -- books: empty; an empty table; every kind in its place; names that rise
     bookCase [] (0 ∷ 0 ∷ []) ∷
     bookCase (bare "A") (0 ∷ 1 ∷ []) ∷
@@ -306,6 +341,6 @@ others =
 
 pub others-hold : map (λ c. c .got) others ≡ map (λ c. c .want) others
 unfolding
-    others readCase shown unsound with bare body entry rec refusedCase tiny slim note half unity nan name noName scanCase boundsCase scoreCase compileCase
+    others readCase shown nameCase several other unsound with bare body entry rec refusedCase tiny slim note half unity nan name noName scanCase boundsCase scoreCase compileCase
     bookCase bytesCase viewCase lineCase wholeView limits room bookA bodyA opened
 others-hold = refl

@@ -10,8 +10,8 @@ use Rattle.rules.specs.Search.{whole, viewed, blank, noText, scored, sco
 use Rattle.rules.specs.Scan.{after, names, stops, below, eachPass, elimination, stepsOn, steps, viewsOf, latest, settled, contained, andOn, downOn, downFrom, topDown, events, afford, scorings, records, verdict, numbers}
 use Rattle.rules.specs.Count.{enough, roundsOn, rounds, mostFor, mostElimination, mostTopDown}
 use Rattle.rules.specs.Book.{number, written, front, also, goOn, pieces, recordOf, recordsOf, placed, recordAt, nextPlace, entryOf, entriesOf, sum, term, twoTerms, soundEntries, soundTable, soundName, storedKind, soundBody, follows, soundRecords, tableIn, storedIn, storedOf, storedFrom, stored, shelved, allSound, namesIn, namesOf, nameParts, filled, sound, entriesOut, tableOut, compiled}
-use Rattle.rules.specs.Refusal.{refusal, ofText, ofBooks, small, ofCheck, beforeCompile, ofCompile, ofView, unit, stepZero, resultsNeed, overBudget, beforeScan, ofScan}
-use Rattle.rules.specs.Jobs.{areaAfter, over, check, compile, outputAfter, scoreJob, boundsFound, boundsJob, happened, named, namePart, answered, scan, resultsAfter}
+use Rattle.rules.specs.Refusal.{refusal, ofText, ofBooks, small, ofCheck, beforeCompile, ofCompile, ofView, ofName, unit, stepZero, resultsNeed, overBudget, beforeScan, ofScan}
+use Rattle.rules.specs.Jobs.{areaAfter, over, check, compile, outputAfter, scoreJob, boundsFound, boundsJob, happened, named, namePart, answered, scan, resultsAfter, numbered, nameJob}
 use lib.Ieee.{div, ofInt, ofBits, toBits, lt, le}
 
 unfoldable pub opened : Unit {0}
@@ -26,7 +26,7 @@ unfolding
     after names stops below eachPass elimination stepsOn steps viewsOf latest settled contained andOn downOn downFrom topDown events afford scorings records verdict numbers
     enough roundsOn rounds mostFor mostElimination mostTopDown
     number written front also goOn pieces recordOf recordsOf placed recordAt nextPlace entryOf entriesOf sum term twoTerms soundEntries soundTable soundName storedKind soundBody follows soundRecords tableIn storedIn storedOf storedFrom stored shelved allSound namesIn namesOf nameParts filled sound entriesOut tableOut compiled
-    refusal ofText ofBooks small ofCheck beforeCompile ofCompile ofView unit stepZero resultsNeed overBudget beforeScan ofScan
-    areaAfter over check compile outputAfter scoreJob boundsFound boundsJob happened named namePart answered scan resultsAfter
+    refusal ofText ofBooks small ofCheck beforeCompile ofCompile ofView ofName unit stepZero resultsNeed overBudget beforeScan ofScan
+    areaAfter over check compile outputAfter scoreJob boundsFound boundsJob happened named namePart answered scan resultsAfter numbered nameJob
     div ofInt ofBits toBits lt le
 opened = tt

@@ -14,13 +14,14 @@ use Rattle.rules.specs.declared.Compiled.{Compiled}
 use Rattle.rules.specs.declared.Scored.{Scored}
 use Rattle.rules.specs.declared.Bounded.{Bounded}
 use Rattle.rules.specs.declared.Scanned.{Scanned}
+use Rattle.rules.specs.declared.NamedText.{NamedText}
 use Rattle.rules.specs.Sizes.{nameMost}
 use Rattle.rules.specs.Lines.{lines}
 use Rattle.rules.specs.Table.{nought}
 use Rattle.rules.specs.Search.{View, Stored, noText, Best, scoreView, bounds}
 use Rattle.rules.specs.Scan.{Event, events, afford, scorings, records, verdict, names, numbers}
 use Rattle.rules.specs.Book.{stored, shelved, nameParts, noPart, compiled}
-use Rattle.rules.specs.Refusal.{refusal, Areas, ofCheck, ofCompile, ofView, ofScan}
+use Rattle.rules.specs.Refusal.{refusal, Areas, ofCheck, ofCompile, ofView, ofName, ofScan}
 
 -- ---- lent memory
 -- a work area after an answer: every element zero after 0, 11 and 12; as it was after any other
@@ -107,6 +108,17 @@ scan t bs lim mode b a results =
 unfoldable pub resultsAfter : List ℕ → List (List ℕ) → Limits → Mode → ℕ → Areas → List ℕ → List ℕ
 resultsAfter t bs lim mode b a old = over (numbers (records (happened t bs lim mode b a (length old)))) old
 
+-- ---- name a stored text (gives its kind, and where its licence's name stands)
+-- the stored text k under the refusal n: no text where n is one
+unfoldable pub numbered : ℕ → List (List ℕ) → ℕ → Stored
+numbered n bs k = cond (eqb n 0) (getD (shelved 0 bs) k noText) noText
+
+unfoldable pub nameJob : List (List ℕ) → ℕ → NamedText
+nameJob bs k =
+    let n = refusal (ofName bs k) in
+    let w = numbered n bs k in
+    record { refusal = n; kind = w .kind; part = namePart (nameParts false bs) w }
+
 -- ---- what each public call promises: its answer, and every lent area at exit; `bs` are the lent books, one or two
 abbrev pub lent : List ℕ → List ℕ → Areas
 lent bytes words = record { bytes = length bytes; words = length words }
@@ -129,6 +141,9 @@ pub record BoundsDone (t : List ℕ) (bs : List (List ℕ)) (v : View) (k : ℕ)
   pub answer : a ≡ boundsJob t bs v k (lent b₀ w₀)
   pub bytes : b ≡ areaAfter (a .refusal) b₀
   pub words : w ≡ areaAfter (a .refusal) w₀
+
+pub record NameDone (bs : List (List ℕ)) (k : ℕ) (a : NamedText) : Type 0 where
+  pub answer : a ≡ nameJob bs k
 
 pub record ScanDone (t : List ℕ) (bs : List (List ℕ)) (lim : Limits) (mode : Mode) (budget : ℕ) (b₀ b w₀ w r₀ r : List ℕ) (a : Scanned) : Type 0 where
   pub answer : a ≡ scan t bs lim mode budget (lent b₀ w₀) (length r₀)

@@ -42,6 +42,10 @@ ofBooks bs =
     row 4 (not (allSound bs)) ∷
     row 5 (eqb (length (shelved 0 bs)) 0) ∷ []
 
+-- no stored text has the number k
+abbrev pub ofNumber : List (List ℕ) → ℕ → Row
+ofNumber bs k = row 9 (leb (length (shelved 0 bs)) k)
+
 -- the lengths of the two lent work areas, in bytes and in u32
 pub record Areas : Type 0 where
   pub bytes : ℕ
@@ -66,8 +70,12 @@ unfoldable pub ofView : List ℕ → List (List ℕ) → View → ℕ → Areas 
 ofView t bs v k a =
     ofText t ++ ofBooks bs ++
     row 8 (not (leb (v .start) (v .end) && leb (v .end) (lineCount t))) ∷
-    row 9 (leb (length (shelved 0 bs)) k) ∷
+    ofNumber bs k ∷
     row 10 (small t a) ∷ []
+
+-- ---- name the stored text k
+unfoldable pub ofName : List (List ℕ) → ℕ → List Row
+ofName bs k = ofBooks bs ++ ofNumber bs k ∷ []
 
 -- ---- scan
 -- from 0.0 to 1.0: a NaN is not, and -0.0, which equals 0.0, is

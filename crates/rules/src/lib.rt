@@ -1,4 +1,4 @@
-// The types that the definitions in specs/ and the code share: a scan's settings, what a scoring, a search and bounds yield, and the five answers.
+// The types that the definitions in specs/ and the code share: a scan's settings, what a scoring, a search and bounds yield, and the six answers.
 // From detection/scan.rs of spdx 0.13.6 (Copyright 2018 Amazon.com, Inc. or its affiliates. All Rights Reserved.
 // SPDX-License-Identifier: Apache-2.0), changed. Assumes nothing.
 
@@ -108,5 +108,12 @@ pub struct Scanned {
     pub score: f32,
     pub count: u64,
     pub records: u32,
+    pub part: Named,
+}
+
+// The answer to `name a stored text`: its kind, and where its licence's name stands.
+pub struct NamedText {
+    pub refusal: u32,
+    pub kind: u32,
     pub part: Named,
 }
