@@ -39,7 +39,7 @@ use Rattle.detection_shelf.specs.declared.Counts.{Counts}
 use Rattle.detection_shelf.specs.Shelves.{Shelf, booksOf, Lends, texts, CountsOf}
 use Rattle.detection_shelf.proofs.ShelfLaws.{lent-read}
 use Rattle.refusals.specs.declared.Admitted.{Admitted}
-use Rattle.refusals.specs.Admits.{Admits, AdmitsBooks, AdmitsView, Through, ViewThrough, ScanThrough}
+use Rattle.refusals.specs.Admits.{AdmitsShelf, Admits, AdmitsBooks, AdmitsView, Through, ViewThrough, ScanThrough}
 use Rattle.refusals_rows.specs.Rows.{smallFor, viewRows, scanRows}
 use Rattle.refusals.proofs.AreaLaws.{BothAfter, kept}
 
@@ -133,6 +133,9 @@ module _ (books : Shelf) (two : Bool) (lends : Lends books two) where
   unfolding refusal ofBooks
   books-are = rw (lent-sound, lent-read books two lends .texts)
 
+  pub shelf-refused : (n : ℕ) (x : Counts) → n ≡ ofLent → (n ≡ 0 → ⊥) → AdmitsShelf books two (record { refusal = n; texts = x })
+  shelf-refused n x e k = record { number = e; texts = λ z. absurd (k z) }
+
   -- a book that is refused is not sound
   pub checks-first : (c : Checked) → CheckDone (books .first) c → (c .refusal ≡ 0 → ⊥) → c .refusal ≡ ofLent
   unfolding refusal ofCheck
@@ -195,8 +198,8 @@ module _ (t : List ℕ) (books : Shelf) (two : Bool) where
   pub text-then : refusal (ofText t) ≡ 0 → refusal (ofBooks (booksOf books two)) ≡ refusal both
   text-then z = sym (refusal-then (ofText t) (ofBooks (booksOf books two)) (text-numbered t) z)
 
-  pub both-refused : (n l : ℕ) (x : Counts) → n ≡ refusal both → (n ≡ 0 → ⊥) → AdmitsBooks t books two (record { refusal = n; lines = l; texts = x })
-  both-refused n l x e k = record { number = e; lines = λ z. absurd (k z); texts = λ z. absurd (k z) }
+  pub text-refused : (n l : ℕ) (x : Counts) → n ≡ refusal both → (n ≡ 0 → ⊥) → AdmitsBooks t books two (record { refusal = n; lines = l; texts = x })
+  text-refused n l x e k = record { number = e; lines = λ z. absurd (k z); texts = λ z. absurd (k z) }
 
   module _ {a : Admitted} (h : AdmitsBooks t books two a) (rest : List Row) where
     pub both-first : (a .refusal ≡ 0 → ⊥) → Admits t books (both ++ rest) a

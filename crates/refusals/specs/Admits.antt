@@ -13,6 +13,12 @@ use Rattle.rules.specs.Lines.{lineCount}
 use Rattle.rules.specs.Refusal.{Row, refusal, Areas, ofText, ofBooks, ofView, beforeScan, unit, stepZero, resultsNeed}
 use Rattle.detection_shelf.specs.Shelves.{Shelf, booksOf, texts, CountsOf}
 use Rattle.refusals.specs.declared.Admitted.{Admitted}
+use Rattle.refusals.specs.declared.BooksAdmitted.{BooksAdmitted}
+
+-- of the lent books alone
+pub record AdmitsShelf (books : Shelf) (two : Bool) (r : BooksAdmitted) : Type 0 where
+  pub number : r .refusal ≡ refusal (ofBooks (booksOf books two))
+  pub texts : r .refusal ≡ 0 → CountsOf books (r .texts)
 
 pub record Admits (t : List ℕ) (books : Shelf) (rows : List Row) (r : Admitted) : Type 0 where
   pub number : r .refusal ≡ refusal rows

@@ -1,4 +1,4 @@
-// What a job refuses before any work, the first that applies in the rules' order: of compile, of score and bounds, and of scan.
+// What a job refuses before any work, the first that applies in the rules' order: of lent books, of compile, of score and bounds, and of scan.
 // Added to spdx 0.13.6 (detection/scan.rs, Copyright 2018 Amazon.com, Inc. or its affiliates. All Rights Reserved.
 // SPDX-License-Identifier: Apache-2.0), which refuses nothing. Assumes nothing.
 ghost use mathlib.Core.Path.{_≡_};
@@ -7,7 +7,7 @@ ghost use mathlib.Core.List.{[]};
 ghost use Rattle.rules.specs.Jobs.{CheckDone};
 ghost use Rattle.rules.specs.Refusal.{refusal, beforeCompile};
 ghost use Rattle.detection_shelf.specs.Shelves.{shelf, Lends};
-ghost use Rattle.refusals.specs.Admits.{AdmitsBooks, AdmitsView, AdmitsScan};
+ghost use Rattle.refusals.specs.Admits.{AdmitsShelf, AdmitsBooks, AdmitsView, AdmitsScan};
 use detection_check::check_book;
 use detection_shelf::Counts;
 use preproc_test::test_text;
@@ -26,16 +26,18 @@ pub struct Admitted {
     pub texts: Counts,
 }
 
+// What is refused of the lent books, 0 for nothing; and where nothing is, how many texts they store.
+pub struct BooksAdmitted {
+    pub refusal: u32,
+    pub texts: Counts,
+}
+
 // What is refused, with nothing counted.
-fn refused(refusal: u32, lines: usize) -> Admitted
-    ensures { λ r. ⌜ r ≡ record { refusal = refusal; lines = lines; texts = record { first = 0; all = 0 } } ⌝ }
+fn refused(refusal: u32) -> BooksAdmitted
+    ensures { λ r. ⌜ r ≡ record { refusal = refusal; texts = record { first = 0; all = 0 } } ⌝ }
 {
     let texts = Counts { first: 0, all: 0 };
-    Admitted {
-        refusal,
-        lines,
-        texts,
-    }
+    BooksAdmitted { refusal, texts }
 }
 
 // The check of the second book, where there is one: one that is not lent is not looked at, and stores no text.
@@ -52,7 +54,31 @@ fn check_second(second: &[u8], two: bool) -> Checked
     }
 }
 
-// Refusals 1 to 5, by the rows of the lent books, one or two: one walk over the text, and one over each book where the text is taken.
+// Refusals 4 and 5, by the rows of the lent books, one or two: one walk over each.
+pub fn admit_books(book: &[u8], second: &[u8], two: bool) -> BooksAdmitted
+    requires { ⌜ Lends (shelf (now book) (now second)) two ⌝ }
+    ensures { λ r. ⌜ AdmitsShelf (shelf (now (book .entry)) (now (second .entry))) two r ⌝ }
+{
+    let one = check_book(book);
+    if one.refusal != 0 {
+        return refused(one.refusal);
+    }
+    let other = check_second(second, two);
+    if other.refusal != 0 {
+        return refused(other.refusal);
+    }
+    let all = one.texts + other.texts;
+    if all == 0 {
+        return refused(5);
+    }
+    let texts = Counts {
+        first: one.texts,
+        all,
+    };
+    BooksAdmitted { refusal: 0, texts }
+}
+
+// Refusals 1 to 5: one walk over the text, and the books where the text is taken.
 fn admit_text_books(text: &[u8], book: &[u8], second: &[u8], two: bool) -> Admitted
     requires { ⌜ Lends (shelf (now book) (now second)) two ⌝ }
     ensures { λ r. ⌜ AdmitsBooks (now (text .entry)) (shelf (now (book .entry)) (now (second .entry))) two r ⌝ }
@@ -60,26 +86,17 @@ fn admit_text_books(text: &[u8], book: &[u8], second: &[u8], two: bool) -> Admit
     let tested = test_text(text);
     let lines = tested.lines;
     if tested.refusal != 0 {
-        return refused(tested.refusal, lines);
+        let texts = Counts { first: 0, all: 0 };
+        return Admitted {
+            refusal: tested.refusal,
+            lines,
+            texts,
+        };
     }
-    let one = check_book(book);
-    if one.refusal != 0 {
-        return refused(one.refusal, lines);
-    }
-    let other = check_second(second, two);
-    if other.refusal != 0 {
-        return refused(other.refusal, lines);
-    }
-    let all = one.texts + other.texts;
-    if all == 0 {
-        return refused(5, lines);
-    }
-    let texts = Counts {
-        first: one.texts,
-        all,
-    };
+    let books = admit_books(book, second, two);
+    let texts = books.texts;
     Admitted {
-        refusal: 0,
+        refusal: books.refusal,
         lines,
         texts,
     }
