@@ -141,6 +141,14 @@ typedef struct { uint32_t refusal, first, after; float score; uint64_t count; } 
 chultarvi_bounds_found chultarvi_bounds(const uint8_t *text, size_t text_len, const uint8_t *book, size_t book_len, size_t start, size_t end,
                                         uint32_t number, uint8_t *area, size_t area_len, uint32_t *words, size_t words_len);
 
+/* Names the stored text `number`, counted from 0 in the book's order: the number of a record of a scan, for one. kind: CHULTARVI_ORIGINAL, _ALTERNATE or
+   _HEADER. second, name_at, len: where the name stands that it stands under, its licence's; `len` bytes of the second book where `second` is true, else
+   of the first, from byte name_at on, and all of them lie in that book (proved: named-lies, named-spelled, named-most, crates/name_job/proofs). See
+   chultarvi_stored_name. The numbers in the records of a scan over the same books are never refused (proved: records-named). No text and no area is lent,
+   and nothing is written. Where it is refused kind is CHULTARVI_NONE, and second, name_at and len are false, 0 and 0. Refusals 4, 5, 9. */
+typedef struct { uint32_t refusal, kind, len; bool second; size_t name_at; } chultarvi_text_named;
+chultarvi_text_named chultarvi_name_stored(const uint8_t *book, size_t book_len, uint32_t number);
+
 /* What a scan answers, of either kind.
      score      the overall score: that of the best stored text over the whole text (0.0 in top-down, which has none)
      kind       CHULTARVI_ORIGINAL, _ALTERNATE or _HEADER where that score is above the threshold; else CHULTARVI_NONE, and len and name are 0
@@ -175,7 +183,7 @@ chultarvi_note_scanned chultarvi_top_down(const uint8_t *text, size_t text_len, 
                                           uint64_t step, uint64_t budget, uint8_t *area, size_t area_len, uint32_t *words, size_t words_len,
                                           uint32_t *results, size_t results_len);
 
-/* The same four over two books: their stored texts count on from the first into the second, and N is the sum, also in the budget's "each stored
+/* The same five over two books: their stored texts count on from the first into the second, and N is the sum, also in the budget's "each stored
    text". Refusal 4 if either is unsound, 5 if neither has a text; an empty book, of length 0, may stand on either side. Each book has its own limits
    of bytes and texts. Both are only read, and may be the same memory. Names rise in each book for itself, and equal ones may stand in both: among
    equal scores the lower number wins, so the first book. */
@@ -185,6 +193,7 @@ chultarvi_view_scored chultarvi_score_both(const uint8_t *text, size_t text_len,
 chultarvi_bounds_found chultarvi_bounds_both(const uint8_t *text, size_t text_len, const uint8_t *book, size_t book_len, const uint8_t *second,
                                              size_t second_len, size_t start, size_t end, uint32_t number, uint8_t *area, size_t area_len,
                                              uint32_t *words, size_t words_len);
+chultarvi_text_named chultarvi_name_stored_both(const uint8_t *book, size_t book_len, const uint8_t *second, size_t second_len, uint32_t number);
 
 chultarvi_note_scanned chultarvi_eliminate_both(const uint8_t *text, size_t text_len, const uint8_t *book, size_t book_len, const uint8_t *second,
                                                 size_t second_len, float threshold, float shallow, bool optimize, uint16_t passes, uint64_t budget,
@@ -194,12 +203,21 @@ chultarvi_note_scanned chultarvi_top_down_both(const uint8_t *text, size_t text_
                                                size_t second_len, float threshold, float shallow, uint64_t step, uint64_t budget, uint8_t *area,
                                                size_t area_len, uint32_t *words, size_t words_len, uint32_t *results, size_t results_len);
 
-/* The name without a copy: its first byte in the book that holds it, of those that the scan was lent; `len` bytes follow from there. With one book
-   `second` is not looked at and may be null. Where there is no name it is the first book's start, so null where that is null. */
+/* The name without a copy: its first byte in the book that holds it, of those that the call was lent; `len` bytes follow from there. With one book
+   `second` is not looked at and may be null. Where there is no name it is the first book's start, so null where that is null. chultarvi_name takes a
+   scan's answer, chultarvi_stored_name that of a stored text's number; chultarvi_byte_at is what both do. */
+static inline const uint8_t *chultarvi_byte_at(const uint8_t *book, const uint8_t *second, bool in_second, size_t at)
+{
+    const uint8_t *holder = in_second ? second : book;
+    return at ? holder + at : holder;
+}
 static inline const uint8_t *chultarvi_name(const uint8_t *book, const uint8_t *second, const chultarvi_note_scanned *answer)
 {
-    const uint8_t *holder = answer->second ? second : book;
-    return answer->name_at ? holder + answer->name_at : holder;
+    return chultarvi_byte_at(book, second, answer->second, answer->name_at);
+}
+static inline const uint8_t *chultarvi_stored_name(const uint8_t *book, const uint8_t *second, const chultarvi_text_named *answer)
+{
+    return chultarvi_byte_at(book, second, answer->second, answer->name_at);
 }
 
 #ifdef __cplusplus

@@ -1,8 +1,8 @@
-"""Makes questions for hold.py and rows.py: calls of the five jobs, sound and with faults, each area filled with garbage.
+"""Makes questions for hold.py and rows.py: calls of the six jobs, sound and with faults, each area filled with garbage.
 
 A plan is a question without its areas. For each area it holds by how much it is longer than needed (below 0: shorter), so that a fault of the text
 keeps the others right. `filled` makes the question. A fault is named by the refusal that it should bring; whether it does, the model says. Plans of
-the jobs that scan or look at a view have one book or, where `two` is said, two.
+the jobs that scan, look at a view or name a stored text have one book or, where `two` is said, two.
 """
 
 import copy
@@ -18,7 +18,9 @@ WHOLE = 2**64 - 1
 MARKED_TEXT = b"copyright 20xx me irl\n// My First License\nfn hello() {\n ..."
 SCANS = ("eliminate", "down")
 JOBS = tuple(model.REFUSALS)
-OF_TWO = ("score", "bounds", *SCANS)  # the jobs that take two books
+VIEWS = ("score", "bounds")
+NUMBERED = (*VIEWS, "name")  # the jobs that take a stored number
+OF_TWO = (*VIEWS, *SCANS, "name")  # the jobs that take two books
 
 
 def jobs(two):
@@ -175,8 +177,9 @@ def sound_plan(rng, job, lines=9, two=False):
     plan.budget, plan.sizes = WHOLE, None
     if job in SCANS:
         plan.threshold, plan.shallow = limits(rng, plan)
-    if job in ("score", "bounds"):
+    if job in VIEWS:
         plan.start, plan.end = compare.any_view(rng, plan.text.count(b"\n") + 1)
+    if job in NUMBERED:
         plan.number = rng.randrange(len(model.shelved(plan.books)))
     return plan
 
@@ -203,7 +206,7 @@ def filled(rng, plan, garbage=random_elements):
     """The question, every area garbage and as long as the plan says."""
     need = plan.sizes or needs(plan)
     size = {area: max(0, need[area] + more) for area, more in plan.slack.items()}
-    takes = {"check": (), "compile": ("area", "words", "out"), "score": ("area", "words"), "bounds": ("area", "words")}
+    takes = {"check": (), "name": (), "compile": ("area", "words", "out"), "score": ("area", "words"), "bounds": ("area", "words")}
     lent = takes.get(plan.job, ("area", "words", "results"))
     width = {"area": 1, "words": 4, "out": 1, "results": 4}
     areas = {area: garbage(rng, size[area], width[area]) if area in lent else b"" for area in size}

@@ -10,12 +10,11 @@ import random
 import types
 
 import model
-from asking import MARKED_BOOK, MARKED_TEXT, OF_TWO, WHOLE, record, table_body
+from asking import MARKED_BOOK, MARKED_TEXT, NUMBERED, OF_TWO, SCANS, VIEWS, WHOLE, record, table_body
 
 Edge = collections.namedtuple("Edge", "what plan refusal more", defaults=({},))  # `more`: other fields of the answer that are due
 NEAR = (-1, 0, 1)
-WITH_TEXT = ("compile", *OF_TWO)
-VIEWS, SCANS = OF_TWO[:2], OF_TWO[2:]
+WITH_TEXT = ("compile", *VIEWS, *SCANS)
 HALF, NINETY, ALMOST = model.bits_of(0.5), model.bits_of(0.9), model.bits_of(0.99)
 
 
@@ -160,7 +159,7 @@ def stored_texts():
 def numbered(what, books, marks, texts, bad):
     """So many stored texts, or books that are unsound: around these marks the stored number, and the budget where each text is scored once."""
     for mark in marks:
-        for job in VIEWS:
+        for job in NUMBERED:
             yield Edge(what, marked(job, books=books, number=mark), 4 if bad else due(mark >= texts, 9))
         yield Edge(what, marked("eliminate", books=books, optimize=False, budget=mark), 4 if bad else due(mark < texts, 12))
         yield Edge(what, marked("down", books=books, step=WHOLE, budget=mark), 4 if bad else due(mark < texts, 12))
@@ -178,7 +177,7 @@ def bytes_of_texts():
 def views():
     for job, (start, end) in itertools.product(VIEWS, itertools.product((0, 1, 3, 4, 5, WHOLE), repeat=2)):
         yield Edge("a view up to L", marked(job, start=start, end=end), due(not start <= end <= 4, 8))
-    for job, texts, by in itertools.product(VIEWS, (1, 2, 5), NEAR):
+    for job, texts, by in itertools.product(NUMBERED, (1, 2, 5), NEAR):
         yield Edge("the stored number N", marked(job, books=(many_texts(texts),), number=texts + by), due(by >= 0, 9))
 
 
@@ -258,7 +257,7 @@ def pairs():
     for job, (books, refusal) in itertools.product(OF_TWO, PAIRS.items()):
         yield Edge("4 of either, 5 of both", marked(job, books=books), refusal)
     for job in OF_TWO:
-        yield Edge("one book lent twice", marked(job, books=(ANOTHER + MORE,) * 2, same=True, number=3 * (job in VIEWS)), 0)
+        yield Edge("one book lent twice", marked(job, books=(ANOTHER + MORE,) * 2, same=True, number=3 * (job in NUMBERED)), 0)
 
 
 def parts():
@@ -279,6 +278,23 @@ def name_parts():
     for books, refusal, part in parts():
         told = {} if refusal else {"part": part, "name_len": part[2]}
         yield Edge("the name's part", marked("eliminate", books=books, text=NOTE, optimize=False), refusal, told)
+    yield from stored_names()
+
+
+def stored_names():
+    """By their numbers: the last of the first book, the first of the second; variants under their licence's name; equal names, each in its own book."""
+    variants = MARKED_BOOK + record(3, EMPTY) + record(4, EMPTY) + record(5, b"alias")
+    shapes = {
+        (variants + MORE,): [(2, (0, 6, 1)), (3, (0, 6, 1)), (4, (0, 6, 1)), (2, (0, 103, 1))],
+        (variants, variants): [(2, (0, 6, 1)), (3, (0, 6, 1)), (4, (0, 6, 1)), (2, (1, 6, 1)), (3, (1, 6, 1)), (4, (1, 6, 1))],
+        (ANOTHER, MARKED_BOOK): [(2, (0, 6, 1)), (2, (1, 6, 1))],
+        (b"", ANOTHER + MORE): [(2, (1, 6, 1)), (2, (1, 95, 1))],
+    }
+    for books, texts in shapes.items():
+        for number, (kind, part) in enumerate(texts):
+            yield Edge("stored texts by number", marked("name", books=books, number=number), 0, {"kind": kind, "part": part, "name_len": 1})
+        for number in (len(texts), len(texts) + 1, 2**31, 2**32 - 1):
+            yield Edge("stored texts by number", marked("name", books=books, number=number), 9, {"kind": 0, "part": (0, 0, 0), "name_len": 0})
 
 
 def paid():
@@ -315,7 +331,7 @@ def over_together():
 
 
 def both():
-    yield from areas(OF_TWO, (MARKED_TEXT,), books=TWO)
+    yield from areas(WITH_TEXT[1:], (MARKED_TEXT,), books=TWO)
     yield from results((0, 2), (MARKED_TEXT,), (1,), books=TWO)
     for make in (cases, pairs, name_parts, paid, counted_on, over_together):
         yield from make()

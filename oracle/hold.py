@@ -35,7 +35,7 @@ use lib.ListN.{length, replicate}
 use lib.Ieee.{Float, toBits, ofBits, binary32}
 use Rattle.rules.specs.Bytes.{text}
 use Rattle.rules.specs.Search.{view}
-use Rattle.rules.specs.Jobs.{lent, areaAfter, check, compile, outputAfter, scoreJob, boundsJob, happened, answered, scan, resultsAfter}
+use Rattle.rules.specs.Jobs.{lent, areaAfter, check, compile, outputAfter, scoreJob, boundsJob, happened, answered, scan, resultsAfter, nameJob}
 use Rattle.rules.specs.declared.Limits.{Limits}
 use Rattle.rules.specs.declared.Mode.{Mode}
 use Rattle.rules.specs.declared.Mode.the-variants.{Elimination, TopDown}
@@ -128,8 +128,14 @@ scanRow t bs lim mode budget b a results w =
           resultsAfter t bs lim mode budget (lent b a) results ++ areaAfter (r .refusal) b ++ areaAfter (r .refusal) a;
       want = w;
     }
+
+-- refusal, kind, the name's part
+pub nameRow : List (List ℕ) → ℕ → List ℕ → Row
+nameRow bs k w =
+    let r = nameJob bs k in
+    record { got = r .refusal ∷ r .kind ∷ bit (r .part .second) ∷ r .part .at ∷ r .part .len ∷ []; want = w }
 """
-UNFOLDING = "garbage bits bit limits checkRow compileRow scoreRow boundsRow scanRow opened"
+UNFOLDING = "garbage bits bit limits checkRow compileRow scoreRow boundsRow scanRow nameRow opened"
 
 # ---- questions and answers as antt writes them ---------------------------------------------------------------------------------------------
 
@@ -180,6 +186,8 @@ def called(q):
     if q.job == "compile":
         return f"compileRow {text} {areas} {area_term(q.out, 1)}"
     books = compare.listed(map(text_term, q.books))
+    if q.job == "name":
+        return f"nameRow {books} {q.number}"
     if q.job in ("score", "bounds"):
         return f"{q.job}Row {text} {books} {q.start} {q.end} {q.number} {areas}"
     mode = f"(Elimination {str(q.optimize).lower()} {q.passes})" if q.job == "eliminate" else f"(TopDown {q.step})"
@@ -191,6 +199,8 @@ def wanted(q, a):
     both = f"{area_term(a.area, 1)} ++ {area_term(a.words, 4)}"
     if q.job == "check":
         return compare.listed([a.refusal, a.texts])
+    if q.job == "name":
+        return compare.listed([a.refusal, a.kind, *a.part])
     if q.job == "compile":
         return f"({compare.listed([a.refusal, a.len])} ++ {area_term(a.out, 1, a.len)} ++ {both})"
     if q.job == "score":
@@ -221,12 +231,13 @@ PARTS = {
     "bounds": ("refusal", "first", "after", "score", "count", "area", "words"),
     "eliminate": SCANNED,
     "down": SCANNED,
+    "name": ("refusal", "kind", "second", "at", "len"),
 }
 
 
 def spoiled(a, job, part):
-    """The answer with one part wrong: a number one higher, or the last element of an area. A scan's second, at and len are the name's part."""
-    if job in asking.SCANS and part in model.Part._fields:
+    """The answer with one part wrong: a number one higher, or the last element of an area. A name's second, at and len are its part."""
+    if job in (*asking.SCANS, "name") and part in model.Part._fields:
         return dataclasses.replace(a, part=a.part._replace(**{part: getattr(a.part, part) + 1}))
     value = getattr(a, part)
     wrong = value + 1 if isinstance(value, int) else value[:-1] + bytes([value[-1] ^ 1])

@@ -316,8 +316,9 @@ def top_down(note, shelf, q):
 
 @dataclasses.dataclass(frozen=True)
 class Question:
-    """A call of a job: `check`, `compile`, `score`, `bounds`, `eliminate` or `down`. What a job does not take it does not look at. The last four
-    take one book or two, `check` takes one. Areas are given by what they hold before; words and results as the bytes of their numbers, four each."""
+    """A call of a job: `check`, `compile`, `score`, `bounds`, `eliminate`, `down` or `name`. What a job does not take it does not look at. The last
+    five take one book or two, `check` takes one. Areas are given by what they hold before; words and results as the bytes of their numbers, four
+    each."""
 
     job: str
     text: bytes = b""
@@ -398,6 +399,7 @@ REFUSALS = {
     "bounds": [1, 2, 3, 4, 5, 8, 9, 10],
     "eliminate": [1, 2, 3, 4, 5, 6, 10, 12],
     "down": [1, 2, 3, 4, 5, 6, 7, 10, 12],
+    "name": [4, 5, 9],
 }
 
 
@@ -450,7 +452,13 @@ def scan_job(q, a):
     a.results = written(numbers, q.results)
 
 
-WORK = {"compile": compile_job, "score": score_job, "bounds": bounds_job, "eliminate": scan_job, "down": scan_job}
+def name_job(q, a):
+    text = shelved(q.books)[q.number]
+    a.kind, a.name_len, a.part = text.kind, len(text.name), text.part
+    a.name = text.name.ljust(NAME_MOST, b"\0")
+
+
+WORK = {"compile": compile_job, "score": score_job, "bounds": bounds_job, "eliminate": scan_job, "down": scan_job, "name": name_job}
 
 
 def answered(q):

@@ -19,6 +19,7 @@ import rows
 # places of model.py, and a test that is added to the first
 UNSOUND = "any(shelf_or_none(book) is None for book in q.books)"
 BEST_OVERALL = "    text, value = yield from best(note, 0, whole, shelf)\n    yield Overall(text, value)\n"
+STORED_NAME = "= text.kind, len(text.name), text.part"
 TWO_NAMES = "any(a.name {} b.name for a in shelved(q.books[:1]) for b in shelved(q.books[1:]))"
 
 # what it is, what stands in model.py, what stands there instead
@@ -122,6 +123,11 @@ WRONG = [
     ("a part without a name", "a.score = bits_of(event.score)", "a.score, a.part = bits_of(event.score), event.text.part"),
     ("a part before N are paid", "a.refusal = 12\n", "a.refusal, a.part = 12, a.part if a.score else shelved(q.books)[0].part\n"),
     ("no part with 12", "a.refusal = 12\n", "a.refusal, a.part = 12, NO_PART\n"),
+    ("9 before 5", '"name": [4, 5, 9]', '"name": [4, 9, 5]'),
+    ("5 before 4", '"name": [4, 5, 9]', '"name": [5, 4, 9]'),
+    ("every stored text an original", STORED_NAME, "= 2, len(text.name), text.part"),
+    ("the part of the text before it", STORED_NAME, "= text.kind, len(text.name), shelved(q.books)[q.number - 1].part"),
+    ("the part of the first equal name", STORED_NAME, "= text.kind, len(text.name), next(x.part for x in shelved(q.books) if x.name == text.name)"),
     ("the part of the last record", "a.records += 1", "a.records, a.part = a.records + 1, shelved(q.books)[event.number].part"),
 ]  # fmt: skip
 

@@ -1,14 +1,14 @@
 /* Calls the archive as it is told: a call on standard input, what came of it on standard output, until the input ends. oracle/rows.py asks.
    Every number is a u64, little-endian. A call: the eighteen numbers below, then what text, both books, area, words, out and results hold; of the
    books only the first is lent, or both, or the first twice. The answer: ten numbers, the 64 bytes of the name and where it stands, whether
-   chultarvi_name finds it elsewhere, whether the bytes behind a buffer have changed, then what the seven hold now. An empty buffer is lent as a null
-   pointer. */
+   chultarvi_name or chultarvi_stored_name finds it elsewhere, whether the bytes behind a buffer have changed, then what the seven hold now. An empty
+   buffer is lent as a null pointer. */
 #include "../../include/chultarvi.h"
 #include <stdio.h>
 #include <stdlib.h>
 #include <string.h>
 
-enum { CHECK, COMPILE, SCORE, BOUNDS, ELIMINATE, DOWN };
+enum { CHECK, COMPILE, SCORE, BOUNDS, ELIMINATE, DOWN, NAME };
 enum { TEXT, BOOK, SECOND, AREA, WORDS, OUT, RESULTS, BUFFERS };
 enum { ONE, TWO, SAME };
 enum { FENCE = 64, FENCE_BYTE = 0xd7 };
@@ -73,14 +73,23 @@ static void view_job(const call *c, reply *r) {
         r->refusal = b.refusal, r->first = b.first, r->after = b.after, r->score = bits_of(b.score), r->count = b.count;
     }
 }
-/* Does chultarvi_name point elsewhere than at the name, inside the lent book that holds it? Without a name: than at the first book's start. */
-static bool misplaced(const call *c, const chultarvi_note_scanned *s) {
-    const uint8_t *first = lent(c, BOOK), *second = second_book(c), *holder = s->second ? second : first;
-    size_t held = holder ? (size_t)c->len[s->second ? SECOND : BOOK] : 0;
-    if (s->len == 0) return s->second || s->name_at != 0 || chultarvi_name(first, second, s) != first;
-    if (s->len > sizeof s->name || s->name_at > held || s->len > held - s->name_at) return true;
-    const uint8_t *name = chultarvi_name(first, second, s);
-    return name != holder + s->name_at || memcmp(name, s->name, s->len) != 0;
+/* Does `name`, which the header finds for this part, point elsewhere than into the lent book that holds it? Without a name: than at the first book's
+   start. */
+static bool astray(const call *c, const uint8_t *name, bool in_second, size_t at, size_t len) {
+    const uint8_t *first = lent(c, BOOK), *holder = in_second ? second_book(c) : first;
+    size_t held = holder ? (size_t)c->len[in_second ? SECOND : BOOK] : 0;
+    if (len == 0) return in_second || at != 0 || name != first;
+    return len > CHULTARVI_NAME_MOST || at > held || len > held - at || name != holder + at;
+}
+/* The name's bytes come from where it is found to stand. */
+static void name_job(const call *c, reply *r) {
+    chultarvi_text_named n = c->books == ONE
+        ? chultarvi_name_stored(lent(c, BOOK), c->len[BOOK], (uint32_t)c->number)
+        : chultarvi_name_stored_both(lent(c, BOOK), c->len[BOOK], second_book(c), c->len[SECOND], (uint32_t)c->number);
+    const uint8_t *name = chultarvi_stored_name(lent(c, BOOK), second_book(c), &n);
+    r->refusal = n.refusal, r->kind = n.kind, r->name_len = n.len, r->second = n.second, r->name_at = n.name_at;
+    r->misplaced = astray(c, name, n.second, n.name_at, n.len);
+    if (!r->misplaced && n.len > 0) memcpy(r->name, name, n.len);
 }
 static chultarvi_note_scanned scanned(const call *c) {
     if (c->job == ELIMINATE)
@@ -93,7 +102,9 @@ static void scan_job(const call *c, reply *r) {
     chultarvi_note_scanned s = scanned(c);
     r->refusal = s.refusal, r->records = s.records, r->count = s.count, r->score = bits_of(s.score), r->kind = s.kind, r->name_len = s.len;
     memcpy(r->name, s.name, sizeof s.name);
-    r->second = s.second, r->name_at = s.name_at, r->misplaced = misplaced(c, &s);
+    const uint8_t *name = chultarvi_name(lent(c, BOOK), second_book(c), &s);
+    r->second = s.second, r->name_at = s.name_at;
+    r->misplaced = astray(c, name, s.second, s.name_at, s.len) || (s.len > 0 && memcmp(name, s.name, s.len) != 0);
 }
 static void answer(const call *c, reply *r) {
     if (c->books > SAME || (c->books == SAME && c->len[SECOND] != c->len[BOOK])) stop("no such books");
@@ -105,6 +116,7 @@ static void answer(const call *c, reply *r) {
         r->refusal = t.refusal, r->len = t.len;
     } else if (c->job == SCORE || c->job == BOUNDS) view_job(c, r);
     else if (c->job == ELIMINATE || c->job == DOWN) scan_job(c, r);
+    else if (c->job == NAME) name_job(c, r);
     else stop("no such job");
 }
 

@@ -25,6 +25,12 @@ LAYOUT(chultarvi_bounds_found, first, 4);
 LAYOUT(chultarvi_bounds_found, after, 8);
 LAYOUT(chultarvi_bounds_found, score, 12);
 LAYOUT(chultarvi_bounds_found, count, 16);
+static_assert(sizeof(chultarvi_text_named) == 24, "size");
+LAYOUT(chultarvi_text_named, refusal, 0);
+LAYOUT(chultarvi_text_named, kind, 4);
+LAYOUT(chultarvi_text_named, len, 8);
+LAYOUT(chultarvi_text_named, second, 12);
+LAYOUT(chultarvi_text_named, name_at, 16);
 static_assert(sizeof(chultarvi_note_scanned) == 104, "size");
 LAYOUT(chultarvi_note_scanned, refusal, 0);
 LAYOUT(chultarvi_note_scanned, records, 4);
@@ -578,6 +584,86 @@ static void test_numbers(void) {
     check(s.refusal == 0 && s.records == 1 && memcmp(results, record, 16) == 0, "top-down records the number over both");
 }
 
+/* ---- stored texts by their numbers */
+
+/* What naming a stored text answers, of one book or of both, and where its name stands. */
+typedef struct {
+    const char *what;
+    held first, second;
+    bool both;
+    uint32_t number, refusal, kind;
+    bool in_second;
+    size_t at, len;
+} stored_row;
+static chultarvi_text_named name_stored(held first, held second, bool both, uint32_t number) {
+    return both ? chultarvi_name_stored_both(first.at, first.len, second.at, second.len, number) : chultarvi_name_stored(first.at, first.len, number);
+}
+static void check_stored(const stored_row *r) {
+    chultarvi_text_named n = name_stored(r->first, r->second, r->both, r->number);
+    const uint8_t *holder = r->in_second ? r->second.at : r->first.at;
+    check(n.refusal == r->refusal && n.kind == r->kind, r->what);
+    check(n.second == r->in_second && n.name_at == r->at && n.len == r->len, r->what);
+    check(chultarvi_stored_name(r->first.at, r->second.at, &n) == (r->at ? holder + r->at : holder), r->what);
+}
+/* Licence A with an original, an alternate, a header and an alias; BC with an original. All tables are empty. */
+static held several_texts(void) {
+    static uint8_t b[128];
+    static const uint8_t table[8] = {0};
+    uint8_t *p = put_record(b, CHULTARVI_LICENCE_NAME, "A", 1);
+    for (uint32_t kind = CHULTARVI_ORIGINAL; kind <= CHULTARVI_HEADER; kind++) p = put_record(p, kind, table, sizeof table);
+    p = put_record(p, CHULTARVI_ALIAS, "AA", 2);
+    p = put_record(p, CHULTARVI_LICENCE_NAME, "BC", 2);
+    p = put_record(p, CHULTARVI_ORIGINAL, table, sizeof table);
+    return hold(b, (size_t)(p - b));
+}
+static void test_stored(void) {
+    const held none = hold(0, 0), several = several_texts();
+    uint8_t before[79];
+    check(several.len == sizeof before, "the book of several texts");
+    memcpy(before, several.at, sizeof before);
+    const stored_row rows[] = {
+        {"stored: the first", several, none, false, 0, 0, CHULTARVI_ORIGINAL, false, 6, 1},
+        {"stored: an alternate has its licence's name", several, none, false, 1, 0, CHULTARVI_ALTERNATE, false, 6, 1},
+        {"stored: a header has its licence's name", several, none, false, 2, 0, CHULTARVI_HEADER, false, 6, 1},
+        {"stored: the last, behind an alias", several, none, false, 3, 0, CHULTARVI_ORIGINAL, false, 63, 2},
+        {"stored: N", several, none, false, 4, 9, 0, false, 0, 0},
+        {"stored: the largest number", several, none, false, UINT32_MAX, 9, 0, false, 0, 0},
+        {"stored, both: the last of the first", several, only_a, true, 3, 0, CHULTARVI_ORIGINAL, false, 63, 2},
+        {"stored, both: the first of the second", several, only_a, true, 4, 0, CHULTARVI_ORIGINAL, true, 6, 1},
+        {"stored, both: N", several, only_a, true, 5, 9, 0, false, 0, 0},
+        {"stored, both: a header of the second", only_a, several, true, 3, 0, CHULTARVI_HEADER, true, 6, 1},
+        {"stored, both: the last of the second", only_a, several, true, 4, 0, CHULTARVI_ORIGINAL, true, 63, 2},
+        {"stored, both: equal names, the first's", only_a, again, true, 0, 0, CHULTARVI_ORIGINAL, false, 6, 1},
+        {"stored, both: equal names, the second's", only_a, again, true, 1, 0, CHULTARVI_ORIGINAL, true, 6, 1},
+        {"stored, both: the same memory", several, several, true, 7, 0, CHULTARVI_ORIGINAL, true, 63, 2},
+        {"stored, both: an empty first", book_empty, several, true, 0, 0, CHULTARVI_ORIGINAL, true, 6, 1},
+        {"stored, both: a null first", none, several, true, 3, 0, CHULTARVI_ORIGINAL, true, 63, 2},
+        {"stored, both: an empty second", several, book_empty, true, 3, 0, CHULTARVI_ORIGINAL, false, 63, 2},
+        {"stored, both: N beside a null second", several, none, true, 4, 9, 0, false, 0, 0},
+        {"stored: an unsound book", cut_a, none, false, 0, 4, 0, false, 0, 0},
+        {"stored: 4 comes before 9", cut_a, none, false, UINT32_MAX, 4, 0, false, 0, 0},
+        {"stored, both: an unsound first", cut_a, only_a, true, 0, 4, 0, false, 0, 0},
+        {"stored, both: an unsound second, though the text stands in the first", only_a, cut_a, true, 0, 4, 0, false, 0, 0},
+        {"stored, both: 4 comes before 5", book_empty, cut_a, true, UINT32_MAX, 4, 0, false, 0, 0},
+        {"stored: no text", book_empty, none, false, 0, 5, 0, false, 0, 0},
+        {"stored: no text, a null book: 5 comes before 9", none, none, false, UINT32_MAX, 5, 0, false, 0, 0},
+        {"stored, both: no text: 5 comes before 9", book_empty, none, true, 1, 5, 0, false, 0, 0},
+    };
+    for (size_t i = 0; i < sizeof rows / sizeof *rows; i++) check_stored(rows + i);
+    check(memcmp(several.at, before, sizeof before) == 0, "a book that was named from is as it was");
+}
+
+/* What a scan names and records, named by number. */
+static void test_recorded(void) {
+    lent l = lend_held(text_2, only_b, only_a);
+    l.results_len = 40;
+    chultarvi_note_scanned s = eliminate(&l, 0.6f, 0.99f, true, 10, UINT64_MAX, "areas of a scan to name");
+    chultarvi_text_named n = name_stored(only_b, only_a, true, results[0]);
+    check(s.refusal == 0 && s.records > 0 && s.kind == CHULTARVI_ORIGINAL, "a scan that names and records");
+    check(n.refusal == 0 && n.kind == s.kind && n.len == s.len && n.second == s.second && n.name_at == s.name_at, "the same by its record's number");
+    check(memcmp(chultarvi_stored_name(only_b.at, only_a.at, &n), s.name, s.len) == 0, "by the same bytes");
+}
+
 /* The first refusal that applies, of two books. */
 static void test_order(void) {
     lent l = lend_held("\x80", only_a, cut_a);
@@ -618,7 +704,15 @@ static void test_largest(void) {
     check(s.refusal == 0 && s.count == 2048 && s.kind == CHULTARVI_ALTERNATE && s.second && s.name_at == 6 && s.len == 64, "a budget of N names it");
     s = top_down(&l, 0.9f, 0.99f, 1, UINT64_MAX, "areas, top-down over 2,048 texts");
     check(s.refusal == 0 && s.records == 1 && results[0] == 2047, "a record of number 2,047");
+    const stored_row rows[] = {
+        {"1,024 texts each: the last of the first", first, second, true, 1023, 0, CHULTARVI_ALTERNATE, false, 6, 1},
+        {"1,024 texts each: the first of the second", first, second, true, 1024, 0, CHULTARVI_ORIGINAL, true, 6, 64},
+        {"1,024 texts each: the last", first, second, true, 2047, 0, CHULTARVI_ALTERNATE, true, 6, 64},
+        {"1,024 texts each: one number more", first, second, true, 2048, 9, 0, false, 0, 0},
+    };
+    for (size_t i = 0; i < sizeof rows / sizeof *rows; i++) check_stored(rows + i);
     second.len = small_book(two, 1, CHULTARVI_STORED_MOST);
+    check(name_stored(second, first, false, 0).refusal == 4, "1,025 texts: none is named");
     l = lend_held(note_a, first, second);
     each_refuses(&l, 4, false, "1,025 texts in the second book");
     l = lend_held(note_a, second, first);
@@ -679,6 +773,8 @@ int main(void) {
     make_books();
     test_names();
     test_numbers();
+    test_stored();
+    test_recorded();
     test_order();
     test_largest();
     test_large_books();

@@ -5,11 +5,13 @@ use Rattle.rules.specs.declared.Compiled.{Compiled}
 use Rattle.rules.specs.declared.Scored.{Scored}
 use Rattle.rules.specs.declared.Bounded.{Bounded}
 use Rattle.rules.specs.declared.Scanned.{Scanned}
+use Rattle.rules.specs.declared.NamedText.{NamedText}
 use Rattle.answers_c.specs.declared.BookChecked.{BookChecked}
 use Rattle.answers_c.specs.declared.TextCompiled.{TextCompiled}
 use Rattle.answers_c.specs.declared.ViewScored.{ViewScored}
 use Rattle.answers_c.specs.declared.BoundsFound.{BoundsFound}
 use Rattle.answers_c.specs.declared.NoteScanned.{NoteScanned}
+use Rattle.answers_c.specs.declared.TextNamed.{TextNamed}
 
 abbrev pub checkedOf : BookChecked → Checked
 checkedOf r = record { refusal = r .refusal; texts = r .texts }
@@ -34,3 +36,6 @@ scannedOf r = record {
   records = r .records;
   part = record { second = r .second; at = r .at; len = r .len };
 }
+
+abbrev pub namedOf : TextNamed → NamedText
+namedOf r = record { refusal = r .refusal; kind = r .kind; part = record { second = r .second; at = r .at; len = r .len } }

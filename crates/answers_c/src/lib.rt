@@ -1,10 +1,13 @@
 // The answers of the jobs as C has them: structs of plain numbers, and of a scan one length for the name and its part. Assumes nothing.
 ghost use mathlib.Core.Path.{_≡_};
-ghost use Rattle.answers_c.specs.Answers.{checkedOf, compiledOf, scoredOf, boundedOf, scannedOf};
+ghost use Prim.Native.Nat.{_≤_};
+ghost use Rattle.rules.specs.Sizes.{nameMost};
+ghost use Rattle.answers_c.specs.Answers.{checkedOf, compiledOf, scoredOf, boundedOf, scannedOf, namedOf};
 use rules::Bounded;
 use rules::Checked;
 use rules::Compiled;
 use rules::NAME_MOST;
+use rules::NamedText;
 use rules::Scanned;
 use rules::Scored;
 
@@ -108,5 +111,30 @@ pub fn scanned_for_c(s: Scanned) -> NoteScanned
         name,
         second: part.second,
         at: part.at,
+    }
+}
+
+// The kind of a stored text, and where its licence's name stands: `len` bytes of the second book or the first, from `at` on.
+#[repr(C)]
+pub struct TextNamed {
+    pub refusal: u32,
+    pub kind: u32,
+    pub len: u32,
+    pub second: bool,
+    pub at: usize,
+}
+
+// A name has at most 64 bytes, so its length needs no more than a scan's does.
+pub fn named_for_c(named: NamedText) -> TextNamed
+    requires { ⌜ named .part .len ≤ nameMost ⌝ }
+    ensures { λ r. ⌜ named ≡ namedOf r ⌝ }
+{
+    let place = named.part;
+    TextNamed {
+        refusal: named.refusal,
+        kind: named.kind,
+        len: place.len as u32,
+        second: place.second,
+        at: place.at,
     }
 }

@@ -1,25 +1,29 @@
-// The library's face for C: the five jobs with plain types, the scan as two calls, since an enum does not cross. include/chultarvi.h describes
+// The library's face for C: the six jobs with plain types, the scan as two calls, since an enum does not cross. include/chultarvi.h describes
 // them. Assumes of a C caller that no slice that it lends to be written overlaps another of the same call.
 ghost use mathlib.Core.Path.{_≡_};
 ghost use mathlib.Core.List.{[], _∷_};
 ghost use Rattle.rules.specs.Search.{view};
 ghost use Rattle.rules.specs.declared.Mode.the-variants.{Elimination, TopDown};
-ghost use Rattle.answers_c.specs.Answers.{compiledOf, scoredOf, boundedOf, scannedOf};
-ghost use Rattle.rules.specs.Jobs.{ScoreDone, BoundsDone, ScanDone, check, CompileDone};
+ghost use Rattle.answers_c.specs.Answers.{compiledOf, scoredOf, boundedOf, scannedOf, namedOf};
+ghost use Rattle.rules.specs.Jobs.{ScoreDone, BoundsDone, NameDone, ScanDone, check, CompileDone};
 use answers_c::BookChecked;
 use answers_c::BoundsFound;
 use answers_c::NoteScanned;
 use answers_c::TextCompiled;
+use answers_c::TextNamed;
 use answers_c::ViewScored;
 use answers_c::bounded_for_c;
 use answers_c::checked_for_c;
 use answers_c::compiled_for_c;
+use answers_c::named_for_c;
 use answers_c::scanned_for_c;
 use answers_c::scored_for_c;
 use bounds_job::bounds_both;
 use bounds_job::bounds_of;
 use compile::compile;
 use detection_check::check_book;
+use name_job::name_both;
+use name_job::name_of;
 use rules::Limits;
 use rules::Mode;
 use rules::View;
@@ -125,7 +129,16 @@ pub extern "C" fn chultarvi_top_down(
     scanned_for_c(s)
 }
 
-// The same four over two books, whose texts count on from the first into the second.
+// The kind of the stored text `number`, and where its licence's name stands.
+#[no_mangle]
+pub extern "C" fn chultarvi_name_stored(book: &[u8], number: u32) -> TextNamed
+    ensures { λ r. ⌜ NameDone (now (book .entry) ∷ []) number (namedOf r) ⌝ }
+{
+    let named = name_of(book, number);
+    named_for_c(named)
+}
+
+// The same five over two books, whose texts count on from the first into the second.
 #[no_mangle]
 pub extern "C" fn chultarvi_score_both<'a>(
     text: &[u8],
@@ -160,6 +173,14 @@ pub extern "C" fn chultarvi_bounds_both<'a>(
     let v = View { start, end };
     let bounded = bounds_both(text, book, second, v, number, area, words);
     bounded_for_c(bounded)
+}
+
+#[no_mangle]
+pub extern "C" fn chultarvi_name_stored_both(book: &[u8], second: &[u8], number: u32) -> TextNamed
+    ensures { λ r. ⌜ NameDone (now (book .entry) ∷ now (second .entry) ∷ []) number (namedOf r) ⌝ }
+{
+    let named = name_both(book, second, number);
+    named_for_c(named)
 }
 
 #[no_mangle]
