@@ -46,25 +46,13 @@ static int take_areas(size_t note_len, lent *to) {
     return to->area && to->words && to->results ? 0 : trouble("the areas", "no memory");
 }
 
-/* The name that stored text `number` stands under. The scan has answered, so the book is sound, and has this text. */
-static const uint8_t *name_of(const held *book, uint32_t number, uint32_t *len) {
-    const uint8_t *name = 0;
-    for (const uint8_t *record = book->bytes;;) {
-        const uint8_t *body = record + CHULTARVI_RECORD_HEAD;
-        uint32_t body_len = record[0] | (uint32_t)record[1] << 8 | (uint32_t)record[2] << 16 | (uint32_t)record[3] << 24;
-        if (record[4] == CHULTARVI_LICENCE_NAME) name = body, *len = body_len;
-        else if (record[4] != CHULTARVI_ALIAS && number-- == 0) return name;
-        record = body + body_len;
-    }
-}
-
-/* Lines count from 0 in the library, and from 1 for people. */
+/* Lines count from 0 in the library, and from 1 for people. A record's number is never refused over the same book. */
 static void print_range(const held *book, const uint32_t *record) {
-    uint32_t len = 0;
-    const uint8_t *name = name_of(book, record[0], &len);
+    chultarvi_text_named named = chultarvi_name_stored(book->bytes, book->len, record[0]);
+    const char *name = (const char *)chultarvi_stored_name(book->bytes, 0, &named);
     float score;
     memcpy(&score, &record[3], sizeof score);
-    printf("  lines %" PRIu32 " to %" PRIu32 ": %.*s, score %.4f\n", record[1] + 1, record[2], (int)len, (const char *)name, (double)score);
+    printf("  lines %" PRIu32 " to %" PRIu32 ": %.*s, score %.4f\n", record[1] + 1, record[2], (int)named.len, name, (double)score);
 }
 
 static void print_answer(const held *book, const chultarvi_note_scanned *answer, const uint32_t *results) {

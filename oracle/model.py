@@ -1,4 +1,4 @@
-"""A second reading of the rules (docs/RULES.md), in plain Python: what each of the five jobs answers, and what each
+"""A second reading of the rules (docs/RULES.md), in plain Python: what each of the six jobs answers, and what each
 lent area holds at exit.
 
 Written from the document, with the definitions known, but by other means: regular expressions for the passes, dictionaries for the tables, exact
