@@ -1,7 +1,6 @@
 /* The command line of Chultarvi over the archive: the entry, which finds the command. Each command has a file of its own: scan.c, list.c (list and
    check), book.c, compile.c; help.c holds the help. Build and run: host/run.sh. */
 #include "host.h"
-#include <errno.h>
 #include <signal.h>
 #include <string.h>
 
@@ -39,9 +38,7 @@ int main(int count, char **words) {
     signal(SIGXFSZ, SIG_IGN);
     int status = run(count, words);
     /* answers that did not reach their reader are no answers */
-    if (fflush(stdout) != 0 || ferror(stdout)) {
-        say("standard output: %s", strerror(errno));
-        return TROUBLE;
-    }
-    return status;
+    int why = flush_output();
+    if (why) say("standard output: %s", strerror(why));
+    return why ? TROUBLE : status;
 }

@@ -125,6 +125,13 @@ bool write_file(const char *path, const uint8_t *bytes, size_t len) {
     return done;
 }
 
+int flush_output(void) {
+    static int first;
+    bool failed = fflush(stdout) != 0 || ferror(stdout);
+    if (failed && first == 0) first = errno ? errno : EIO;
+    return first;
+}
+
 /* Notes come by the thousand from folders, so nothing is waited for: a FIFO is opened without its writer, looked at, and left. */
 const char *read_note(const char *path, uint8_t *to, size_t most, size_t *len) {
     *len = 0;

@@ -23,6 +23,9 @@ const char *read_file(const char *path, uint8_t *to, size_t most, size_t *len);
 const char *read_note(const char *path, uint8_t *to, size_t most, size_t *len);
 /* Writes beside, flushes, renames. Either the file is new and whole, or what stood there still stands and the reason has been said. */
 bool write_file(const char *path, const uint8_t *bytes, size_t len);
+/* Writes out what standard output holds. Gives 0, or errno's number of the first failure: it stays, since errno is each thread's own and what was not
+   written is not tried again. One thread at a time. */
+int flush_output(void);
 
 /* words.c */
 

@@ -49,7 +49,7 @@ static void write_words(row *r, words *w) {
     if (!r->deaf) {
         fwrite(w->err, 1, w->err_len, stderr);
         fwrite(w->out, 1, w->out_len, stdout);
-        r->deaf = fflush(stdout) != 0;
+        r->deaf = flush_output() != 0;
     }
     free(w->out);
     free(w->err);

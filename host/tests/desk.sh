@@ -231,6 +231,18 @@ done
 # a reader that leaves: the program ends at once, and says nothing
 so 0 "{ $soon scan -r desk.book many 2>/dev/null; echo \$? >.status; } | head -n 1 >/dev/null"
 case $(cat .status) in 141 | 2) good ;; *) bad "status $(cat .status) without a reader" ;; esac
+# standard output that takes nothing: the reason is said, whichever thread met it, and nothing more is scanned, also behind an answer larger than a buffer
+so 2 "$soon scan -j 4 a.book license license license license license license >/dev/full"
+err_is 'chultarvi: standard output: No space left on device'
+i=0
+while [ $i -lt 200 ]; do
+    printf 'My First License\n\n\n'
+    i=$((i + 1))
+done >ranges
+run 0 scan --top-down 1 a.book ranges
+[ "$(wc -c <.out)" -gt 8192 ] && good || bad 'an answer of less than a buffer'
+so 2 "$soon scan --top-down 1 a.book ranges umlaut >/dev/full"
+err_is 'chultarvi: standard output: No space left on device'
 # a limit on the size of files: said, and not a death
 so 2 "ulimit -f 1; $soon scan --thorough -r desk.book many >limited"
 err_has 'chultarvi: standard output: File too large'
