@@ -3,6 +3,7 @@
 #include <errno.h>
 #include <fcntl.h>
 #include <signal.h>
+#include <stdatomic.h>
 #include <stdlib.h>
 #include <string.h>
 #include <sys/stat.h>
@@ -21,12 +22,11 @@ static const char *read_open(int file, uint8_t *to, size_t most, size_t *len) {
 }
 
 const char *read_file(const char *path, uint8_t *to, size_t most, size_t *len) {
-    /* a second reader of standard input would find it empty and take that for an empty text */
-    static bool input_taken;
+    /* a second reader of standard input would find it empty and take that for an empty text; of two threads each would read a part */
+    static atomic_flag input_taken = ATOMIC_FLAG_INIT;
     *len = 0;
     if (strcmp(path, "-") == 0) {
-        if (input_taken) return "standard input is read already";
-        input_taken = true;
+        if (atomic_flag_test_and_set(&input_taken)) return "standard input is read already";
         return read_open(STDIN_FILENO, to, most, len);
     }
     int file = open(path, O_RDONLY | O_CLOEXEC);

@@ -223,6 +223,9 @@ for jobs in 2 7 256; do
     same .out one.out
     same .err one.err
 done
+# of several threads one reads standard input, all of it
+so 2 "cat license | $soon scan --json -j 4 a.book - - - -"
+json '[sum("trouble" in n for n in notes), [n["licence"] for n in notes if "licence" in n]]' '[3, ["A"]]'
 for jobs in 0 257 x ''; do
     run 2 scan -j "$jobs" desk.book alpha
     err_is "chultarvi: --jobs wants a number of threads from 1 to 256, not '$jobs'"
