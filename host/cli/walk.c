@@ -63,7 +63,7 @@ static void walk_folder(notes *to, char *folder) {
     walked f = {folder, 0, {0}};
     /* a link that is named is followed; nothing else is, and no folder is entered by a change of the working directory */
     FTS *walk = fts_open(paths, FTS_PHYSICAL | FTS_COMFOLLOW | FTS_NOCHDIR, by_name);
-    errno = 0;
+    if (walk) errno = 0;
     for (FTSENT *e; walk && (e = fts_read(walk)); errno = 0) add_entry(to, &f, walk, e);
     if (errno != 0) {
         say_of(folder, "cannot be read to its end: %s", strerror(errno));
