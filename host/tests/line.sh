@@ -341,6 +341,9 @@ broken memory-101 0 scan a.book license
 broken memory-101 2 scan a.book --beside b.book license
 err_has 'no memory for'
 broken memory-117 0 scan a.book --beside b.book license
+broken memory-117 0 scan default.book license
+broken memory-117 2 scan -j 2 a.book license license
+err_has 'no memory for'
 broken read 2 scan a.book two
 err_has 'a.book: cannot be read: Input/output error'
 
