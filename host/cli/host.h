@@ -48,6 +48,7 @@ enum { MESSAGE_MOST = 256 };
 /* A refusal in words, with its number; where the text is not ASCII, with the place and what to do next. */
 void refusal_message(char to[MESSAGE_MOST], uint32_t refusal, const uint8_t *text, size_t len, const char *next);
 #define CHANGE_IT "nothing is filtered, so change it first"
+#define MAKE_ANEW "; make it anew by chultarvi book"
 
 /* memory.c */
 

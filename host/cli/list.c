@@ -27,7 +27,7 @@ static int open_sound(lent_book *b, const char *file) {
     uint32_t refusal = chultarvi_check_book(b->bytes, b->len).refusal;
     b->sound = refusal == CHULTARVI_ANSWERED;
     if (b->sound) return DONE;
-    say_of(file, "refused (%" PRIu32 "): %s%s; make it anew by chultarvi book", refusal, chultarvi_refusal_text(refusal),
+    say_of(file, "refused (%" PRIu32 "): %s%s" MAKE_ANEW, refusal, chultarvi_refusal_text(refusal),
            b->len > CHULTARVI_BOOK_MOST ? ", it is over 16,777,216 bytes" : "");
     return REFUSED;
 }

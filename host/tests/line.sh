@@ -104,9 +104,9 @@ err_has 'refused (3): the text is over 65,536 lines'
 run 0 scan --no-optimize a.book lines
 run 1 scan --top-down 1 --budget 3 a.book lines
 run 1 scan cut.book two
-err_is 'chultarvi: two: refused (4): the book is not sound'
+err_is 'chultarvi: two: refused (4): the book is not sound; make it anew by chultarvi book'
 run 1 scan /dev/zero two
-err_is 'chultarvi: two: refused (4): the book is not sound'
+err_is 'chultarvi: two: refused (4): the book is not sound; make it anew by chultarvi book'
 run 1 scan empty two
 err_is 'chultarvi: two: refused (5): the book has no stored text'
 # said once, however many notes there are
@@ -274,19 +274,19 @@ run 2 scan --json a.book --beside . license
 err_is 'chultarvi: .: cannot be read: Is a directory'
 out_is ''
 run 1 scan a.book --beside cut.book license two
-err_is 'chultarvi: license: refused (4): the book cut.book is not sound
-chultarvi: two: refused (4): the book cut.book is not sound'
+err_is 'chultarvi: license: refused (4): the book cut.book is not sound; make it anew by chultarvi book
+chultarvi: two: refused (4): the book cut.book is not sound; make it anew by chultarvi book'
 out_is ''
 run 1 scan cut.book --beside a.book license
-err_is 'chultarvi: license: refused (4): the book cut.book is not sound'
+err_is 'chultarvi: license: refused (4): the book cut.book is not sound; make it anew by chultarvi book'
 run 1 scan empty --beside cut.book license
-err_is 'chultarvi: license: refused (4): the book cut.book is not sound'
+err_is 'chultarvi: license: refused (4): the book cut.book is not sound; make it anew by chultarvi book'
 run 1 scan cut.book --beside cut.book license
-err_is 'chultarvi: license: refused (4): neither book is sound'
+err_is 'chultarvi: license: refused (4): neither book is sound; make them anew by chultarvi book'
 run 1 scan a.book --beside /dev/zero license
-err_is 'chultarvi: license: refused (4): the book /dev/zero is not sound'
+err_is 'chultarvi: license: refused (4): the book /dev/zero is not sound; make it anew by chultarvi book'
 run 1 scan --json a.book --beside cut.book license
-json notes '[{"note": "license", "refusal": 4, "message": "refused (4): the book cut.book is not sound"}]'
+json notes '[{"note": "license", "refusal": 4, "message": "refused (4): the book cut.book is not sound; make it anew by chultarvi book"}]'
 run 1 scan empty --beside empty license
 err_is 'chultarvi: license: refused (5): neither book has a stored text'
 run 0 scan a.book --beside empty license
@@ -325,7 +325,7 @@ run 0 scan --json a.book --beside "$odd.book" other
 json 'os.fsencode(notes[0]["book"]) == os.fsencode("""q" b\\ t\tn\nc\x1b """) + b"\xc2\x85 \xc3\xa4 \xff \xed\xa0\x80 \xc3.book"' true
 cp cut.book "$odd.book"
 run 1 scan --json a.book --beside "$odd.book" other
-json 'notes[0]["message"].endswith(" \\xff \\xed\\xa0\\x80 \\xc3.book is not sound")' true
+json 'notes[0]["message"].endswith(" \\xff \\xed\\xa0\\x80 \\xc3.book is not sound; make it anew by chultarvi book")' true
 # 1,024 texts in each, and the last of all is the one
 awk 'BEGIN { for (i = 0; i < 1024; i++) printf "N%04d original other\n", i }' >list
 run 0 book most.book list
