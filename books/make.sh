@@ -1,50 +1,155 @@
 #!/bin/sh
-# Makes the default book from the texts that books/debian.list names, as the Debian packages installed here have them. Writes books/debian.book, or
-# the file named. Bytes that are not ASCII are dropped, since the library refuses them, and each line that loses one is said.
+# Makes the default book from the texts that books/debian.list names, out of Debian packages that are fetched and unpacked, not installed, and from
+# the notices composed below. Writes books/debian.book, or the file named. Bytes that are not ASCII are dropped, since the library refuses them, and
+# the texts that lose some are said. No root rights are needed.
 set -eu
 books=$(cd "$(dirname "$0")" && pwd)
+list=$books/debian.list
 out=${1:-$books/debian.book}
+case $out in /*) ;; *) out=$PWD/$out ;; esac
 work=$(mktemp -d)
 trap 'rm -rf "$work"' EXIT
+trap 'exit 129' HUP
+trap 'exit 130' INT
+trap 'exit 143' TERM
 
-missing=
-for package in $(awk '!/^#/ && $3 != "-" {print $3}' "$books/debian.list" | sort -u); do
-    dpkg-query -W "$package" >/dev/null 2>&1 || missing="$missing $package"
-done
-if [ -n "$missing" ]; then
-    echo "make.sh: these Debian packages are not installed, and the book needs texts of theirs:$missing" >&2
+stop() {
+    echo "make.sh: $1" >&2
     exit 2
-fi
-
-# part FILE PART: the text itself. In a copyright file each line of a paragraph has a space before it, and an empty line is ' .'.
-part() {
-    if [ "$2" = - ]; then
-        cat "$1"
-    else
-        LC_ALL=C awk -v want="License: $2" '
-            $0 == want { inside = 1; held = ""; next }
-            inside && !/^ / { inside = 0; if (held != "") exit }
-            inside && /^ On Debian/ { exit }
-            inside { line = substr($0, 2); if (line == ".") line = ""; held = held line "\n" }
-            END { printf "%s", held }' "$1"
-    fi
 }
 
-number=0
-while read -r name kind package file part; do
-    case $name in '' | '#'*) continue ;; esac
-    if [ "$kind" = alias ]; then
-        echo "$name alias $part" >>"$work/list"
-        continue
-    fi
+# ---- packages
+
+# fetch PACKAGE VERSION: unpacks the package; where the archive has that version no more, the one that it has, and says so
+fetch() {
+    mkdir "$work/deb"
+    (cd "$work/deb" && apt-get download "$1=$2") >"$work/apt" 2>&1 || (cd "$work/deb" && apt-get download "$1") >"$work/apt" 2>&1 || {
+        cat "$work/apt" >&2
+        stop "$1 cannot be fetched; is this Debian 12, and has 'apt-get update' been run?"
+    }
+    version=$(dpkg-deb -f "$work/deb/"*.deb Version)
+    [ "$version" = "$2" ] || echo "make.sh: warning: $1 is $version here, but books/debian.list was made with $2; the book may differ" >&2
+    dpkg-deb -x "$work/deb/"*.deb "$work/root"
+    rm -r "$work/deb"
+}
+
+# part FILE PART: the text itself. '-' is the whole file, 'body' what follows the second line '---', 'license' what follows the line
+# '__LICENSE__', and 'FIRST ... LAST' the lines from the first that holds FIRST to the next that holds LAST, without signs of comments in front.
+# Empty lines in front go: a title is known as such only on the first line.
+part() {
+    case $1 in *.gz) zcat "$1" ;; *) cat "$1" ;; esac | LC_ALL=C awk -v part="$2" '
+        BEGIN { at = index(part, " ... "); first = substr(part, 1, at - 1); last = substr(part, at + 5) }
+        function put(line) { if (begun || line ~ /[^ \t]/) { begun = 1; print line } }
+        part == "-" { put($0); next }
+        part == "body" { if (rules >= 2) put($0); if ($0 == "---") rules++; next }
+        part == "license" { if (/^__[A-Z_]*__$/) inside = 0; if (inside) put($0); if ($0 == "__LICENSE__") inside = 1; next }
+        !inside && !done && index($0, first) { inside = 1 }
+        inside { line = $0; sub(/^([.]?[\\]"|[#*; \t])+/, "", line); put(line) }
+        inside && index($0, last) { inside = 0; done = 1 }
+        END { if (at && !done) exit 1 }'
+}
+
+# next NAME KIND: the place of one more text, $work/$number
+next() {
     number=$((number + 1))
-    text=$work/$number
-    # a link, as GPL to GPL-3, would be a second copy of another text
-    [ ! -L "$file" ] || { echo "make.sh: $file is a link; name the file itself" >&2; exit 2; }
-    part "$file" "$part" >"$text.whole"
-    [ -s "$text.whole" ] || { echo "make.sh: $file of $package has no text '$part'" >&2; exit 2; }
-    LC_ALL=C tr -d '\200-\377' <"$text.whole" >"$text"
-    LC_ALL=C grep -an "$(printf '[\200-\377]')" "$text.whole" | sed "s|^|make.sh: dropped bytes that are not ASCII: $file, $part, line |" >&2 || true
-    echo "$name $kind $text" >>"$work/list"
-done <"$books/debian.list"
-"$books/../host/run.sh" book "$out" "$work/list"
+    echo "$1 $2 $work/$number" >>"$work/list"
+}
+
+# stored NAME KIND PACKAGE FILE PART
+stored() {
+    file=$work/root$(awk -v package="$3" '$1 == "package" && $2 == package { print $4 }' "$list")/$4
+    [ ! -L "$file" ] || stop "$4 of $3 is a link; name the file itself in books/debian.list"
+    [ -f "$file" ] || stop "$3 has no file $4; the line of $1 in books/debian.list needs another"
+    next "$1" "$2"
+    part "$file" "$5" >"$work/whole" || stop "$4 of $3 has no text '$5'"
+    LC_ALL=C tr -d '\200-\377' <"$work/whole" >"$work/$number"
+    [ -s "$work/$number" ] || stop "$4 of $3 has no text '$5'"
+    cmp -s "$work/whole" "$work/$number" || echo "make.sh: dropped bytes that are not ASCII: $1, $2, $4" >&2
+}
+
+# ---- the FSF's notices. A version is one or two word pairs of some hundred, an address a dozen: so every form stands for every licence and version.
+# Where a form stands for some only, a notice in that form is named after those, whatever its version.
+
+grant() { # SUBJECT TITLE VERSION FORM
+    echo "This $1 is free software; you can redistribute it and/or modify it under the terms of"
+    case $4 in
+    later) echo "the GNU $2 Public License as published by the Free Software Foundation; either version $3 of the License, or (at your option) any later version." ;;
+    only) echo "the GNU $2 Public License as published by the Free Software Foundation; version $3 of the License." ;;
+    before) echo "the GNU $2 Public License version $3 as published by the Free Software Foundation." ;;
+    v) echo "the GNU $2 Public License v$3 as published by the Free Software Foundation." ;;
+    esac
+}
+warranty() { # SUBJECT TITLE
+    echo
+    echo "This $1 is distributed in the hope that it will be useful, but WITHOUT ANY WARRANTY; without even the implied warranty of"
+    echo "MERCHANTABILITY or FITNESS FOR A PARTICULAR PURPOSE.  See the GNU $2 Public License for more details."
+}
+copy() { # SUBJECT TITLE END
+    [ "$3" != none ] || return 0
+    echo
+    echo "You should have received a copy of the GNU $2 Public License along with this $1"
+    case $3 in
+    url) echo ".  If not, see <https://www.gnu.org/licenses/>." ;;
+    street) echo "; if not, write to the Free Software Foundation, Inc., 51 Franklin Street, Fifth Floor, Boston, MA 02110-1301 USA." ;;
+    esac
+}
+notices() { # NAME TITLE VERSION
+    case $1 in *-or-later) forms=later ;; *) forms='only before v' ;; esac
+    for subject in program library; do
+        for form in $forms; do
+            next "$1" header
+            grant $subject "$2" "$3" "$form" >"$work/$number"
+            for end in none url street; do
+                next "$1" header
+                { grant $subject "$2" "$3" "$form"; warranty $subject "$2"; copy $subject "$2" $end; } >"$work/$number"
+            done
+            # the licence is named once, and the GPL after that
+            case $2 in *' '*)
+                for end in url street; do
+                    next "$1" header
+                    { grant $subject "$2" "$3" "$form"; warranty $subject General; copy $subject General $end; } >"$work/$number"
+                done ;;
+            esac
+        done
+    done
+}
+documents() { # NAME VERSION
+    case $1 in *-or-later) later='or any later version ' ;; *) later= ;; esac
+    for end in '' 'A copy of the license is included in the section entitled "GNU Free Documentation License".'; do
+        next "$1" header
+        {
+            echo "Permission is granted to copy, distribute and/or modify this document under the terms of the GNU Free Documentation License,"
+            echo "Version $2 ${later}published by the Free Software Foundation;"
+            case $1 in
+            *-no-invariants-*) echo "with no Invariant Sections, no Front-Cover Texts, and no Back-Cover Texts." ;;
+            *-invariants-*) echo "with the Invariant Sections being LIST THEIR TITLES, with the Front-Cover Texts being LIST, and with the Back-Cover Texts being LIST." ;;
+            esac
+            echo "$end"
+        } >"$work/$number"
+    done
+}
+
+# ---- the book
+
+mkdir "$work/root"
+while read -r word package version _; do
+    [ "$word" != package ] || fetch "$package" "$version"
+done <"$list"
+number=0
+: >"$work/list"
+: >"$work/bare"
+while read -r name kind package file part; do
+    case $name in '' | '#'* | package) continue ;; esac
+    case $kind in
+    alias) echo "$name alias $part" >>"$work/list" ;;
+    bare) echo "$name original $work/bare" >>"$work/list" ;;
+    notices) notices "$name" "${part% *}" "${part##* }" ;;
+    documents) documents "$name" "$part" ;;
+    *) stored "$name" "$kind" "$package" "$file" "$part" ;;
+    esac
+done <"$list"
+# Of texts without word pairs it warns; the bare originals are meant to be such.
+status=0
+${CHULTARVI:-"$books/../host/run.sh"} book "$out" "$work/list" 2>"$work/said" || status=$?
+grep -v "$work/bare: warning: no bigrams" "$work/said" >&2 || true
+exit $status

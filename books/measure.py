@@ -1,0 +1,271 @@
+#!/usr/bin/env python3
+"""Measures a book with labelled texts: the License fields of Debian copyright files (DEP-5) whose labels books/labels.txt gives an SPDX name.
+
+Says how many the program names rightly, rightly but for only / or-later, wrongly, or not at all. docs/BOOK.md has the numbers and how the texts
+of the book and those measured are kept apart. With --files it scans whole copyright files, each of which has several licences."""
+import argparse
+import collections
+import glob
+import hashlib
+import json
+import os
+import re
+import shlex
+import subprocess
+import sys
+import tempfile
+import time
+
+BOOKS = os.path.dirname(os.path.abspath(__file__))
+FEW = 10  # words: a shorter text only points elsewhere
+Text = collections.namedtuple("Text", "mark label name path text")
+
+
+def stop(message):
+    print("measure.py: " + message, file=sys.stderr)
+    sys.exit(2)
+
+
+def read_table(file, columns):
+    """The lines of a table in books/, cut into columns at white space; the last column is all that is left."""
+    path = os.path.join(BOOKS, file)
+    if not os.path.exists(path):
+        stop(f"{path} is missing; it belongs to the repository")
+    with open(path, encoding="ascii") as lines:
+        rows = [line.split(None, columns - 1) for line in lines if line.strip() and not line.startswith("#")]
+    for row in rows:
+        if len(row) != columns:
+            stop(f"{path}: a line has {columns} columns, but not this one: {' '.join(row)}")
+    return [[cell.strip() for cell in row] for row in rows]
+
+
+def license_fields(path):
+    """Label and text of each License field of a file that follows DEP-5; nothing of any other file."""
+    with open(path, encoding="utf-8", errors="surrogateescape") as file:
+        content = file.read().replace("\r\n", "\n")
+    if not re.search(r"^Format(-Specification)?:", content[:2000], re.M | re.I):
+        return
+    for field in re.finditer(r"^License:[ \t]*(.*)\n((?:[ \t]+\S.*(?:\n|\Z))*)", content, re.M | re.I):
+        lines = [line[1:] for line in field.group(2).splitlines()]
+        yield field.group(1).strip(), "\n".join("" if line.strip() == "." else line for line in lines)
+
+
+def cut_pointer(text):
+    """The text without the words that say where Debian keeps the whole licence: from 'On Debian', or else from the sentence that names the folder,
+    up to the end of that stanza."""
+    while True:
+        at = text.find("/usr/share/common-licenses")
+        if at < 0:
+            return text
+        ends = [0] + [m.end() for m in re.finditer(r"\n[ \t]*\n\s*|[.;:]\s+(?=[A-Z])", text[:at])]
+        begins = [m.start() for m in re.finditer(r"\bon\s+(a\s+)?debian", text[:at], re.I) if at - m.start() < 400]
+        begin = begins[-1] if begins else ends[-1]
+        end = re.search(r"\n[ \t]*\n|\Z", text[at:])
+        text = text[:begin] + text[at + end.start():]
+
+
+def normal(text):
+    return " ".join(re.findall(r"[a-z0-9]+", text.lower()))
+
+
+def mark_of(text):
+    return hashlib.sha256(normal(text).encode()).hexdigest()[:16]
+
+
+def half_of(mark):
+    """Which half a text is in: by the lowest bit of its mark, so equal texts are in the same half on every machine."""
+    return "held" if int(mark, 16) % 2 else "open"
+
+
+def find_files(places):
+    if not places:
+        return sorted(glob.glob("/usr/share/doc/*/copyright"))
+    files = []
+    for place in places:
+        if os.path.isdir(place):
+            files += sorted(os.path.join(folder, name) for folder, _, names in os.walk(place) for name in names)
+        elif os.path.exists(place):
+            files.append(place)
+        else:
+            stop(f"{place} is not there; name copyright files or folders of them")
+    return files
+
+
+def gather(files, names):
+    """Each labelled text once, and a count of the fields that are left out, by the reason."""
+    texts, left = {}, collections.Counter()
+    for path in files:
+        for label, whole in license_fields(path):
+            text = cut_pointer(whole)
+            if len(normal(text).split()) < FEW:
+                left["without a text of their own"] += 1
+            elif label.lower() not in names:
+                left["with labels that name no single SPDX licence"] += 1
+            else:
+                key = mark_of(text), names[label.lower()]
+                left["that stand elsewhere too"] += key in texts
+                texts.setdefault(key, Text(key[0], label, key[1], path, text))
+    return [texts[key] for key in sorted(texts)], left
+
+
+def program():
+    words = shlex.split(os.environ.get("CHULTARVI", ""))
+    return words or [os.path.join(BOOKS, "..", "host", "run.sh")]
+
+
+def run(words):
+    """What the program prints, line by line as JSON."""
+    try:
+        done = subprocess.run(program() + words, stdout=subprocess.PIPE, check=False)
+    except OSError as error:
+        stop(f"{program()[0]}: {error.strerror}; set CHULTARVI to the program, or build it by host/run.sh")
+    if done.returncode not in (0, 1):
+        stop(f"the program ended with {done.returncode} on '{' '.join(words[:6])} ...'; what it says above tells why")
+    return [json.loads(line) for line in done.stdout.decode("utf-8", "surrogateescape").splitlines()]
+
+
+def scan(args, texts):
+    """The program's answer to each text, in their order."""
+    options = ["--json", "--ascii", "--threshold", args.threshold] + shlex.split(args.options)
+    with tempfile.TemporaryDirectory() as folder:
+        for number, text in enumerate(texts):
+            with open(os.path.join(folder, f"{number:06}"), "w", encoding="utf-8", errors="surrogateescape") as file:
+                file.write(text)
+        answers = run(["scan", *options, "-r", args.book, folder]) if texts else []
+        found = {os.path.basename(answer["note"]): answer for answer in answers if "note" in answer}
+    for number in range(len(texts)):
+        if "licence" not in found.get(f"{number:06}", {}):
+            stop(f"no answer to text {number}: {found.get(f'{number:06}')}")
+    return [found[f"{number:06}"] for number in range(len(texts))]
+
+
+def said_of(answer):
+    """The licence of the whole; where none is named, that of the range with the highest score."""
+    if answer["licence"] or not answer["ranges"]:
+        return answer["licence"], answer["score"] or 0
+    best = max(answer["ranges"], key=lambda part: part["score"])
+    return best["licence"], best["score"]
+
+
+def version_of(name):
+    """Family and version, without only / or-later."""
+    return re.sub(r"-(only|or-later)$", "", name)
+
+
+def judge(name, said):
+    if said is None:
+        return "none"
+    if said == name:
+        return "right"
+    return "version" if version_of(said) == version_of(name) else "wrong"
+
+
+def measure(args, names):
+    texts, left = gather(find_files(args.places), names)
+    contradicted = {(row[0], row[1].lower()): row[2:] for row in read_table("contradicted.txt", 4)}
+    if not texts:
+        stop("no labelled text; name copyright files that follow DEP-5, or folders of them")
+    texts = [text for text in texts if args.half in ("all", half_of(text.mark))]
+    apart = [text for text in texts if (text.mark, text.label.lower()) in contradicted]
+    counted = [text for text in texts if (text.mark, text.label.lower()) not in contradicted]
+    answers = scan(args, [text.text for text in counted])
+    stored = {version_of(line["licence"]) for line in run(["list", "--json", args.book])}
+    results = [(judge(text.name, said_of(answer)[0]), text, answer) for text, answer in zip(counted, answers)]
+    if args.list:
+        list_misses(results, stored, args.list == "texts")
+        for text in apart:
+            print(f"contradicted  {text.mark} {text.label}: {' '.join(contradicted[text.mark, text.label.lower()])}")
+    for reason, count in sorted(left.items()):
+        print(f"{count} License fields {reason} are left out")
+    print(f"{len(apart)} texts contradict their labels (books/contradicted.txt) and are not counted")
+    print(f"{sum(answer.get('changed', 0) > 0 for answer in answers)} texts have characters that are not ASCII")
+    print_counts(args, results, stored)
+
+
+def list_misses(results, stored, with_texts):
+    """Each text that is not right: what the program says, what the label says; 'near' is the best licence below the threshold, with --second."""
+    for verdict, text, answer in sorted(results, key=lambda row: (row[0], row[1].name, row[1].mark)):
+        if verdict == "right":
+            continue
+        said, score = said_of(answer)
+        near = answer.get("second") if said is None else None
+        more = f", near {near['licence']} {near['score']:.4f}" if near else ""
+        absent = "" if version_of(text.name) in stored else ", which the book has not"
+        print(f"{verdict:8} {text.mark} {text.label}: {text.name}{absent}; said {said} {score:.4f}{more}; {text.path}")
+        if with_texts:
+            print("    | " + text.text.replace("\n", "\n    | "))
+
+
+def print_counts(args, results, stored):
+    count = collections.Counter(verdict for verdict, _, _ in results)
+    absent = [verdict for verdict, text, _ in results if version_of(text.name) not in stored]
+    total = len(results)
+    print(f"half {args.half}, threshold {args.threshold}: {total} texts")
+    for verdict, words in ("right", "right"), ("version", "right but for only / or-later"), ("wrong", "wrong"), ("none", "none"):
+        print(f"{count[verdict]:6} {100 * count[verdict] / max(total, 1):5.1f} %  {words}")
+    print(f"of these {len(absent)} texts are of licences that the book has not: {absent.count('none')} none, {absent.count('wrong')} wrong")
+
+
+def labelled(path, names, stored):
+    """The licences of the book that a file has texts of, by family and version."""
+    found = {version_of(names[label.lower()]) for label, text in license_fields(path)
+             if label.lower() in names and len(normal(cut_pointer(text)).split()) >= FEW}
+    return found & stored
+
+
+def choose_files(args, names, stored):
+    """Files of 1,500 to 30,000 bytes with two or more licences of the book, each content once; of these the ones whose paths have the lowest hashes."""
+    chosen, seen = {}, set()
+    for path in find_files(args.places):
+        with open(path, "rb") as file:
+            content = file.read()
+        licences = labelled(path, names, stored) if 1500 <= len(content) <= 30000 and content not in seen else ()
+        if len(licences) >= 2:
+            seen.add(content)
+            chosen[path] = licences
+    order = sorted(chosen, key=lambda path: hashlib.sha256(os.path.abspath(path).encode()).hexdigest())
+    return {path: chosen[path] for path in order[:args.files]}
+
+
+def measure_files(args, names):
+    stored = {version_of(line["licence"]) for line in run(["list", "--json", args.book])}
+    chosen = choose_files(args, names, stored)
+    if len(chosen) < args.files:
+        print(f"measure.py: only {len(chosen)} files have two or more licences of the book", file=sys.stderr)
+    options = ["--json", "--ascii", "--threshold", args.threshold] + shlex.split(args.options)
+    began = time.monotonic()
+    answers = run(["scan", *options, args.book, *chosen]) if chosen else []
+    seconds = time.monotonic() - began
+    count = collections.Counter()
+    for answer, (path, licences) in zip(answers, chosen.items()):
+        parts = answer.get("ranges", []) + answer.get("further", [])
+        found = {version_of(name) for name in [answer.get("licence")] + [part["licence"] for part in parts] if name}
+        count.update(labelled=len(licences), found=len(licences & found), other=len(found - licences), whole=licences <= found)
+        if args.list:
+            print(f"{path}: found {' '.join(sorted(licences & found)) or '-'}; missed {' '.join(sorted(licences - found)) or '-'}; "
+                  f"not labelled {' '.join(sorted(found - licences)) or '-'}")
+    print(f"{len(chosen)} files, {count['labelled']} licences labelled, {count['found']} found, {count['whole']} files with all found, "
+          f"{count['other']} names not labelled, {seconds:.1f} s")
+
+
+def main():
+    parser = argparse.ArgumentParser(description=__doc__, formatter_class=argparse.RawDescriptionHelpFormatter)
+    parser.add_argument("places", nargs="*", metavar="FILE", help="copyright files, or folders of them (/usr/share/doc/*/copyright)")
+    parser.add_argument("--book", default=os.path.join(BOOKS, "debian.book"), help="the book (books/debian.book)")
+    parser.add_argument("--half", choices=("open", "held", "all"), default="open", help="which half of the texts; only the open one is for tuning (open)")
+    parser.add_argument("--threshold", default="0.9", help="as the program's (0.9)")
+    parser.add_argument("--list", nargs="?", const="lines", choices=("lines", "texts"), help="list what is not right, or each text with it")
+    parser.add_argument("--files", type=int, metavar="N", help="scan N whole files that have several licences instead")
+    parser.add_argument("--options", default="", help="further options of the program's scan, in one word: --options='--thorough'")
+    args = parser.parse_args()
+    if not os.path.exists(args.book):
+        stop(f"{args.book} is not there; books/make.sh makes the default book")
+    names = {label.lower(): name for label, name in read_table("labels.txt", 2)}
+    if args.files:
+        measure_files(args, names)
+    else:
+        measure(args, names)
+
+
+if __name__ == "__main__":
+    main()
