@@ -37,14 +37,14 @@ fetch() {
 # '__LICENSE__', and 'FIRST ... LAST' the lines from the first that holds FIRST to the next that holds LAST, without signs of comments in front.
 # Empty lines in front go: a title is known as such only on the first line.
 part() {
-    case $1 in *.gz) zcat "$1" ;; *) cat "$1" ;; esac | LC_ALL=C awk -v part="$2" '
+    case $1 in *.gz) zcat "$1" ;; *) cat "$1" ;; esac | LC_ALL=C awk -v part="$2" -v html="$(case $1 in *.html) echo 1 ;; esac)" '
         BEGIN { at = index(part, " ... "); first = substr(part, 1, at - 1); last = substr(part, at + 5) }
         function put(line) { if (begun || line ~ /[^ \t]/) { begun = 1; print line } }
         part == "-" { put($0); next }
         part == "body" { if (rules >= 2) put($0); if ($0 == "---") rules++; next }
         part == "license" { if (/^__[A-Z_]*__$/) inside = 0; if (inside) put($0); if ($0 == "__LICENSE__") inside = 1; next }
         !inside && !done && index($0, first) { inside = 1 }
-        inside { line = $0; sub(/^([.]?[\\]"|[#*; \t])+/, "", line); put(line) }
+        inside { line = $0; if (html) gsub(/<[^<>]*>/, "", line); sub(/^([.]?[\\]"|[#*; \t])+/, "", line); put(line) }
         inside && index($0, last) { inside = 0; done = 1 }
         END { if (at && !done) exit 1 }'
 }
@@ -129,6 +129,43 @@ documents() { # NAME VERSION
     done
 }
 
+# ---- the BSD licences: so many clauses, and who gives the software, each for each
+
+clauses() { # NAME CLAUSES
+    for party in holder author foundation regents; do
+        case $party,$2 in
+        holder,*) whole='THE COPYRIGHT HOLDERS AND CONTRIBUTORS' liable='THE COPYRIGHT HOLDER OR CONTRIBUTORS' by='the organization' ;;
+        author,*) whole='THE AUTHOR' liable='THE AUTHOR' by='the author' ;;
+        foundation,*) whole='THE FOUNDATION, INC. AND CONTRIBUTORS' liable='THE FOUNDATION OR CONTRIBUTORS' by='The Foundation, Inc. and its contributors' ;;
+        regents,4) continue ;; # BSD-4-Clause-UC
+        regents,*) whole='THE REGENTS AND CONTRIBUTORS' liable='THE REGENTS OR CONTRIBUTORS' by= ;;
+        esac
+        next "$1" alternate
+        conditions "$2" $party >"$work/$number"
+    done
+}
+conditions() { # CLAUSES PARTY
+    echo "Redistribution and use in source and binary forms, with or without modification, are permitted provided that the following conditions are met:"
+    echo "1. Redistributions of source code must retain the above copyright notice, this list of conditions and the following disclaimer."
+    [ "$1" -lt 2 ] || echo "2. Redistributions in binary form must reproduce the above copyright notice, this list of conditions and the following disclaimer
+in the documentation and/or other materials provided with the distribution."
+    [ "$1" -lt 4 ] || echo "3. All advertising materials mentioning features or use of this software must display the following acknowledgement:
+This product includes software developed by $by."
+    [ "$1" -lt 3 ] || case $2 in
+    holder) echo "$1. Neither the name of the copyright holder nor the names of its contributors may be used to endorse or promote products" ;;
+    author) echo "$1. The name of the author may not be used to endorse or promote products" ;;
+    foundation) echo "$1. Neither the name of The Foundation nor the names of its contributors may be used to endorse or promote products" ;;
+    regents) echo "$1. Neither the name of the University nor the names of its contributors may be used to endorse or promote products" ;;
+    esac
+    [ "$1" -lt 3 ] || echo "derived from this software without specific prior written permission."
+    echo "
+THIS SOFTWARE IS PROVIDED BY $whole \"AS IS\" AND ANY EXPRESS OR IMPLIED WARRANTIES, INCLUDING, BUT NOT LIMITED TO, THE IMPLIED WARRANTIES
+OF MERCHANTABILITY AND FITNESS FOR A PARTICULAR PURPOSE ARE DISCLAIMED. IN NO EVENT SHALL $liable BE LIABLE FOR ANY DIRECT, INDIRECT, INCIDENTAL,
+SPECIAL, EXEMPLARY, OR CONSEQUENTIAL DAMAGES (INCLUDING, BUT NOT LIMITED TO, PROCUREMENT OF SUBSTITUTE GOODS OR SERVICES; LOSS OF USE, DATA, OR
+PROFITS; OR BUSINESS INTERRUPTION) HOWEVER CAUSED AND ON ANY THEORY OF LIABILITY, WHETHER IN CONTRACT, STRICT LIABILITY, OR TORT (INCLUDING
+NEGLIGENCE OR OTHERWISE) ARISING IN ANY WAY OUT OF THE USE OF THIS SOFTWARE, EVEN IF ADVISED OF THE POSSIBILITY OF SUCH DAMAGE."
+}
+
 # ---- the book
 
 mkdir "$work/root"
@@ -145,6 +182,7 @@ while read -r name kind package file part; do
     bare) echo "$name original $work/bare" >>"$work/list" ;;
     notices) notices "$name" "${part% *}" "${part##* }" ;;
     documents) documents "$name" "$part" ;;
+    clauses) clauses "$name" "$part" ;;
     *) stored "$name" "$kind" "$package" "$file" "$part" ;;
     esac
 done <"$list"
