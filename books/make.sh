@@ -72,11 +72,25 @@ stored() {
 
 grant() { # SUBJECT TITLE VERSION FORM
     echo "This $1 is free software; you can redistribute it and/or modify it under the terms of"
+    fsf='as published by the Free Software Foundation'
     case $4 in
-    later) echo "the GNU $2 Public License as published by the Free Software Foundation; either version $3 of the License, or (at your option) any later version." ;;
-    only) echo "the GNU $2 Public License as published by the Free Software Foundation; version $3 of the License." ;;
-    before) echo "the GNU $2 Public License version $3 as published by the Free Software Foundation." ;;
-    v) echo "the GNU $2 Public License v$3 as published by the Free Software Foundation." ;;
+    later) echo "the GNU $2 Public License $fsf; either version $3 of the License, or (at your option) any later version." ;;
+    comma) echo "the GNU $2 Public License $fsf; either version $3, or (at your option) any later version." ;;
+    dated-later) echo "the GNU $2 Public License $fsf; version $3 dated $(dated "$2" "$3"), or (at your option) any later version." ;;
+    only) echo "the GNU $2 Public License $fsf; version $3 of the License." ;;
+    before) echo "the GNU $2 Public License version $3 $fsf." ;;
+    front) echo "version $3 of the GNU $2 Public License $fsf." ;;
+    v) echo "the GNU $2 Public License v$3 $fsf." ;;
+    dated) echo "the GNU $2 Public License $fsf; version $3 dated $(dated "$2" "$3")." ;;
+    esac
+}
+dated() { # TITLE VERSION
+    case $2,$1 in
+    1,*) echo "February, 1989" ;;
+    2,*) echo "June, 1991" ;;
+    2.1,*) echo "February, 1999" ;;
+    3,Affero*) echo "November, 2007" ;;
+    3,*) echo "June, 2007" ;;
     esac
 }
 warranty() { # SUBJECT TITLE
@@ -93,22 +107,33 @@ copy() { # SUBJECT TITLE END
     street) echo "; if not, write to the Free Software Foundation, Inc., 51 Franklin Street, Fifth Floor, Boston, MA 02110-1301 USA." ;;
     esac
 }
+notice() { # NAME TITLE VERSION FORM SUBJECT END TITLE-BELOW
+    next "$1" header
+    {
+        grant "$5" "$2" "$3" "$4"
+        [ "$6" = grant ] || warranty "$5" "$7"
+        case $5,$6 in
+        *,grant) ;;
+        package,*) copy program "$7" "$6" ;; # so Debian's own template ends
+        *) copy "$5" "$7" "$6" ;;
+        esac
+    } >"$work/$number"
+}
 notices() { # NAME TITLE VERSION
-    case $1 in *-or-later) forms=later ;; *) forms='only before v' ;; esac
-    for subject in program library; do
-        for form in $forms; do
-            next "$1" header
-            grant $subject "$2" "$3" "$form" >"$work/$number"
-            for end in none url street; do
-                next "$1" header
-                { grant $subject "$2" "$3" "$form"; warranty $subject "$2"; copy $subject "$2" $end; } >"$work/$number"
-            done
-            # the licence is named once, and the GPL after that
-            case $2 in *' '*)
-                for end in url street; do
-                    next "$1" header
-                    { grant $subject "$2" "$3" "$form"; warranty $subject General; copy $subject General $end; } >"$work/$number"
-                done ;;
+    case $1 in *-or-later) forms='later dated-later comma' ;; *) forms='only before v dated front' ;; esac
+    for form in $forms; do
+        case $form in
+        later | only | before) subjects='program library package' ends='grant none url street' ;;
+        v) subjects='program library' ends='grant none url street' ;;
+        dated*) subjects=program ends='grant none street' ;;
+        comma | front) subjects=program ends='grant none' ;;
+        esac
+        for subject in $subjects; do
+            [ "$subject" != package ] || ends='url street'
+            for end in $ends; do notice "$1" "$2" "$3" "$form" "$subject" "$end" "$2"; done
+            case $form,$subject,$2 in dated* | comma,* | front,* | *,package,*) ;;
+            *' '*) # the licence is named once, and the GPL after that
+                for end in url street; do notice "$1" "$2" "$3" "$form" "$subject" "$end" General; done ;;
             esac
         done
     done
@@ -125,6 +150,19 @@ documents() { # NAME VERSION
             *-invariants-*) echo "with the Invariant Sections being LIST THEIR TITLES, with the Front-Cover Texts being LIST, and with the Back-Cover Texts being LIST." ;;
             esac
             echo "$end"
+        } >"$work/$number"
+    done
+}
+
+mozilla() { # NAME VERSION: the notice of versions 1, with the place of the licence and without
+    for place in "You may obtain a copy of the License at http://www.mozilla.org/MPL/" ''; do
+        next "$1" header
+        {
+            echo "The contents of this file are subject to the Mozilla Public License Version $2 (the \"License\"); you may not use this file except in"
+            echo "compliance with the License. $place"
+            echo
+            echo "Software distributed under the License is distributed on an \"AS IS\" basis, WITHOUT WARRANTY OF ANY KIND, either express or implied."
+            echo "See the License for the specific language governing rights and limitations under the License."
         } >"$work/$number"
     done
 }
@@ -182,6 +220,7 @@ while read -r name kind package file part; do
     bare) echo "$name original $work/bare" >>"$work/list" ;;
     notices) notices "$name" "${part% *}" "${part##* }" ;;
     documents) documents "$name" "$part" ;;
+    mozilla) mozilla "$name" "$part" ;;
     clauses) clauses "$name" "$part" ;;
     *) stored "$name" "$kind" "$package" "$file" "$part" ;;
     esac
