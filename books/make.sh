@@ -137,6 +137,10 @@ notices() { # NAME TITLE VERSION
             esac
         done
     done
+    case $3 in *.*) return ;; esac
+    for form in $forms; do # the version written 2.0
+        case $form in later | only | before) for end in grant none url street; do notice "$1" "$2" "$3.0" "$form" program "$end" "$2"; done ;; esac
+    done
 }
 documents() { # NAME VERSION
     case $1 in *-or-later) later='or any later version ' ;; *) later= ;; esac

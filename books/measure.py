@@ -171,8 +171,8 @@ def measure(args, names):
     answers = scan(args, [text.text for text in counted])
     stored = {version_of(line["licence"]) for line in run(["list", "--json", args.book])}
     results = [(judge(text.name, said_of(answer)[0]), text, answer) for text, answer in zip(counted, answers)]
-    if args.list:
-        list_misses(results, stored, args.list == "texts")
+    if args.list or args.texts:
+        list_misses(results, stored, args.texts)
         for text in apart:
             print(f"contradicted  {text.mark} {text.label}: {' '.join(contradicted[text.mark, text.label.lower()])}")
     for reason, count in sorted(left.items()):
@@ -254,7 +254,8 @@ def main():
     parser.add_argument("--book", default=os.path.join(BOOKS, "debian.book"), help="the book (books/debian.book)")
     parser.add_argument("--half", choices=("open", "held", "all"), default="open", help="which half of the texts; only the open one is for tuning (open)")
     parser.add_argument("--threshold", default="0.9", help="as the program's (0.9)")
-    parser.add_argument("--list", nargs="?", const="lines", choices=("lines", "texts"), help="list what is not right, or each text with it")
+    parser.add_argument("--list", action="store_true", help="list what is not right; with --files, what each file has")
+    parser.add_argument("--texts", action="store_true", help="the same, and each text with it")
     parser.add_argument("--files", type=int, metavar="N", help="scan N whole files that have several licences instead")
     parser.add_argument("--options", default="", help="further options of the program's scan, in one word: --options='--thorough'")
     args = parser.parse_args()
