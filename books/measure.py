@@ -17,6 +17,7 @@ import tempfile
 import time
 
 BOOKS = os.path.dirname(os.path.abspath(__file__))
+DEFAULT = os.path.join(BOOKS, "debian.book")
 FEW = 10  # words: a shorter text only points elsewhere
 Text = collections.namedtuple("Text", "mark label name path text")
 
@@ -214,7 +215,8 @@ def labelled(path, names, stored):
 
 
 def choose_files(args, names, stored):
-    """Files of 1,500 to 30,000 bytes with two or more licences of the book, each content once; of these the ones whose paths have the lowest hashes."""
+    """Files of 1,500 to 30,000 bytes with two or more licences of the default book, whatever book is measured; each content once, and of these the
+    ones whose paths have the lowest hashes."""
     chosen, seen = {}, set()
     for path in find_files(args.places):
         with open(path, "rb") as file:
@@ -228,7 +230,7 @@ def choose_files(args, names, stored):
 
 
 def measure_files(args, names):
-    stored = {version_of(line["licence"]) for line in run(["list", "--json", args.book])}
+    stored = {version_of(line["licence"]) for line in run(["list", "--json", DEFAULT])}
     chosen = choose_files(args, names, stored)
     if len(chosen) < args.files:
         print(f"measure.py: only {len(chosen)} files have two or more licences of the book", file=sys.stderr)
@@ -251,7 +253,7 @@ def measure_files(args, names):
 def main():
     parser = argparse.ArgumentParser(description=__doc__, formatter_class=argparse.RawDescriptionHelpFormatter)
     parser.add_argument("places", nargs="*", metavar="FILE", help="copyright files, or folders of them (/usr/share/doc/*/copyright)")
-    parser.add_argument("--book", default=os.path.join(BOOKS, "debian.book"), help="the book (books/debian.book)")
+    parser.add_argument("--book", default=DEFAULT, help="the book (books/debian.book)")
     parser.add_argument("--half", choices=("open", "held", "all"), default="open", help="which half of the texts; only the open one is for tuning (open)")
     parser.add_argument("--threshold", default="0.9", help="as the program's (0.9)")
     parser.add_argument("--list", action="store_true", help="list what is not right; with --files, what each file has")
