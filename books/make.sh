@@ -1,7 +1,7 @@
 #!/bin/sh
 # Makes the default book from the texts that books/debian.list names, out of Debian packages that are fetched and unpacked, not installed, and from
-# the notices composed below. Writes books/debian.book, or the file named. Bytes that are not ASCII are dropped, since the library refuses them, and
-# the texts that lose some are said. No root rights are needed.
+# the notices composed below. Writes books/debian.book, or the file named. Characters that are not ASCII are mapped or dropped as `scan --ascii` does,
+# since the library refuses them, and the texts that have some are said. No root rights are needed. CHULTARVI, where it is set, is the program.
 set -eu
 books=$(cd "$(dirname "$0")" && pwd)
 list=$books/debian.list
@@ -49,10 +49,11 @@ part() {
         END { if (at && !done) exit 1 }'
 }
 
-# next NAME KIND: the place of one more text, $work/$number
+# next NAME KIND: one more text, whose place is $text; it has the licence's name, for what `book` says of it
 next() {
     number=$((number + 1))
-    echo "$1 $2 $work/$number" >>"$work/list"
+    text=$work/$1.$number
+    echo "$1 $2 $1.$number" >>"$work/list"
 }
 
 # stored NAME KIND PACKAGE FILE PART
@@ -61,10 +62,8 @@ stored() {
     [ ! -L "$file" ] || stop "$4 of $3 is a link; name the file itself in books/debian.list"
     [ -f "$file" ] || stop "$3 has no file $4; the line of $1 in books/debian.list needs another"
     next "$1" "$2"
-    part "$file" "$5" >"$work/whole" || stop "$4 of $3 has no text '$5'"
-    LC_ALL=C tr -d '\200-\377' <"$work/whole" >"$work/$number"
-    [ -s "$work/$number" ] || stop "$4 of $3 has no text '$5'"
-    cmp -s "$work/whole" "$work/$number" || echo "make.sh: dropped bytes that are not ASCII: $1, $2, $4" >&2
+    part "$file" "$5" >"$text" || stop "$4 of $3 has no text '$5'"
+    [ -s "$text" ] || stop "$4 of $3 has no text '$5'"
 }
 
 # ---- the FSF's notices. A version is one or two word pairs of some hundred, an address a dozen: so every form stands for every licence and version.
@@ -117,7 +116,7 @@ notice() { # NAME TITLE VERSION FORM SUBJECT END TITLE-BELOW
         package,*) copy program "$7" "$6" ;; # so Debian's own template ends
         *) copy "$5" "$7" "$6" ;;
         esac
-    } >"$work/$number"
+    } >"$text"
 }
 notices() { # NAME TITLE VERSION
     case $1 in *-or-later) forms='later dated-later comma' ;; *) forms='only before v dated front' ;; esac
@@ -154,7 +153,7 @@ documents() { # NAME VERSION
             *-invariants-*) echo "with the Invariant Sections being LIST THEIR TITLES, with the Front-Cover Texts being LIST, and with the Back-Cover Texts being LIST." ;;
             esac
             echo "$end"
-        } >"$work/$number"
+        } >"$text"
     done
 }
 
@@ -167,7 +166,7 @@ mozilla() { # NAME VERSION: the notice of versions 1, with the place of the lice
             echo
             echo "Software distributed under the License is distributed on an \"AS IS\" basis, WITHOUT WARRANTY OF ANY KIND, either express or implied."
             echo "See the License for the specific language governing rights and limitations under the License."
-        } >"$work/$number"
+        } >"$text"
     done
 }
 
@@ -183,7 +182,7 @@ clauses() { # NAME CLAUSES
         regents,*) whole='THE REGENTS AND CONTRIBUTORS' liable='THE REGENTS OR CONTRIBUTORS' by= ;;
         esac
         next "$1" alternate
-        conditions "$2" $party >"$work/$number"
+        conditions "$2" $party >"$text"
     done
 }
 conditions() { # CLAUSES PARTY
@@ -216,12 +215,11 @@ while read -r word package version _; do
 done <"$list"
 number=0
 : >"$work/list"
-: >"$work/bare"
 while read -r name kind package file part; do
     case $name in '' | '#'* | package) continue ;; esac
     case $kind in
     alias) echo "$name alias $part" >>"$work/list" ;;
-    bare) echo "$name original $work/bare" >>"$work/list" ;;
+    bare) echo "$name original /dev/null" >>"$work/list" ;;
     notices) notices "$name" "${part% *}" "${part##* }" ;;
     documents) documents "$name" "$part" ;;
     mozilla) mozilla "$name" "$part" ;;
@@ -229,8 +227,5 @@ while read -r name kind package file part; do
     *) stored "$name" "$kind" "$package" "$file" "$part" ;;
     esac
 done <"$list"
-# Of texts without word pairs it warns; the bare originals are meant to be such.
-status=0
-${CHULTARVI:-"$books/../host/run.sh"} book "$out" "$work/list" 2>"$work/said" || status=$?
-grep -v "$work/bare: warning: no bigrams" "$work/said" >&2 || true
-exit $status
+cd "$work"
+${CHULTARVI:-"$books/../host/run.sh"} book --ascii "$out" list

@@ -1,6 +1,6 @@
-/* A note as ASCII (--ascii): each character that is not ASCII becomes what stands for it there, or nothing. Bytes that are no UTF-8 are read as
+/* A text as ASCII (--ascii of scan and of book): each character that is not ASCII becomes what stands for it there, or nothing. Bytes that are no UTF-8 are read as
    Latin-1, which old notes are in. No line break is added or taken, so lines count as in the file. */
-#include "scan.h"
+#include "host.h"
 #include <string.h>
 
 /* Characters in a row that become the same. */
@@ -56,9 +56,15 @@ static uint32_t read_character(const uint8_t *p, size_t left, size_t *bytes) {
     return p[0];
 }
 
-size_t to_ascii(const uint8_t *from, size_t from_len, uint8_t *to, size_t most, size_t *len) {
+size_t to_ascii(const uint8_t *from, size_t from_len, uint8_t *to, size_t *len) {
+    const size_t most = CHULTARVI_TEXT_MOST + 1;
     size_t changed = 0;
     *len = 0;
+    if (from_len >= most) {
+        memcpy(to, from, most);
+        *len = most;
+        return 0;
+    }
     for (size_t at = 0, bytes; at < from_len && *len < most; at += bytes) {
         bytes = 1;
         if (from[at] < 128) {

@@ -10,8 +10,8 @@ enum { LIST_MOST = 4194304 };
 
 /* One line of the list. file: the alias itself where the kind is alias. table, len: a text's table in the book, once it is compiled. */
 typedef struct { const char *name, *file; const uint8_t *table; size_t len, line; uint32_t kind; } entry;
-/* status: the worst that was met so far. */
-typedef struct { entry *at; size_t count; const char *list; int status; } entries;
+/* status: the worst that was met so far. ascii: texts that are not ASCII become it. */
+typedef struct { entry *at; size_t count; const char *list; int status; bool ascii; } entries;
 
 /* The line is refused. */
 static void refuse(entries *all, const entry *e, const char *why) {
@@ -19,7 +19,7 @@ static void refuse(entries *all, const entry *e, const char *why) {
     if (all->status < REFUSED) all->status = REFUSED;
 }
 
-/* The same for the file that the line names. */
+/* The same for the file that the line names; with the status DONE it is no more than a word about it. */
 static void refuse_file(entries *all, const entry *e, int status, const char *why) {
     fputs("chultarvi: ", stderr);
     put_plain(stderr, all->list);
@@ -176,7 +176,7 @@ static void put_text(book *b, entry *e, const memory *m, size_t len, entries *al
         no_room(b, e, all);
     } else if (c.refusal) {
         char why[MESSAGE_MOST];
-        refusal_message(why, c.refusal, m->text, len, CHANGE_IT);
+        refusal_message(why, c.refusal, m->text, len, "--ascii makes the book with such characters mapped or dropped");
         refuse_file(all, e, REFUSED, why);
     } else {
         /* a name that has headers alone says so by an original from /dev/null */
@@ -188,27 +188,33 @@ static void put_text(book *b, entry *e, const memory *m, size_t len, entries *al
     }
 }
 
-static void read_text(book *b, entry *e, const memory *m, entries *all) {
+/* With --ascii a text stands in `raw` first, and what was changed in it is said. */
+static void read_text(book *b, entry *e, const memory *m, uint8_t *raw, entries *all) {
     size_t len;
-    const char *reason = read_file(e->file, m->text, CHULTARVI_TEXT_MOST, &len);
-    if (!reason) {
-        put_text(b, e, m, len, all);
+    char why[MESSAGE_MOST];
+    const char *reason = read_file(e->file, all->ascii ? raw : m->text, CHULTARVI_TEXT_MOST, &len);
+    if (reason) {
+        snprintf(why, sizeof why, "cannot be read: %s", reason);
+        refuse_file(all, e, TROUBLE, why);
         return;
     }
-    char why[MESSAGE_MOST];
-    snprintf(why, sizeof why, "cannot be read: %s", reason);
-    refuse_file(all, e, TROUBLE, why);
+    size_t changed = all->ascii ? to_ascii(raw, len, m->text, &len) : 0;
+    snprintf(why, sizeof why, "--ascii changed %zu character%s", changed, plural(changed));
+    if (changed) refuse_file(all, e, DONE, why);
+    put_text(b, e, m, len, all);
 }
 
 /* A file in trouble does not keep the others from being looked at. */
 static void build(book *b, entries *all) {
     memory m = take_memory();
+    uint8_t *raw = take(CHULTARVI_TEXT_MOST + 1);
     for (size_t i = 0; i < all->count; i++) {
         entry *e = all->at + i;
         if (i == 0 || !same_name(e - 1, e)) put_word(b, KIND_NAME, e->name, e, all);
         if (e->kind == KIND_ALIAS) put_word(b, KIND_ALIAS, e->file, e, all);
-        else read_text(b, e, &m, all);
+        else read_text(b, e, &m, raw, all);
     }
+    free(raw);
     free_memory(&m);
 }
 
@@ -297,13 +303,15 @@ static char *read_list(const char *list, size_t *len) {
 
 int run_book(int count, char **words) {
     int status;
-    if (!read_options(&count, words, 0, 0, &status)) return status;
+    bool ascii = false;
+    const option_place places[] = {{.name = "ascii", .given = &ascii}};
+    if (!read_options(&count, words, places, 1, &status)) return status;
     if (count != 3) return wrong_words("book", "wants OUT and LIST");
     size_t len;
     char *text = read_list(words[2], &len);
     if (!text) return TROUBLE;
     /* a good line has at least nine bytes, as `A alias b`, and its newline */
-    entries all = {take((len / 10 + 1) * sizeof(entry)), 0, words[2], DONE};
+    entries all = {take((len / 10 + 1) * sizeof(entry)), 0, words[2], DONE, ascii};
     make_book(words[1], &all, text);
     if (all.status != DONE) say_of(words[1], "no new book stands there");
     free(all.at);

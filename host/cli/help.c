@@ -59,7 +59,7 @@ static const char check_help[] =
     "\n" ENDING;
 
 static const char book_help[] =
-    "chultarvi book OUT LIST\n"
+    "chultarvi book OUT LIST [--ascii]\n"
     "\n"
     "Makes the book OUT from a list of lines NAME KIND FILE, for example 'MIT original texts/mit.txt'. OUT changes only once all is\n"
     "read and the library finds the book sound.\n"
@@ -68,6 +68,8 @@ static const char book_help[] =
     "left of the line, from the folder where the program runs. An empty line and one that begins with '# ' say nothing. Lines may end\n"
     "with CR LF. A text without bigrams and two names with one text are warned of; an original from /dev/null is empty without a word,\n"
     "for a name that has headers alone.\n"
+    "\n"
+    "  --ascii   map or drop what is not ASCII in the texts, as scan does, and say how many characters that were\n"
     "\n" ENDING;
 
 static const char compile_help[] =

@@ -50,6 +50,12 @@ void refusal_message(char to[MESSAGE_MOST], uint32_t refusal, const uint8_t *tex
 #define CHANGE_IT "nothing is filtered, so change it first"
 #define MAKE_ANEW "; make it anew by chultarvi book"
 
+/* ascii.c */
+
+/* Writes a text as ASCII: what has a like in ASCII as that, the rest not at all. Lines stay. Gives how many characters it changed; `len` is the
+   length written. `to` has room for one byte more than a text may have; a text that is longer, or grows longer, fills it, to be refused by its length. */
+size_t to_ascii(const uint8_t *from, size_t from_len, uint8_t *to, size_t *len);
+
 /* memory.c */
 
 /* Lent to the library again and again. All of it is taken at the start, for the largest text; of each area a call is lent only what its text

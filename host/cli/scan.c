@@ -153,14 +153,12 @@ static void scan_text(worker *w, report *r) {
     if (r->further.count) qsort(r->further.at, r->further.count, sizeof *r->further.at, by_line);
 }
 
-/* The note into the text that is lent; with --ascii by way of `raw`. A note over the limit stays as it is, to be refused by its length. */
+/* The note into the text that is lent; with --ascii by way of `raw`. */
 static const char *read_text(worker *w, const char *file, report *r) {
     bool ascii = w->from->with.ascii;
     const char *why = read_note(file, ascii ? w->raw : w->lent.text, CHULTARVI_TEXT_MOST, &r->len);
-    if (why || !ascii) return why;
-    if (r->len > CHULTARVI_TEXT_MOST) memcpy(w->lent.text, w->raw, r->len);
-    else r->changed = to_ascii(w->raw, r->len, w->lent.text, CHULTARVI_TEXT_MOST + 1, &r->len);
-    return 0;
+    if (!why && ascii) r->changed = to_ascii(w->raw, r->len, w->lent.text, &r->len);
+    return why;
 }
 
 static int scan_note(worker *w, size_t index, FILE *out, FILE *err) {

@@ -119,12 +119,6 @@ void look_for_others(worker *w, report *r);
 /* Does another licence score as high on the same lines, or higher? */
 bool has_rival(const finding *f);
 
-/* ascii.c */
-
-/* Writes a text as ASCII: what has a like in ASCII as that, the rest not at all. Lines stay. Gives how many characters it changed; `len` is the
-   length written, at most `most`, and where that is too little, most. */
-size_t to_ascii(const uint8_t *from, size_t from_len, uint8_t *to, size_t most, size_t *len);
-
 /* walk.c */
 
 /* The notes to scan. A folder's are those of its files; of what it skips there is a count. */

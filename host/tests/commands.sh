@@ -275,7 +275,7 @@ printf 'A original nowhere\n\nB original umlaut\n# x\nC original .\nD original l
 run 2 book stands.book list
 err_is 'chultarvi: list: line 8: F has no original
 chultarvi: list: line 1: nowhere: cannot be read: No such file or directory
-chultarvi: list: line 3: umlaut: refused (2): the text is not ASCII: line 2, byte 5 is 0xc3; nothing is filtered, so change it first
+chultarvi: list: line 3: umlaut: refused (2): the text is not ASCII: line 2, byte 5 is 0xc3; --ascii makes the book with such characters mapped or dropped
 chultarvi: list: line 5: .: cannot be read: Is a directory
 chultarvi: list: line 7: over: refused (1): the text is over 1,048,576 bytes
 chultarvi: list: line 8: frob: cannot be read: No such file or directory
@@ -289,7 +289,7 @@ printf 'A frob license\nA header nowhere\nB original umlaut\n' >list
 run 2 book stands.book list
 err_is 'chultarvi: list: line 1: the kind is not original, alternate, header or alias; a line is NAME KIND FILE
 chultarvi: list: line 2: nowhere: cannot be read: No such file or directory
-chultarvi: list: line 3: umlaut: refused (2): the text is not ASCII: line 2, byte 5 is 0xc3; nothing is filtered, so change it first
+chultarvi: list: line 3: umlaut: refused (2): the text is not ASCII: line 2, byte 5 is 0xc3; --ascii makes the book with such characters mapped or dropped
 chultarvi: stands.book: no new book stands there'
 same stands.book a.book
 # neither does a book that is over
@@ -331,6 +331,18 @@ err_is ''
 printf 'A original license\nB header two\nB original /dev/null\nC original /dev/null\n' >list
 run 0 book warned.book list
 err_is ''
+# texts that are not ASCII become it, as notes do in a scan
+printf 'M\303\277 First\302\240Licens\351\n' >letters
+printf 'A original letters\nB original two\n' >list
+run 0 book --ascii mapped.book list
+err_is 'chultarvi: list: line 1: letters: --ascii changed 3 characters'
+printf 'A original license\nB original two\n' >list
+run 0 book --ascii plain.book list
+err_is ''
+same mapped.book plain.book
+printf 'A original over\n' >list
+run 1 book list.book --ascii list
+err_has 'over: refused (1): the text is over 1,048,576 bytes'
 # 1,024 texts under as many names
 awk 'BEGIN { for (i = 0; i < 1024; i++) printf "N%04d original license\n", i }' >list
 run 0 book many.book list

@@ -71,7 +71,7 @@ if command -v python3 >/dev/null; then
     schema() {
         case " $ran " in " scan "*" --json "*) form=scan ;; " list "*" --json "*) form=list ;; *) return ;; esac
         # a note may be named --json
-        case $out in '' | [!{]*) return ;; esac
+        case $out in '{'*) ;; *) return ;; esac
         value=$(python3 "$root/host/tests/schema.py" "$root/host/$form.schema.json" <.out 2>&1) && good || bad "schema: $value"
     }
     json() {

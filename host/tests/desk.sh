@@ -1,5 +1,5 @@
 #!/bin/sh
-# shellcheck disable=SC1091,SC2015,SC2016,SC2034,SC2086,SC2154
+# shellcheck disable=SC1091,SC2015,SC2016,SC2034,SC2086,SC2094,SC2154
 # Tests of scan as the release desk uses it, run by host/test.sh: desk.sh PROGRAM FAULTY BOOK NOTE (common.sh says which they are). Every licence of a
 # note, doubt, notes that are not ASCII, folders and odd files, threads, signals, and what is written at once.
 set -u
