@@ -303,6 +303,8 @@ static char *read_list(const char *list, size_t *len) {
 
 int run_book(int count, char **words) {
     int status;
+    /* a list may have two million wrong lines: each message is one write, and not one for each letter of a name */
+    setvbuf(stderr, 0, _IOLBF, BUFSIZ);
     bool ascii = false;
     const option_place places[] = {{.name = "ascii", .given = &ascii}};
     if (!read_options(&count, words, places, 1, &status)) return status;
