@@ -157,7 +157,12 @@ documents() { # NAME VERSION
     done
 }
 
-mozilla() { # NAME VERSION: the notice of versions 1, with the place of the licence and without
+mozilla() { # NAME VERSION: the notice of version 2, and that of versions 1 with the place of the licence and without
+    next "$1" header
+    {
+        echo "This Source Code Form is subject to the terms of the Mozilla Public License, v. $2."
+        echo "If a copy of the MPL was not distributed with this file, You can obtain one at https://mozilla.org/MPL/$2/."
+    } >"$text"
     for place in "You may obtain a copy of the License at http://www.mozilla.org/MPL/" ''; do
         next "$1" header
         {

@@ -10,11 +10,11 @@ import hashlib
 import json
 import os
 import re
+import resource
 import shlex
 import subprocess
 import sys
 import tempfile
-import time
 
 BOOKS = os.path.dirname(os.path.abspath(__file__))
 DEFAULT = os.path.join(BOOKS, "debian.book")
@@ -148,6 +148,12 @@ def said_of(answer):
     return best["licence"], best["score"]
 
 
+def is_tied(answer):
+    """Does the program name another licence that scores as high, where it names one?"""
+    parts = [answer] if answer["licence"] else answer["ranges"]
+    return any(part["rival"] for part in parts)
+
+
 def version_of(name):
     """Family and version, without only / or-later."""
     return re.sub(r"-(only|or-later)$", "", name)
@@ -205,6 +211,8 @@ def print_counts(args, results, stored):
     for verdict, words in ("right", "right"), ("version", "right but for only / or-later"), ("wrong", "wrong"), ("none", "none"):
         print(f"{count[verdict]:6} {100 * count[verdict] / max(total, 1):5.1f} %  {words}")
     print(f"of these {len(absent)} texts are of licences that the book has not: {absent.count('none')} none, {absent.count('wrong')} wrong")
+    tied = collections.Counter(verdict for verdict, _, answer in results if is_tied(answer))
+    print(f"another licence has the very score, and the program says so: {tied['wrong']} of the wrong ones, {tied['right']} of the right ones")
 
 
 def labelled(path, names, stored):
@@ -235,9 +243,9 @@ def measure_files(args, names):
     if len(chosen) < args.files:
         print(f"measure.py: only {len(chosen)} files have two or more licences of the book", file=sys.stderr)
     options = ["--json", "--ascii", "--threshold", args.threshold] + shlex.split(args.options)
-    began = time.monotonic()
+    began = resource.getrusage(resource.RUSAGE_CHILDREN).ru_utime
     answers = run(["scan", *options, args.book, *chosen]) if chosen else []
-    seconds = time.monotonic() - began
+    seconds = resource.getrusage(resource.RUSAGE_CHILDREN).ru_utime - began
     count = collections.Counter()
     for answer, (path, licences) in zip(answers, chosen.items()):
         parts = answer.get("ranges", []) + answer.get("further", [])
@@ -247,7 +255,7 @@ def measure_files(args, names):
             print(f"{path}: found {' '.join(sorted(licences & found)) or '-'}; missed {' '.join(sorted(licences - found)) or '-'}; "
                   f"not labelled {' '.join(sorted(found - licences)) or '-'}")
     print(f"{len(chosen)} files, {count['labelled']} licences labelled, {count['found']} found, {count['whole']} files with all found, "
-          f"{count['other']} names not labelled, {seconds:.1f} s")
+          f"{count['other']} names not labelled, {seconds:.1f} s of processor time")
 
 
 def main():

@@ -1,8 +1,10 @@
 /* The command line of Chultarvi over the archive: the entry, which finds the command. Each command has a file of its own: scan.c, list.c (list and
    check), book.c, compile.c; help.c holds the help. Build and run: host/run.sh. */
 #include "host.h"
+#include <fcntl.h>
 #include <signal.h>
 #include <string.h>
+#include <unistd.h>
 
 static int give_help(const char *command) {
     if (print_help(command)) return DONE;
@@ -33,7 +35,14 @@ static int run(int count, char **words) {
     return TROUBLE;
 }
 
+/* No file may stand where a standard stream is looked for: a closed one is plugged, by an end that can be neither read nor written. */
+static void plug_streams(void) {
+    for (int stream = STDIN_FILENO; stream <= STDERR_FILENO; stream++)
+        if (fcntl(stream, F_GETFD) < 0) open("/dev/null", stream == STDIN_FILENO ? O_WRONLY : O_RDONLY);
+}
+
 int main(int count, char **words) {
+    plug_streams();
     /* a write over the limit of a file's size is an error, which is said, and not a death */
     signal(SIGXFSZ, SIG_IGN);
     int status = run(count, words);

@@ -80,10 +80,20 @@ static finding turned(const finding *f) {
     return t;
 }
 
-/* A scan names a range after the text that was best before its bounds were known; another may score higher within them. Of the scan's own ranges
-   that is said beside, and with --thorough it is a further finding, unless it is one already; what is found further is named after the highest. */
+/* What is found further is named after the highest, and falls away where the scan itself has that on these lines. */
 static void name_highest(worker *w, report *r) {
-    for (size_t i = 0; i < r->further.count; i++) if (is_higher(r->further.at + i)) r->further.at[i] = turned(r->further.at + i);
+    size_t kept = 0;
+    list_owners(w, &r->ranges);
+    for (size_t i = 0; i < r->further.count; i++) {
+        finding f = is_higher(r->further.at + i) ? turned(r->further.at + i) : r->further.at[i];
+        if (!is_among(w, &r->ranges, &f)) r->further.at[kept++] = f;
+    }
+    r->further.count = kept;
+}
+
+/* A scan names a range after the text that was best before its bounds were known; another may score higher within them. Of the scan's own ranges
+   that is said beside, and with --thorough it is a further finding, unless it is one already. */
+static void add_higher(worker *w, report *r) {
     list_owners(w, &r->further);
     for (size_t i = 0; i < r->ranges.count; i++) {
         finding t = turned(r->ranges.at + i);
@@ -98,7 +108,9 @@ void look_for_others(worker *w, report *r) {
     if (named || (s->second && !s->down)) look_for_other(w, r, (part){r->text, r->len}, &r->whole);
     look_in_all(w, r, &r->ranges);
     look_in_all(w, r, &r->further);
-    if (s->thorough) name_highest(w, r);
+    if (!s->thorough) return;
+    name_highest(w, r);
+    add_higher(w, r);
 }
 
 bool has_rival(const finding *f) { return f->text.kind && f->looked && f->other.kind && f->other_score >= f->score; }

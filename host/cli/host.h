@@ -45,7 +45,7 @@ bool read_limit(const char *word, float *limit);
 /* The first byte of 128 or more; len where there is none. */
 size_t first_not_ascii(const uint8_t *text, size_t len);
 enum { MESSAGE_MOST = 256 };
-/* A refusal in words, with its number; where the text is not ASCII, with the place and what to do next. */
+/* A refusal in words, with its number and what to do next; where the text is not ASCII that is `next`, after the place. */
 void refusal_message(char to[MESSAGE_MOST], uint32_t refusal, const uint8_t *text, size_t len, const char *next);
 #define CHANGE_IT "nothing is filtered, so change it first"
 #define MAKE_ANEW "; make it anew by chultarvi book"

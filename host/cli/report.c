@@ -78,7 +78,7 @@ static void json_answer(FILE *to, const report *r) {
 static void put_books_message(FILE *to, const report *r) {
     const lent_book *one = r->from->books, *two = one + 1;
     fprintf(to, "refused (%" PRIu32 "): ", r->answer.refusal);
-    if (r->answer.refusal == 5) fputs("neither book has a stored text", to);
+    if (r->answer.refusal == 5) fputs("neither book has a stored text; make one by chultarvi book", to);
     else if (!one->sound && !two->sound) fputs("neither book is sound; make them anew by chultarvi book", to);
     else {
         fputs("the book ", to);
@@ -98,7 +98,6 @@ static char *message_of(const report *r) {
         char words[MESSAGE_MOST];
         refusal_message(words, refusal, r->text, r->len, "--ascii scans it with such characters mapped or dropped");
         fputs(words, to);
-        if (refusal == CHULTARVI_REFUSED_BOOK_UNSOUND) fputs(MAKE_ANEW, to);
     }
     if (to && fclose(to) == 0) return message;
     say("no memory for a message");

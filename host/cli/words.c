@@ -111,10 +111,21 @@ size_t first_not_ascii(const uint8_t *text, size_t len) {
     return i;
 }
 
+/* What to do next, where that does not depend on the command. */
+static const char *next_step(uint32_t refusal) {
+    switch (refusal) {
+    case CHULTARVI_REFUSED_TEXT_LONG:
+    case CHULTARVI_REFUSED_LINES_MANY: return "; cut it into parts";
+    case CHULTARVI_REFUSED_BOOK_UNSOUND: return MAKE_ANEW;
+    case CHULTARVI_REFUSED_BOOK_EMPTY: return "; make one by chultarvi book";
+    default: return "";
+    }
+}
+
 void refusal_message(char to[MESSAGE_MOST], uint32_t refusal, const uint8_t *text, size_t len, const char *next) {
     size_t at = refusal == CHULTARVI_REFUSED_TEXT_NOT_ASCII ? first_not_ascii(text, len) : len;
     if (at == len) {
-        snprintf(to, MESSAGE_MOST, "refused (%" PRIu32 "): %s", refusal, chultarvi_refusal_text(refusal));
+        snprintf(to, MESSAGE_MOST, "refused (%" PRIu32 "): %s%s", refusal, chultarvi_refusal_text(refusal), next_step(refusal));
         return;
     }
     size_t line = 1, byte = 1;

@@ -180,15 +180,15 @@ run 0 compile empty
 out_is 'empty: a table of 8 bytes, 0 bigrams, 0 of them distinct'
 run 0 compile most
 run 1 compile over
-err_is 'chultarvi: over: refused (1): the text is over 1,048,576 bytes'
+err_is 'chultarvi: over: refused (1): the text is over 1,048,576 bytes; cut it into parts'
 run 1 compile /dev/zero
-err_is 'chultarvi: /dev/zero: refused (1): the text is over 1,048,576 bytes'
+err_is 'chultarvi: /dev/zero: refused (1): the text is over 1,048,576 bytes; cut it into parts'
 run 1 compile umlaut -o made
 err_is 'chultarvi: umlaut: refused (2): the text is not ASCII: line 2, byte 5 is 0xc3; nothing is filtered, so change it first'
 same made table
 run 0 compile lines
 run 1 compile lines-over
-err_is 'chultarvi: lines-over: refused (3): the text is over 65,536 lines'
+err_is 'chultarvi: lines-over: refused (3): the text is over 65,536 lines; cut it into parts'
 run 2 compile nowhere
 err_is 'chultarvi: nowhere: cannot be read: No such file or directory'
 # words of one letter and addresses, which grow most: the table still fits what the program takes
@@ -277,10 +277,10 @@ err_is 'chultarvi: list: line 8: F has no original
 chultarvi: list: line 1: nowhere: cannot be read: No such file or directory
 chultarvi: list: line 3: umlaut: refused (2): the text is not ASCII: line 2, byte 5 is 0xc3; --ascii makes the book with such characters mapped or dropped
 chultarvi: list: line 5: .: cannot be read: Is a directory
-chultarvi: list: line 7: over: refused (1): the text is over 1,048,576 bytes
+chultarvi: list: line 7: over: refused (1): the text is over 1,048,576 bytes; cut it into parts
 chultarvi: list: line 8: frob: cannot be read: No such file or directory
 chultarvi: list: line 9: od\x1bd: cannot be read: No such file or directory
-chultarvi: list: line 10: lines-over: refused (3): the text is over 65,536 lines
+chultarvi: list: line 10: lines-over: refused (3): the text is over 65,536 lines; cut it into parts
 chultarvi: stands.book: no new book stands there'
 out_is ''
 same stands.book a.book
@@ -342,7 +342,7 @@ err_is ''
 same mapped.book plain.book
 printf 'A original over\n' >list
 run 1 book list.book --ascii list
-err_has 'over: refused (1): the text is over 1,048,576 bytes'
+err_has 'over: refused (1): the text is over 1,048,576 bytes; cut it into parts'
 # 1,024 texts under as many names
 awk 'BEGIN { for (i = 0; i < 1024; i++) printf "N%04d original license\n", i }' >list
 run 0 book many.book list

@@ -145,9 +145,9 @@ run 0 scan --ascii --json a.book latin
 json '[notes[0]["changed"], notes[0]["licence"]]' '[1, "A"]'
 { spaces 1048575; printf '\302\251'; } >grows
 run 1 scan --ascii a.book grows
-err_is 'chultarvi: grows: refused (1): the text is over 1,048,576 bytes'
+err_is 'chultarvi: grows: refused (1): the text is over 1,048,576 bytes; cut it into parts'
 run 1 scan --ascii a.book over
-err_is 'chultarvi: over: refused (1): the text is over 1,048,576 bytes'
+err_is 'chultarvi: over: refused (1): the text is over 1,048,576 bytes; cut it into parts'
 
 # folders: files in the order of names, links to files followed, loops not, and a count of what is skipped
 mkdir -p tree/b/deep tree/.git tree/a tree/closed

@@ -93,14 +93,14 @@ out_has ': MIT, original, score 0.9446
 
 # scan: refusals, and a note in trouble among others
 run 1 scan a.book over
-err_is 'chultarvi: over: refused (1): the text is over 1,048,576 bytes'
+err_is 'chultarvi: over: refused (1): the text is over 1,048,576 bytes; cut it into parts'
 run 2 scan a.book /dev/zero
 err_is 'chultarvi: /dev/zero: cannot be read: it is a FIFO or a device, which is skipped; a note is a regular file, or - for standard input'
 run 1 scan a.book umlaut
 err_has 'refused (2): the text is not ASCII: line 2, byte 5 is 0xc3'
 out_is ''
 run 1 scan a.book lines-over
-err_has 'refused (3): the text is over 65,536 lines'
+err_has 'refused (3): the text is over 65,536 lines; cut it into parts'
 run 0 scan --no-optimize a.book lines
 run 1 scan --top-down 1 --budget 3 a.book lines
 run 1 scan cut.book two
@@ -108,7 +108,7 @@ err_is 'chultarvi: two: refused (4): the book is not sound; make it anew by chul
 run 1 scan /dev/zero two
 err_is 'chultarvi: two: refused (4): the book is not sound; make it anew by chultarvi book'
 run 1 scan empty two
-err_is 'chultarvi: two: refused (5): the book has no stored text'
+err_is 'chultarvi: two: refused (5): the book has no stored text; make one by chultarvi book'
 # said once, however many notes there are
 for limit in -0.1 1.1 nan inf 1.0000001; do
     run 2 scan --threshold "$limit" a.book two license
@@ -288,7 +288,7 @@ err_is 'chultarvi: license: refused (4): the book /dev/zero is not sound; make i
 run 1 scan --json a.book --beside cut.book license
 json notes '[{"note": "license", "refusal": 4, "message": "refused (4): the book cut.book is not sound; make it anew by chultarvi book"}]'
 run 1 scan empty --beside empty license
-err_is 'chultarvi: license: refused (5): neither book has a stored text'
+err_is 'chultarvi: license: refused (5): neither book has a stored text; make one by chultarvi book'
 run 0 scan a.book --beside empty license
 out_is 'license: A, original, score 1.0000, from a.book
   1 scoring'
