@@ -250,7 +250,7 @@ def measure_files(args, names):
     for answer, (path, licences) in zip(answers, chosen.items()):
         parts = answer.get("ranges", []) + answer.get("further", [])
         found = {version_of(name) for name in [answer.get("licence")] + [part["licence"] for part in parts] if name}
-        count.update(labelled=len(licences), found=len(licences & found), other=len(found - licences), whole=licences <= found)
+        count.update(labelled=len(licences), found=len(licences & found), other=len(found - licences), whole=int(licences <= found))
         if args.list:
             print(f"{path}: found {' '.join(sorted(licences & found)) or '-'}; missed {' '.join(sorted(licences - found)) or '-'}; "
                   f"not labelled {' '.join(sorted(found - licences)) or '-'}")

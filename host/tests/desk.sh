@@ -130,6 +130,9 @@ out_has '    but as high: Twin, original, score 1.0000, from twin.book'
 run 0 scan --json --budget 3 twins.book alpha
 json '[notes[0]["licence"], notes[0]["rival"]]' '["Alpha", null]'
 
+run 0 scan --second --json one.book --beside rest.book half
+json '[notes[0]["licence"], notes[0]["second"]["licence"], notes[0]["second"]["book"]]' '[null, "Decoy", "rest.book"]'
+
 # --ascii
 printf 'M\303\277 \342\200\234F\304\261rst\342\200\235\302\240L\303\255c\303\250ns\351\342\200\224\360\237\224\222\n' >letters
 run 1 scan a.book letters
@@ -207,6 +210,9 @@ so 2 "$soon scan --json a.book --beside desk.book tree/pipe license"
 json '[sorted(notes[0]), notes[1]["licence"]]' '[["note", "trouble"], "A"]'
 so 0 "cat license | $soon scan a.book -"
 out_has '-: A, original, score 1.0000'
+
+so 0 "$soon scan --json --ascii -r a.book --beside desk.book tree letters"
+json '[[n["licence"], n["book"], n["changed"]] for n in notes if "note" in n]' '[["A", "a.book", 0], ["A", "a.book", 0], ["A", "a.book", 0], ["A", "a.book", 0], ["A", "a.book", 10]]'
 
 # threads: the same words in the same order
 mkdir many
