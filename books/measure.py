@@ -125,14 +125,17 @@ def run(words):
     return [json.loads(line) for line in done.stdout.decode("utf-8", "surrogateescape").splitlines()]
 
 
+def scan_words(args):
+    return ["scan", "--json", "--ascii", "--threshold", args.threshold, *shlex.split(args.options)]
+
+
 def scan(args, texts):
     """The program's answer to each text, in their order."""
-    options = ["--json", "--ascii", "--threshold", args.threshold] + shlex.split(args.options)
     with tempfile.TemporaryDirectory() as folder:
         for number, text in enumerate(texts):
             with open(os.path.join(folder, f"{number:06}"), "w", encoding="utf-8", errors="surrogateescape") as file:
                 file.write(text)
-        answers = run(["scan", *options, "-r", args.book, folder]) if texts else []
+        answers = run([*scan_words(args), "-r", args.book, folder]) if texts else []
         found = {os.path.basename(answer["note"]): answer for answer in answers if "note" in answer}
     for number in range(len(texts)):
         if "licence" not in found.get(f"{number:06}", {}):
@@ -242,9 +245,8 @@ def measure_files(args, names):
     chosen = choose_files(args, names, stored)
     if len(chosen) < args.files:
         print(f"measure.py: only {len(chosen)} files have two or more licences of the book", file=sys.stderr)
-    options = ["--json", "--ascii", "--threshold", args.threshold] + shlex.split(args.options)
     began = resource.getrusage(resource.RUSAGE_CHILDREN).ru_utime
-    answers = run(["scan", *options, args.book, *chosen]) if chosen else []
+    answers = run([*scan_words(args), args.book, *chosen]) if chosen else []
     seconds = resource.getrusage(resource.RUSAGE_CHILDREN).ru_utime - began
     count = collections.Counter()
     for answer, (path, licences) in zip(answers, chosen.items()):

@@ -36,6 +36,8 @@ chultarvi_note_scanned scan_whole(const worker *w, part text) {
                                    chultarvi_top_down_results(count_lines(text)));
 }
 
+bool is_answered(const chultarvi_note_scanned *a) { return a->refusal == CHULTARVI_ANSWERED || a->refusal == CHULTARVI_STOPPED_BY_BUDGET; }
+
 stored_text named_by(const chultarvi_note_scanned *a, const part books[2], const char *const files[2]) {
     if (!a->kind) return (stored_text){0};
     const char *name = (const char *)chultarvi_name(books[0].bytes, books[1].bytes, a);
@@ -61,7 +63,12 @@ void add_records(const worker *w, const chultarvi_note_scanned *a, uint32_t firs
     }
 }
 
-uint64_t left_of(const report *r) { return r->from->with.budget - r->answer.count - r->more; }
+chultarvi_note_scanned scan_more(const worker *w, report *r, part text, const part books[2], way by) {
+    by.budget = r->from->with.budget - r->answer.count - r->more;
+    chultarvi_note_scanned a = eliminate_part(w, text, books, by);
+    r->more += a.count;
+    return a;
+}
 
 void find_lines(worker *w, part text) {
     w->lines = 0;

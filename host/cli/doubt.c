@@ -21,9 +21,8 @@ static void part_book(const lent_book *book, const stored_text *licence, part *b
 static bool see_parts(worker *w, report *r, part text, const part books[2], const char *file, finding *f) {
     if (books[0].len + books[1].len == 0) return true;
     const char *const files[2] = {file, file};
-    chultarvi_note_scanned a = eliminate_part(w, text, books, (way){.budget = left_of(r)});
-    r->more += a.count;
-    if (a.refusal == 12) return false;
+    chultarvi_note_scanned a = scan_more(w, r, text, books, (way){0});
+    if (a.refusal == CHULTARVI_STOPPED_BY_BUDGET) return false;
     if (a.refusal == 0 && a.kind && (!f->other.kind || a.score > f->other_score)) {
         f->other = named_by(&a, books, files);
         f->other_score = a.score;
@@ -46,8 +45,7 @@ static void look_for_rival(worker *w, report *r, part text, finding *f) {
     part books[2];
     f->looked = true;
     if (!choose_texts(w, text, &f->text, books)) return;
-    chultarvi_note_scanned a = eliminate_part(w, text, books, (way){.budget = left_of(r)});
-    r->more += a.count;
+    chultarvi_note_scanned a = scan_more(w, r, text, books, (way){0});
     f->looked = a.refusal == 0;
     f->other = chosen_by(w, &a);
     f->other_score = a.score;

@@ -35,11 +35,17 @@ static void hold(worker *w, const finding *f) {
 /* Has the scan read the note as one licence? It is named, and no range of it was looked for or found. */
 static bool is_one_licence(const report *r) { return r->whole.text.kind && r->ranges.count == 0; }
 
+/* Marks anew what is held: by the scan's ranges above a score, and by everything that was found further. */
+static const float every_range = -1.0f;
+static void hold_found(worker *w, const report *r, float above) {
+    memset(w->held, 0, w->lines * sizeof *w->held);
+    for (size_t i = 0; i < r->ranges.count; i++) if (r->ranges.at[i].score > above) hold(w, r->ranges.at + i);
+    for (size_t i = 0; i < r->further.count; i++) hold(w, r->further.at + i);
+}
+
 void count_unheld(worker *w, report *r) {
     part text = {r->text, r->len};
-    memset(w->held, 0, w->lines * sizeof *w->held);
-    for (size_t i = 0; i < r->ranges.count; i++) hold(w, r->ranges.at + i);
-    for (size_t i = 0; i < r->further.count; i++) hold(w, r->further.at + i);
+    hold_found(w, r, every_range);
     r->unheld = 0;
     if (is_one_licence(r)) return;
     for (uint32_t line = 0; line < w->lines; line++) r->unheld += !w->held[line] && !is_wordless(w, text, line);
@@ -75,20 +81,12 @@ static void take_answer(worker *w, report *r, const chultarvi_note_scanned *a, u
     free(found.at);
 }
 
-/* Lines of ranges that do not reach the shallow limit are looked at again: such a range may lie over two licences that are like a third. */
-static void release_weak(worker *w, const report *r) {
-    memset(w->held, 0, w->lines * sizeof *w->held);
-    for (size_t i = 0; i < r->ranges.count; i++) if (r->ranges.at[i].score > r->from->with.shallow) hold(w, r->ranges.at + i);
-    for (size_t i = 0; i < r->further.count; i++) hold(w, r->further.at + i);
-}
-
 /* Scans lines and takes what is found there. A text above `shallow` has all of them, and no range is looked for. */
 static void scan_cut(worker *w, report *r, uint32_t first, uint32_t after, float shallow) {
     part lines = lines_part(w, (part){r->text, r->len}, first, after), books[2];
     if (!choose_texts(w, lines, 0, books)) return;
-    chultarvi_note_scanned a = eliminate_part(w, lines, books, (way){r->from->with.threshold, shallow, true, left_of(r)});
-    r->more += a.count;
-    r->stopped = a.refusal == 12;
+    chultarvi_note_scanned a = scan_more(w, r, lines, books, (way){.threshold = r->from->with.threshold, .shallow = shallow, .optimize = true});
+    r->stopped = a.refusal == CHULTARVI_STOPPED_BY_BUDGET;
     take_answer(w, r, &a, first, after);
 }
 
@@ -155,7 +153,7 @@ static bool scan_runs(worker *w, report *r, const stanzas *all, size_t width) {
 
 /* Holds what the note's own scan has read: its ranges; of a note that is one licence the lines where that stands, which the scan did not look for. */
 static void hold_own(worker *w, report *r) {
-    count_unheld(w, r);
+    hold_found(w, r, every_range);
     if (is_one_licence(r)) scan_cut(w, r, 0, (uint32_t)w->lines, 1.0f);
 }
 
@@ -178,7 +176,8 @@ void look_further(worker *w, report *r) {
     list_owners(w, &r->ranges);
     hold_own(w, r);
     if (one || r->ranges.count > 0) scan_gaps(w, r);
-    if (!one) release_weak(w, r);
+    /* lines of ranges that do not reach the shallow limit are looked at again: such a range may lie over two licences that are like a third */
+    if (!one) hold_found(w, r, r->from->with.shallow);
     stanzas all = {take(w->lines * sizeof *all.at), 0};
     scan_stanzas(w, r, is_blank, &all);
     scan_stanzas(w, r, is_wordless, &all);

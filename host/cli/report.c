@@ -78,7 +78,7 @@ static void json_answer(FILE *to, const report *r) {
 static void put_books_message(FILE *to, const report *r) {
     const lent_book *one = r->from->books, *two = one + 1;
     fprintf(to, "refused (%" PRIu32 "): ", r->answer.refusal);
-    if (r->answer.refusal == 5) fputs("neither book has a stored text; make one by chultarvi book", to);
+    if (r->answer.refusal == CHULTARVI_REFUSED_BOOK_EMPTY) fputs("neither book has a stored text; make one by chultarvi book", to);
     else if (!one->sound && !two->sound) fputs("neither book is sound; make them anew by chultarvi book", to);
     else {
         fputs("the book ", to);
@@ -93,7 +93,8 @@ static char *message_of(const report *r) {
     char *message = 0;
     size_t len;
     FILE *to = open_memstream(&message, &len);
-    if (to && r->from->with.beside && (refusal == 4 || refusal == 5)) put_books_message(to, r);
+    bool of_books = refusal == CHULTARVI_REFUSED_BOOK_UNSOUND || refusal == CHULTARVI_REFUSED_BOOK_EMPTY;
+    if (to && r->from->with.beside && of_books) put_books_message(to, r);
     else if (to) {
         char words[MESSAGE_MOST];
         refusal_message(words, refusal, r->text, r->len, "--ascii scans it with such characters mapped or dropped");
@@ -111,9 +112,9 @@ static void report_json(const report *r, FILE *to) {
     fprintf(to, ",\"refusal\":%" PRIu32, refusal);
     if (message) json_word(to, ",\"message\":", message);
     free(message);
-    if (refusal == 2) fprintf(to, ",\"offset\":%zu", first_not_ascii(r->text, r->len));
+    if (refusal == CHULTARVI_REFUSED_TEXT_NOT_ASCII) fprintf(to, ",\"offset\":%zu", first_not_ascii(r->text, r->len));
     if (r->from->with.ascii) fprintf(to, ",\"changed\":%zu", r->changed);
-    if (refusal == 0 || refusal == 12) json_answer(to, r);
+    if (is_answered(&r->answer)) json_answer(to, r);
     fputs("}\n", to);
 }
 
@@ -170,7 +171,7 @@ static void report_plain(const report *r, FILE *to, FILE *err) {
         char *message = message_of(r);
         put_message(err, r->file, "", message);
         free(message);
-        if (a->refusal != 12) return;
+        if (!is_answered(a)) return;
     }
     put_plain(to, r->file);
     fputs(": ", to);

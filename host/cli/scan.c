@@ -141,7 +141,7 @@ static void scan_text(worker *w, report *r) {
     part text = {r->text, r->len}, books[2];
     const char *files[2];
     r->answer = scan_whole(w, text);
-    if (r->answer.refusal != 0 && r->answer.refusal != 12) return;
+    if (!is_answered(&r->answer)) return;
     whole_books(w->from, books, files);
     r->whole = (finding){.text = named_by(&r->answer, books, files), .score = r->answer.score};
     add_records(w, &r->answer, 0, 0, &r->ranges);

@@ -83,6 +83,8 @@ typedef struct {
 typedef struct { float threshold, shallow; bool optimize; uint64_t budget; } way;
 chultarvi_note_scanned eliminate_part(const worker *w, part text, const part books[2], way by);
 chultarvi_note_scanned scan_whole(const worker *w, part text);
+/* Is there something to say of the note, to its end or until the budget stopped it? */
+bool is_answered(const chultarvi_note_scanned *a);
 /* The licence that an answer names, as if it were stored; `books` are those that were lent, `files` theirs. All is null where none is named. */
 stored_text named_by(const chultarvi_note_scanned *a, const part books[2], const char *const files[2]);
 /* Both books whole, and their files. */
@@ -90,8 +92,8 @@ void whole_books(const shelf *s, part books[2], const char *files[2]);
 /* Adds what the answer recorded, its lines counted on from `first`. `numbers` says which stored text each number of the answer means; null where
    the numbers are the shelf's own. */
 void add_records(const worker *w, const chultarvi_note_scanned *a, uint32_t first, const uint32_t *numbers, findings *to);
-/* What is left of the budget. */
-uint64_t left_of(const report *r);
+/* One more scan for a note, by what is left of its budget, and charged to it. */
+chultarvi_note_scanned scan_more(const worker *w, report *r, part text, const part books[2], way by);
 /* Where each line starts, and one past the end of the last; the text is no longer than a text may be. */
 void find_lines(worker *w, part text);
 part lines_part(const worker *w, part text, uint32_t first, uint32_t after);

@@ -417,13 +417,7 @@ umask "$mask"
 [ "$(stat -c %a fresh)" = 640 ] && good || bad 'a new file does not follow the umask'
 no_beside
 # standard output that takes nothing
-for words in 'check a.book' 'compile license' 'compile license -o -' 'list a.book' 'list --json a.book' 'check -h' --help --version; do
-    ran="$words >/dev/full"
-    $program $words >/dev/full 2>.err
-    got=$? out='' err=$(cat .err)
-    judge 2
-    err_is 'chultarvi: standard output: No space left on device'
-done
+for words in 'check a.book' 'compile license' 'compile license -o -' 'list a.book' 'list --json a.book' 'check -h' --help --version; do to_full $words; done
 so 2 "$program --help >&-"
 err_is 'chultarvi: standard output: Bad file descriptor'
 # standard output past the limit of a file's size

@@ -59,6 +59,14 @@ broken() {
     out=$(cat .out) err=$(cat .err)
     judge "$want"
 }
+# to_full WORDS...: standard output takes nothing, and that is said
+to_full() {
+    ran="$* >/dev/full"
+    $program "$@" >/dev/full 2>.err
+    got=$? out='' err=$(cat .err)
+    judge 2
+    err_is 'chultarvi: standard output: No space left on device'
+}
 out_is() { [ "$out" = "$1" ] && good || bad "standard output is not: $1"; }
 err_is() { [ "$err" = "$1" ] && good || bad "standard error is not: $1"; }
 err_has() { case $err in *"$1"*) good ;; *) bad "standard error has no: $1" ;; esac; }

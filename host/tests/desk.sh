@@ -316,9 +316,5 @@ sys.exit(not (shown and all(len(s) < 30 for s in shown)))' && good || bad 'progr
 else
     echo 'not run here: the width of progress (no script)'
 fi
-# run.sh by a symlink, from elsewhere
-ln -s "$root/host/run.sh" run
-so 0 './run check a.book'
-out_is 'a.book: sound, 1 licence, 1 stored text'
 
 the_end
