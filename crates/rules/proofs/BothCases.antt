@@ -20,7 +20,7 @@ rec : ℕ → List ℕ → List ℕ
 rec kind body = written 4 (length body) ++ written 2 kind ++ body
 
 licence : String → String → List ℕ
-licence n s = rec 1 (text n) ++ rec 2 (compiled (text s))
+licence n s = rec 1 (text n) ++ rec 2 (compiled 1 (text s))
 
 a1 : List ℕ
 a1 = licence "A" "a b"

@@ -51,10 +51,10 @@ wholeView : List ℕ → View
 wholeView t = view 0 (lineCount t)
 
 lineCase : String → String → Case
-lineCase s w = record { got = line (text s); want = text w }
+lineCase s w = record { got = line 1 (text s); want = text w }
 
 viewCase : String → String → Case
-viewCase s w = record { got = aggressive (lines (text s)); want = text w }
+viewCase s w = record { got = aggressive (lines 1 (text s)); want = text w }
 
 bytesCase : List ℕ → List ℕ → Case
 bytesCase g w = record { got = g; want = w }
@@ -66,8 +66,8 @@ bookCase b w = record { got = check b .refusal ∷ check b .texts ∷ []; want =
 -- refusal and length, then the output and a work area, both of 9 at entry
 compileCase : List ℕ → Areas → ℕ → List ℕ → Case
 compileCase t a out w =
-    let n = compile t a out .refusal in
-    record { got = n ∷ compile t a out .len ∷ outputAfter t a (replicate out 9) ++ areaAfter n (9 ∷ 9 ∷ []); want = w }
+    let n = compile 1 t a out .refusal in
+    record { got = n ∷ compile 1 t a out .len ∷ outputAfter 1 t a (replicate out 9) ++ areaAfter n (9 ∷ 9 ∷ []); want = w }
 
 -- refusal and score bits
 scoreCase : List ℕ → List ℕ → View → ℕ → Areas → List ℕ → Case
@@ -119,7 +119,7 @@ marked =
     budgetCase 8 ((12 ∷ 8 ∷ 0x3f2aaaab ∷ 0 ∷ 0 ∷ 0 ∷ []) ++ noName ++ replicate 40 7) ∷
     budgetCase 20 ((0 ∷ 20 ∷ 0x3f2aaaab ∷ 0 ∷ 0 ∷ 1 ∷ []) ++ noName ++ (0 ∷ 1 ∷ 2 ∷ 0x3f800000 ∷ []) ++ replicate 36 7) ∷
     bytesCase (length bookA ∷ []) (58 ∷ []) ∷
-    bytesCase (compiled (text "My First License")) bodyA ∷
+    bytesCase (compiled 1 (text "My First License")) bodyA ∷
     bookCase bookA (0 ∷ 1 ∷ []) ∷
     []
 
@@ -211,7 +211,7 @@ others =
     -- the title with its tail: were it none, B would take it, and not the line after it
     viewCase "a license copyright me\n\nfoo copyright bar\nb c" "b c" ∷
     viewCase "a license version 2 copyright me\n\nfoo copyright bar\nb c" "b c" ∷
-    bytesCase (aggressive (lines (text "foo license" ++ 11 ∷ 13 ∷ text "body text"))) (text "body text") ∷
+    bytesCase (aggressive (lines 1 (text "foo license" ++ 11 ∷ 13 ∷ text "body text"))) (text "body text") ∷
     viewCase "abc x\nabc y\nabc z" "abc x abc y abc z" ∷
     viewCase "copyright company\nb c" "b c" ∷
     viewCase "" "" ∷

@@ -11,7 +11,7 @@ use lib.Dec.{ltb, eqb}
 use lib.ListN.{length, take, drop, length-append, length-drop, length-map}
 use borrow.Author.Tests.{eqb-true, not-true}
 use Rattle.rules.specs.Bytes.{text, within, space, dropped, every, word, lead, lineLen, solid, starts, keep, runs, trimStart, addFront, trimEnd, trim, onFirst, split, join}
-use Rattle.rules.specs.Lines.{url, urls, gap, signs, lineBy, line, lines, size}
+use Rattle.rules.specs.Lines.{url, urls, gap, signs, lineBy, linesBy, lines, size}
 use Rattle.rules.specs.Sizes.{textMost, totalMost}
 use Rattle.rules.specs.Prefix.{Counted, winner, reach, fourFifths, prefixes, seeAll, strip, stripWinner, withoutPrefix}
 use Rattle.rules.specs.Passes.{vertical, lowered, titleLine, withoutTitle, withoutCopyright, passes, aggressive}
@@ -119,14 +119,15 @@ urls-both (x ∷ xs) = at (space x) refl (url (x ∷ xs)) refl (urls-both xs)
 pub urls-length : (s : List ℕ) → 8 * length (urls false s) ≤ 21 * length s
 urls-length s = urls-both s .0
 
-pub line-length : (s : List ℕ) → 8 * length (line s) ≤ 21 * length s
-unfolding line lineBy
-line-length s =
+-- whatever pass 4 takes
+line-length : (set : ℕ → Bool) (s : List ℕ) → 8 * length (lineBy set s) ≤ 21 * length s
+unfolding lineBy
+line-length set s =
     let two = keep (λ x. not (dropped x)) s in
     let three = urls false two in
-    let four = runs gap 32 false three in
+    let four = runs set 32 false three in
     let k = keep-length (λ x. not (dropped x)) s in
-    let r = runs-length gap 32 false three in
+    let r = runs-length set 32 false three in
     omega (arith, trim-length (signs four), signs-length (length four) four (omega arith), urls-length two)
 
 -- ---- the aggressive passes shrink
@@ -242,14 +243,18 @@ split-size c (x ∷ xs) =
     cond-of (λ (ls : List (List ℕ)). size ls ≡ suc (suc (length xs))) (eqb x c) ([] ∷ split c xs) (onFirst x (split c xs))
     (omega (arith, split-size c xs)) (onFirst-size x (split c xs) (split-some c xs) ∙ ap suc (split-size c xs))
 
-map-line-size : (ps : List (List ℕ)) → 8 * size (map line ps) ≤ 21 * size ps
+map-line-size : (set : ℕ → Bool) (ps : List (List ℕ)) → 8 * size (map (lineBy set) ps) ≤ 21 * size ps
 unfolding size
-map-line-size [] = omega arith
-map-line-size (p ∷ ps) = omega (arith, line-length p, map-line-size ps)
+map-line-size set [] = omega arith
+map-line-size set (p ∷ ps) = omega (arith, line-length set p, map-line-size set ps)
 
-pub lines-size : (t : List ℕ) → 8 * size (lines t) ≤ 21 * suc (length t)
+pub linesBy-size : (set : ℕ → Bool) (t : List ℕ) → 8 * size (linesBy set t) ≤ 21 * suc (length t)
+unfolding linesBy
+linesBy-size set t = omega (arith, map-line-size set (split 10 t), split-size 10 t)
+
+pub lines-size : (e : ℕ) (t : List ℕ) → 8 * size (lines e t) ≤ 21 * suc (length t)
 unfolding lines
-lines-size t = omega (arith, map-line-size (split 10 t), split-size 10 t)
+lines-size e t = linesBy-size (gap e) t
 
 -- ---- bigrams
 pairs-length : (ws : List (List ℕ)) → length (pairs ws) ≤ length ws - 1
@@ -268,17 +273,18 @@ unfolding bigrams
 bigrams-length s = omega (arith, pairs-length (split 32 s), size-most (split 32 s), split-size 32 s)
 
 -- of any view of a text that is not refused, also with lines blanked: 21 for each 8 of 1,048,577
-pub view-few : (t : List ℕ) (ls : List (List ℕ)) (v : View) → length t ≤ textMost → size ls ≤ size (lines t) →
+pub view-few : (e : ℕ) (t : List ℕ) (ls : List (List ℕ)) (v : View) → length t ≤ textMost → size ls ≤ size (lines e t) →
     viewTable (viewed ls v) .total ≤ 2_752_514
 unfolding viewTable tableOf
-view-few t ls v h k =
-    omega (arith, bigrams-length (aggressive (viewed ls v)), aggressive-length (viewed ls v), viewed-size ls v, lines-size t)
+view-few e t ls v h k =
+    omega (arith, bigrams-length (aggressive (viewed ls v)), aggressive-length (viewed ls v), viewed-size ls v, lines-size e t)
 
-pub view-total : (t : List ℕ) (ls : List (List ℕ)) (v : View) → length t ≤ textMost → size ls ≤ size (lines t) → viewTable (viewed ls v) .total ≤ totalMost
-view-total t ls v h k = omega (arith, view-few t ls v h k)
+pub view-total : (e : ℕ) (t : List ℕ) (ls : List (List ℕ)) (v : View) → length t ≤ textMost → size ls ≤ size (lines e t) →
+    viewTable (viewed ls v) .total ≤ totalMost
+view-total e t ls v h k = omega (arith, view-few e t ls v h k)
 
 -- t of a scoring against a stored text of a sound book: two tables at `totalMost` would have 2 ^ 24, a view has fewer
-pub scoring-t : (t : List ℕ) (ls : List (List ℕ)) (v : View) (s : Stored) → length t ≤ textMost → size ls ≤ size (lines t) → StoredSound s →
+pub scoring-t : (e : ℕ) (t : List ℕ) (ls : List (List ℕ)) (v : View) (s : Stored) → length t ≤ textMost → size ls ≤ size (lines e t) → StoredSound s →
     scoreView ls s v .value .t < 2 ^ 24
 unfolding scoreView scored valueOf
-scoring-t t ls v s h k q = omega (arith, view-few t ls v h k, q .total-to)
+scoring-t e t ls v s h k q = omega (arith, view-few e t ls v h k, q .total-to)

@@ -1,6 +1,7 @@
 pub mod Opened
 pub mod Cases
 pub mod BothCases
+pub mod EditionCases
 pub mod ClassLaws
 pub mod BoolLaws
 pub mod Steps

@@ -21,7 +21,7 @@ use Rattle.rules.specs.declared.Scanned.{Scanned}
 use Rattle.rules.specs.Sizes.{nameMost}
 use Rattle.rules.specs.Search.{Stored, noText, recurse, turns}
 use Rattle.rules.specs.Scan.{verdict}
-use Rattle.rules.specs.Book.{Record, recordsOf, pieces, goOn, front, entriesOf, storedKind, tableIn, storedIn, storedOf, storedFrom, shelved, namesIn, namesOf, nameParts, noPart, partIn, Lies, ReadAs}
+use Rattle.rules.specs.Book.{Record, recordsOf, pieces, goOn, front, entriesOf, storedKind, tableIn, storedIn, storedOf, storedFrom, shelved, namesIn, namesOf, nameParts, noPart, partIn, Lies, ReadAs, editionOf}
 use Rattle.rules.specs.Refusal.{Areas}
 use Rattle.rules.specs.Jobs.{over, happened, named, namePart, answered, scan}
 use Rattle.rules.proofs.DownLaws.{Each, each-append, each-at, each-of}
@@ -31,12 +31,13 @@ use Rattle.rules.proofs.VerdictLaws.{named-one}
 
 -- ---- lent books that are read as `a` and then `b`
 pub read-two : (a b : List ℕ) → ReadAs a b (a ∷ b ∷ [])
-read-two a b = record { texts = refl; names = refl }
+unfolding editionOf
+read-two a b = record { texts = refl; names = refl; said = refl }
 
 -- one book: `b` has no text. What is refused is another matter
 pub read-one : (a : List ℕ) → ReadAs a [] (a ∷ [])
-unfolding nameParts namesOf namesIn recordsOf pieces recurse turns goOn front
-read-one a = record { texts = shelved-one a ∙ sym (shelved-empty a); names = refl }
+unfolding nameParts namesOf namesIn recordsOf pieces recurse turns goOn front editionOf
+read-one a = record { texts = shelved-one a ∙ sym (shelved-empty a); names = refl; said = refl }
 
 -- ---- of every stored text the part's bytes are the name
 kinds-in : (n : ℕ) (name : List ℕ) (rs : List Record) → Each (λ s. 2 ≤ s .kind) (storedIn n name rs)

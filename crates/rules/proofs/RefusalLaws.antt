@@ -5,7 +5,7 @@
 use mathlib.Core.Path.{_≡_, refl, sym, ap, _∙_}
 use Prim.Native.Nat.{ℕ, _≤_, _<_, min}
 use native.Mathlib.Omega.{arith}
-use mathlib.Core.Bool.{Bool, true, false, _||_, cond}
+use mathlib.Core.Bool.{Bool, true, false, not, _&&_, _||_, cond, false≢true}
 use mathlib.Core.List.{List, [], _∷_, _++_}
 use lib.ListN.{length, length-map}
 use lib.Dec.{ltb, eqb}
@@ -14,12 +14,12 @@ use Rattle.rules.specs.declared.Limits.{Limits}
 use Rattle.rules.specs.declared.Mode.{Mode}
 use Rattle.rules.specs.Sizes.{textMost, linesMost}
 use Rattle.rules.specs.Bytes.{every, split}
-use Rattle.rules.specs.Lines.{line, lines, lineCount}
-use Rattle.rules.specs.Book.{shelved, compiled}
+use Rattle.rules.specs.Lines.{gap, lineBy, linesBy, lines, lineCount}
+use Rattle.rules.specs.Book.{shelved, editionOf, compiled}
 use Rattle.rules.specs.Scan.{Event, events, afford, scorings}
 use Rattle.rules.specs.Refusal.{Row, row, refusal, ofText, ofBooks, Areas, beforeCompile, ofCompile, beforeScan, overBudget, ofScan}
 use Rattle.rules.specs.Jobs.{happened, answered, scan}
-use Rattle.rules.proofs.DownLaws.{Each}
+use Rattle.rules.proofs.BoolLaws.{and-left, and-right}
 use Rattle.rules.proofs.BudgetLaws.{afford-count}
 
 -- ---- texts
@@ -42,14 +42,31 @@ unfolding refusal ofText
 text-passes t rest h k l = simp (le-ltb textMost (length t) h, k, le-ltb linesMost (lineCount t) l)
 
 -- L
-pub lines-count : (t : List ℕ) → length (lines t) ≡ lineCount t
-unfolding lines lineCount
-lines-count t = length-map (split 10 t) line
+pub linesBy-count : (set : ℕ → Bool) (t : List ℕ) → length (linesBy set t) ≡ lineCount t
+unfolding linesBy lineCount
+linesBy-count set t = length-map (split 10 t) (lineBy set)
+
+pub lines-count : (e : ℕ) (t : List ℕ) → length (lines e t) ≡ lineCount t
+unfolding lines
+lines-count e t = linesBy-count (gap e) t
+
+-- ---- rows of what is refused before any work: none of them has the number of an answer (0), of an output too short (11), of a budget (12) or
+-- of an allowance (17), so after each of them no lent memory has changed
+unfoldable pub early : ℕ → Bool
+early n = not (eqb n 0) && not (eqb n 11) && not (eqb n 12) && not (eqb n 17)
+
+unfoldable pub allEarly : List Row → Bool
+allEarly [] = true
+allEarly (r ∷ rs) = early (r .number) && allEarly rs
+
+-- antt computes it of every list of rows
+abbrev pub Numbered : List Row → Type 0
+Numbered rs = allEarly rs ≡ true
+
+pub not-early : (m n : ℕ) → early m ≡ false → early n ≡ true → n ≡ m → ⊥
+not-early m n h k e = false≢true (sym h ∙ ap early (sym e) ∙ k)
 
 -- ---- rows after rows: those before decide, unless none of them applies
-abbrev Numbered : List Row → Type 0
-Numbered rs = Each (λ r. (1 ≤ r .number) × (r .number ≤ 10)) rs
-
 pub refusal-first : (rs qs : List Row) → (refusal rs ≡ 0 → ⊥) → refusal (rs ++ qs) ≡ refusal rs
 unfolding refusal
 refusal-first [] qs h = absurd (h refl)
@@ -61,40 +78,38 @@ refusal-first (r ∷ rs) qs h = at (r .applies) h (refusal-first rs qs)
     at false k go = go k
 
 pub refusal-then : (rs qs : List Row) → Numbered rs → refusal rs ≡ 0 → refusal (rs ++ qs) ≡ refusal qs
-unfolding refusal
+unfolding refusal allEarly early
 refusal-then [] qs n h = refl
-refusal-then (r ∷ rs) qs n h = at (r .applies) h (refusal-then rs qs (n .1))
+refusal-then (r ∷ rs) qs n h = at (r .applies) h (refusal-then rs qs (and-right (early (r .number)) (allEarly rs) n))
   where
     at : (t : Bool) → cond t (r .number) (refusal rs) ≡ 0 → (refusal rs ≡ 0 → refusal (rs ++ qs) ≡ refusal qs) →
         cond t (r .number) (refusal (rs ++ qs)) ≡ refusal qs
-    at true k go = let p = n .0 .0 in absurd (none p k)
-      where
-        none : 1 ≤ r .number → r .number ≡ 0 → ⊥
-        none p k = omega arith
+    at true k go = absurd (not-early 0 (r .number) refl (and-left (early (r .number)) (allEarly rs) n) k)
     at false k go = go k
 
-pub refusal-most : (rs : List Row) → Numbered rs → refusal rs ≤ 10
-unfolding refusal
-refusal-most [] n = omega arith
-refusal-most (r ∷ rs) n = at (r .applies) (refusal-most rs (n .1))
+pub refusal-early : (rs : List Row) → Numbered rs → (refusal rs ≡ 0 → ⊥) → early (refusal rs) ≡ true
+unfolding refusal allEarly
+refusal-early [] n h = absurd (h refl)
+refusal-early (r ∷ rs) n h = at (r .applies) h (refusal-early rs (and-right (early (r .number)) (allEarly rs) n))
   where
-    at : (t : Bool) → refusal rs ≤ 10 → cond t (r .number) (refusal rs) ≤ 10
-    at true k = n .0 .1
-    at false k = k
+    at : (t : Bool) → (cond t (r .number) (refusal rs) ≡ 0 → ⊥) → ((refusal rs ≡ 0 → ⊥) → early (refusal rs) ≡ true) →
+        early (cond t (r .number) (refusal rs)) ≡ true
+    at true k go = and-left (early (r .number)) (allEarly rs) n
+    at false k go = go k
 
 -- ---- compile: 11 exactly if nothing before applies and the output is shorter than the body
-module _ (t : List ℕ) (a : Areas) where
-  compile-numbered : Numbered (beforeCompile t a)
-  unfolding beforeCompile ofText
-  compile-numbered = omega arith
+module _ (e : ℕ) (t : List ℕ) (a : Areas) where
+  pub compile-numbered : Numbered (beforeCompile e t a)
+  unfolding beforeCompile ofText allEarly early
+  compile-numbered = refl
 
-  pub compile-before : (out : ℕ) → (refusal (beforeCompile t a) ≡ 0 → ⊥) → refusal (ofCompile t a out) ≡ refusal (beforeCompile t a)
+  pub compile-before : (out : ℕ) → (refusal (beforeCompile e t a) ≡ 0 → ⊥) → refusal (ofCompile e t a out) ≡ refusal (beforeCompile e t a)
   unfolding ofCompile
-  compile-before out h = refusal-first (beforeCompile t a) _ h
+  compile-before out h = refusal-first (beforeCompile e t a) _ h
 
-  pub compile-fits : (out : ℕ) → refusal (beforeCompile t a) ≡ 0 → refusal (ofCompile t a out) ≡ cond (ltb out (length (compiled t))) 11 0
+  pub compile-fits : (out : ℕ) → refusal (beforeCompile e t a) ≡ 0 → refusal (ofCompile e t a out) ≡ cond (ltb out (length (compiled e t))) 11 0
   unfolding ofCompile refusal
-  compile-fits out h = refusal-then (beforeCompile t a) (row 11 (ltb out (length (compiled t))) ∷ []) compile-numbered h
+  compile-fits out h = refusal-then (beforeCompile e t a) (row 11 (ltb out (length (compiled e t))) ∷ []) compile-numbered h
 
 -- ---- scan
 module _ (t : List ℕ) (bs : List (List ℕ)) (lim : Limits) (mode : Mode) (a : Areas) (results : ℕ) where
@@ -103,11 +118,11 @@ module _ (t : List ℕ) (bs : List (List ℕ)) (lim : Limits) (mode : Mode) (a :
 
   -- the list of the full scan
   abbrev full : List Event
-  full = events lim mode (shelved 0 bs) (lines t)
+  full = events lim mode (shelved 0 bs) (lines (editionOf bs) t)
 
-  scan-numbered : Numbered (beforeScan t bs lim mode a results)
-  unfolding beforeScan ofText ofBooks
-  scan-numbered = omega arith
+  pub scan-numbered : Numbered (beforeScan t bs lim mode a results)
+  unfolding beforeScan ofText ofBooks allEarly early
+  scan-numbered = refl
 
   pub scan-before : (b : ℕ) → (before ≡ 0 → ⊥) → refusal (ofScan t bs lim mode b a results) ≡ before
   unfolding ofScan
@@ -142,8 +157,9 @@ module _ (t : List ℕ) (bs : List (List ℕ)) (lim : Limits) (mode : Mode) (a :
   unfolding scan answered
   scan-count b h = ap (λ (es : List Event). length (scorings es)) (scan-happened b h) ∙ afford-count b full
 
-  -- 12 only then: a refusal before any work is 1 to 10
+  -- 12 only then: no refusal before any work has that number
   pub scan-only : (b : ℕ) → refusal (ofScan t bs lim mode b a results) ≡ 12 → (before ≡ 0) × (b < length (scorings full))
+  unfolding early
   scan-only b h = at (eqb before 0) refl
     where
       over : (u : Bool) → ltb b (length (scorings full)) ≡ u → _≡_ {A = ℕ} 12 (cond u 12 0) → b < length (scorings full)
@@ -157,10 +173,9 @@ module _ (t : List ℕ) (bs : List (List ℕ)) (lim : Limits) (mode : Mode) (a :
       at true q =
           let z = eqb-true before 0 q in
           (z, over (ltb b (length (scorings full))) refl (sym h ∙ scan-then b z))
-      at false q = absurd (no (sym h ∙ scan-before b (eqb-false before 0 q)) (refusal-most (beforeScan t bs lim mode a results) scan-numbered))
-        where
-          no : 12 ≡ before → before ≤ 10 → ⊥
-          no e l = omega arith
+      at false q =
+          let k = eqb-false before 0 q in
+          absurd (not-early 12 before refl (refusal-early (beforeScan t bs lim mode a results) scan-numbered k) (sym (scan-before b k) ∙ h))
 
   -- 0 only where nothing is refused before any work and the budget pays the list
   pub scan-zero : (b : ℕ) → refusal (ofScan t bs lim mode b a results) ≡ 0 → (before ≡ 0) × (length (scorings full) ≤ b)
@@ -181,12 +196,12 @@ module _ (t : List ℕ) (bs : List (List ℕ)) (lim : Limits) (mode : Mode) (a :
 
   -- what is refused before any work makes no scoring
   pub scan-none : (b : ℕ) → (before ≡ 0 → ⊥) → scan t bs lim mode b a results .count ≡ 0
-  unfolding scan answered happened scorings
+  unfolding scan answered happened scorings early
   scan-none b h =
       let n = refusal (ofScan t bs lim mode b a results) in
       let e = scan-before b h in
-      let l = refusal-most (beforeScan t bs lim mode a results) scan-numbered in
-      simp (ne-eqb n 0 (λ z. h (sym e ∙ z)), ne-eqb n 12 (λ z. omega (arith, z, e, l)))
+      let l = refusal-early (beforeScan t bs lim mode a results) scan-numbered h in
+      simp (ne-eqb n 0 (λ z. h (sym e ∙ z)), ne-eqb n 12 (λ z. not-early 12 before refl l (sym e ∙ z)))
 
   -- so a limit on the list of what is not refused is one on every count
   pub scan-within : (b m : ℕ) → (before ≡ 0 → length (scorings full) ≤ m) → scan t bs lim mode b a results .count ≤ m

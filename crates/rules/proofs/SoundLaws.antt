@@ -54,14 +54,21 @@ within-to : (a b x : ℕ) → within a b x ≡ true → x ≤ b
 unfolding within
 within-to a b x h = leb-true x b (and-right (leb a x) (leb x b) h)
 
--- a record that is no name stands after another of its licence
-follows-other : (a b : ℕ) → follows a b ≡ true → eqb b 1 ≡ false → 1 ≤ a
+-- the kinds of a licence's records
+abbrev OfLicence : ℕ → Type 0
+OfLicence a = (1 ≤ a) × (a ≤ 5)
+
+-- a record of a licence that is no name stands after another of it
+follows-other : (a b : ℕ) → follows a b ≡ true → eqb b 1 ≡ false → eqb b 6 ≡ false → OfLicence a
 unfolding follows
-follows-other a b h k = at (eqb b 2) (simp k at h)
+follows-other a b h k l = at (eqb b 2) (simp (k, l) at h)
   where
-    at : (t : Bool) → cond t (eqb a 1) (within 3 5 b && within 2 b a) ≡ true → 1 ≤ a
+    at : (t : Bool) → cond t (eqb a 1) (within 3 5 b && within 2 b a) ≡ true → OfLicence a
     at true h = omega (arith, eqb-true a 1 h)
-    at false h = omega (arith, within-from 2 b a (and-right (within 3 5 b) (within 2 b a) h))
+    at false h =
+        let low = and-left (within 3 5 b) (within 2 b a) h in
+        let high = and-right (within 3 5 b) (within 2 b a) h in
+        omega (arith, within-from 2 b a high, within-to 2 b a high, within-to 3 5 b low)
 
 pub table-sound : (body : List ℕ) (o : Option (List Counted)) → soundTable body o ≡ true →
     (soundEntries [] (tableIn body o .entries) ≡ true) × (tableIn body o .total ≡ sum (tableIn body o .entries)) × (sum (tableIn body o .entries) ≤ totalMost)
@@ -125,14 +132,14 @@ module _ (r : Record) (n : ℕ) (name : List ℕ) (named : soundName name ≡ tr
         total-to = omega (arith, t .1, t .2);
       }
 
--- under a licence's name, after a record of kind a
-stored-each : (n a : ℕ) (name : List ℕ) (rs : List Record) → soundRecords a name rs ≡ true → (1 ≤ a → soundName name ≡ true) → Each StoredSound (storedIn n name rs)
+-- after a record of kind a, and where it is a licence's under its name
+stored-each : (n a : ℕ) (name : List ℕ) (rs : List Record) → soundRecords a name rs ≡ true → (OfLicence a → soundName name ≡ true) → Each StoredSound (storedIn n name rs)
 unfolding soundRecords storedIn storedKind
 stored-each n a name [] h k = tt
 stored-each n a name (r ∷ rs) h k =
     each-append StoredSound (cond (storedKind (r .kind)) (this ∷ []) []) (storedIn (cond (storedKind (r .kind)) (suc n) n) under rs)
     (here (storedKind (r .kind)) refl)
-    (stored-each (cond (storedKind (r .kind)) (suc n) n) (r .kind) under rs (and-right (f && b && o) m h) (λ l. goes (eqb (r .kind) 1) refl))
+    (stored-each (cond (storedKind (r .kind)) (suc n) n) (r .kind) under rs (and-right (f && b && o) m h) (λ l. goes (eqb (r .kind) 1) refl l))
   where
     this : Stored
     this = record { number = n; name = name; kind = r .kind; table = tableIn (r .body) (entriesOf (r .body)) }
@@ -155,19 +162,19 @@ stored-each n a name (r ∷ rs) h k =
     front : f && b ≡ true
     front = and-left (f && b) o (and-left (f && b && o) m h)
 
-    other : eqb (r .kind) 1 ≡ false → soundName name ≡ true
-    other q = k (follows-other a (r .kind) (and-left f b front) q)
+    other : eqb (r .kind) 1 ≡ false → r .kind ≤ 5 → soundName name ≡ true
+    other q l = k (follows-other a (r .kind) (and-left f b front) q (ne-eqb (r .kind) 6 (λ e. omega arith)))
 
     no-name : storedKind (r .kind) ≡ true → eqb (r .kind) 1 ≡ false
     no-name q = ne-eqb (r .kind) 1 (λ e. omega (arith, within-from 2 4 (r .kind) q))
 
     here : (t : Bool) → storedKind (r .kind) ≡ t → Each StoredSound (cond t (this ∷ []) [])
-    here true q = (stored-sound r n name (other (no-name q)) (and-right f b front) q, tt)
+    here true q = (stored-sound r n name (other (no-name q) (omega (arith, within-to 2 4 (r .kind) q))) (and-right f b front) q, tt)
     here false q = tt
 
-    goes : (t : Bool) → eqb (r .kind) 1 ≡ t → soundName (cond t (r .body) name) ≡ true
-    goes true q = name-sound r (and-right f b front) q
-    goes false q = other q
+    goes : (t : Bool) → eqb (r .kind) 1 ≡ t → OfLicence (r .kind) → soundName (cond t (r .body) name) ≡ true
+    goes true q l = name-sound r (and-right f b front) q
+    goes false q l = other q (l .1)
 
 sound-parts : (book : List ℕ) → sound book ≡ true →
     (length book ≤ bookMost) × (filled (recordsOf book) ≡ true) × (length (stored book) ≤ storedMost)
@@ -191,7 +198,7 @@ storedFrom-sound n book h = at (recordsOf book) (sound-parts book h .1)
   where
     at : (o : Option (List Record)) → filled o ≡ true → Each StoredSound (storedOf n o)
     at none k = tt
-    at (some rs) k = stored-each n 0 [] rs k (λ l. absurd (not-suc-le-zero l))
+    at (some rs) k = stored-each n 0 [] rs k (λ l. absurd (not-suc-le-zero (l .0)))
 
 pub sound-stored : (book : List ℕ) → sound book ≡ true → Each StoredSound (stored book)
 unfolding stored

@@ -18,7 +18,7 @@ use Rattle.rules.specs.Lines.{lines}
 use Rattle.rules.specs.Table.{Table, valueOf}
 use Rattle.rules.specs.Search.{View, whole, Stored, noText, Scoring, Made, recurse, turns, scored, Best, noBest, better, bestFrom, best}
 use Rattle.rules.specs.Scan.{Event, paid, overall, found, Recorded, after, afford, verdict, names, contained, andOn, downOn, downFrom, topDown, elimination, events}
-use Rattle.rules.specs.Book.{shelved}
+use Rattle.rules.specs.Book.{shelved, editionOf}
 use Rattle.rules.specs.Refusal.{refusal, Areas, ofScan}
 use Rattle.rules.specs.Jobs.{happened, named}
 use Rattle.rules.proofs.DownLaws.{Each}
@@ -91,10 +91,10 @@ module _ (P : Stored → Type 0) (no : P noText) where
       n = refusal (ofScan t bs lim mode b a results)
 
       full : List Event
-      full = events lim mode (shelved 0 bs) (lines t)
+      full = events lim mode (shelved 0 bs) (lines (editionOf bs) t)
 
       at : (q : Bool) → P (verdict (cond q (afford b full) []) .text)
-      at true = verdict-prefix (λ x. P (x .text)) no b full (events-one lim mode (shelved 0 bs) (lines t) h)
+      at true = verdict-prefix (λ x. P (x .text)) no b full (events-one lim mode (shelved 0 bs) (lines (editionOf bs) t) h)
       at false = no
 
   pub named-one : (t : List ℕ) (bs : List (List ℕ)) (lim : Limits) (mode : Mode) (b : ℕ) (a : Areas) (results : ℕ) → Each P (shelved 0 bs) →

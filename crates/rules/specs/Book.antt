@@ -7,7 +7,7 @@ use mathlib.Core.List.{List, [], _∷_, _++_}
 use mathlib.Core.Option.{Option, none, some}
 use lib.Dec.{leb, ltb, eqb}
 use lib.ListN.{length, take, drop}
-use Rattle.rules.specs.Sizes.{bookMost, storedMost, totalMost, nameMost}
+use Rattle.rules.specs.Sizes.{bookMost, storedMost, totalMost, nameMost, editionMost}
 use Rattle.rules.specs.Bytes.{within, lower, digit, every, rises, split}
 use Rattle.rules.specs.Prefix.{Counted}
 use Rattle.rules.specs.Table.{Table, viewTable}
@@ -163,12 +163,20 @@ soundName n = within 1 nameMost (length n) && every (within 33 126) n
 unfoldable pub storedKind : ℕ → Bool
 storedKind k = within 2 4 k
 
-unfoldable pub soundBody : Record → Bool
-soundBody r = cond (storedKind (r .kind)) (soundTable (r .body) (entriesOf (r .body))) (soundName (r .body))
+-- two bytes, which say an edition above 1
+unfoldable pub soundEdition : List ℕ → Bool
+soundEdition body = eqb (length body) 2 && within 2 editionMost (number 2 body)
 
--- kind b may stand after kind a, which is 0 at the start: per licence one 1, one 2, any 3, any 4, any 5, in this order
+unfoldable pub soundBody : Record → Bool
+soundBody r =
+    let other = cond (eqb (r .kind) 6) (soundEdition (r .body)) (soundName (r .body)) in
+    cond (storedKind (r .kind)) (soundTable (r .body) (entriesOf (r .body))) other
+
+-- kind b may stand after kind a, which is 0 at the start: 6 first of all; per licence one 1, one 2, any 3, any 4, any 5, in this order
 unfoldable pub follows : ℕ → ℕ → Bool
-follows a b = cond (eqb b 1) (not (eqb a 1)) (cond (eqb b 2) (eqb a 1) (within 3 5 b && within 2 b a))
+follows a b =
+    let of-licence = cond (eqb b 1) (not (eqb a 1)) (cond (eqb b 2) (eqb a 1) (within 3 5 b && within 2 b a)) in
+    cond (eqb b 6) (eqb a 0) of-licence
 
 -- after a record of kind a, under the licence `name`; names strictly rise by bytes
 unfoldable pub soundRecords : ℕ → List ℕ → List Record → Bool
@@ -207,6 +215,18 @@ filled (some rs) = soundRecords 0 [] rs
 unfoldable pub sound : List ℕ → Bool
 sound book = leb (length book) bookMost && filled (recordsOf book) && leb (length (stored book)) storedMost
 
+-- ---- the edition of any bytes: what a whole first record of kind 6 says; 1 where there is none, or where its body is no edition
+unfoldable pub saidBy : ℕ → List ℕ → ℕ
+saidBy kind body = cond (eqb kind 6 && soundEdition body) (number 2 body) 1
+
+unfoldable pub saidAt : List ℕ → At → ℕ
+saidAt book end = 1
+saidAt book (whole kind start len) = saidBy kind (take len (drop start book))
+saidAt book broken = 1
+
+unfoldable pub edition : List ℕ → ℕ
+edition book = saidAt book (recordAt book 0)
+
 -- ---- lent books, one or two: texts count on from the first into the second
 unfoldable pub shelved : ℕ → List (List ℕ) → List Stored
 shelved n [] = []
@@ -215,6 +235,19 @@ shelved n (b ∷ bs) = let ss = storedFrom n b in ss ++ shelved (n + length ss) 
 unfoldable pub allSound : List (List ℕ) → Bool
 allSound [] = true
 allSound (b ∷ bs) = sound b && allSound bs
+
+-- the first book's edition, and whether another's differs from it
+unfoldable pub editionOf : List (List ℕ) → ℕ
+editionOf [] = 1
+editionOf (b ∷ bs) = edition b
+
+unfoldable pub allOf : ℕ → List (List ℕ) → Bool
+allOf e [] = true
+allOf e (b ∷ bs) = eqb (edition b) e && allOf e bs
+
+unfoldable pub differ : List (List ℕ) → Bool
+differ [] = false
+differ (b ∷ bs) = not (allOf (edition b) bs)
 
 -- where the name of each of these texts stands; `place`: where the next record starts, `p`: the name that it stands under
 unfoldable pub namesIn : Bool → ℕ → Named → List Record → List Named
@@ -245,10 +278,11 @@ partIn first second p = take (p .len) (drop (p .at) (cond (p .second) second fir
 abbrev pub Lies : List ℕ → List ℕ → Named → Type 0
 Lies first second p = p .at + p .len ≤ length (cond (p .second) second first)
 
--- lent books that have the texts of `a` and then of `b`, and their names where these stand
+-- lent books that have the texts of `a` and then of `b`, and their names where these stand, under the edition of `a`
 pub record ReadAs (a b : List ℕ) (bs : List (List ℕ)) : Type 0 where
   pub texts : shelved 0 bs ≡ shelved 0 (a ∷ b ∷ [])
   pub names : nameParts false bs ≡ nameParts false (a ∷ b ∷ [])
+  pub said : editionOf bs ≡ edition a
 
 -- ---- compile: the table body of a text
 unfoldable pub entriesOut : List Counted → List ℕ
@@ -258,5 +292,5 @@ entriesOut (e ∷ es) = written 4 (e .count) ++ written 4 (length (e .bytes)) ++
 unfoldable pub tableOut : Table → List ℕ
 tableOut t = written 4 (t .total) ++ written 4 (length (t .entries)) ++ entriesOut (t .entries)
 
-unfoldable pub compiled : List ℕ → List ℕ
-compiled t = tableOut (viewTable (lines t))
+unfoldable pub compiled : ℕ → List ℕ → List ℕ
+compiled e t = tableOut (viewTable (lines e t))

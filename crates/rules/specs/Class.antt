@@ -6,6 +6,7 @@ use Prim.Native.Nat.{ℕ}
 use mathlib.Core.Bool.{cond}
 use lib.Dec.{leb, eqb}
 use Rattle.rules.specs.Bytes.{text, among, newline, space, upper, lower, digit, dropped}
+use Rattle.rules.specs.Lines.{slip}
 
 -- punctuation
 unfoldable pub signOf : ℕ → ℕ
@@ -16,13 +17,14 @@ signOf x =
     (cond (among (text "([{") x) 14
     (cond (among (text ")]}") x) 15 16))))
 
-unfoldable pub classOf : ℕ → ℕ
-classOf x =
+-- of edition e: from edition 2 on the 4 is a digit as the others
+unfoldable pub classOf : ℕ → ℕ → ℕ
+classOf e x =
     cond (leb 128 x) 0  -- refused
     (cond (eqb x 124) 2  -- `|`, dropped
     (cond (dropped x) 1
     (cond (among (text "/\\") x) 3
-    (cond (eqb x 52) 4  -- the digit 4
+    (cond (slip e x) 4  -- the digit 4, where pass 4 takes it
     (cond (among (text "\t ") x) 5
     (cond (newline x) 6
     (cond (space x) 7

@@ -20,7 +20,7 @@ use Rattle.rules.specs.Lines.{lines}
 use Rattle.rules.specs.Table.{nought}
 use Rattle.rules.specs.Search.{View, Stored, noText, Best, scoreView, bounds}
 use Rattle.rules.specs.Scan.{Event, events, afford, scorings, records, verdict, names, numbers}
-use Rattle.rules.specs.Book.{stored, shelved, nameParts, noPart, compiled}
+use Rattle.rules.specs.Book.{stored, shelved, editionOf, nameParts, noPart, compiled}
 use Rattle.rules.specs.Refusal.{refusal, Areas, ofCheck, ofCompile, ofView, ofName, ofScan}
 
 -- ---- lent memory
@@ -38,44 +38,44 @@ check book =
     let n = refusal (ofCheck book) in
     record { refusal = n; texts = cond (eqb n 0) (length (stored book)) 0 }
 
--- ---- compile a text to a table body (gives its length)
-unfoldable pub compile : List ℕ → Areas → ℕ → Compiled
-compile t a out =
-    let n = refusal (ofCompile t a out) in
-    record { refusal = n; len = cond (eqb n 0) (length (compiled t)) 0 }
+-- ---- compile a text to a table body, under edition e (gives its length)
+unfoldable pub compile : ℕ → List ℕ → Areas → ℕ → Compiled
+compile e t a out =
+    let n = refusal (ofCompile e t a out) in
+    record { refusal = n; len = cond (eqb n 0) (length (compiled e t)) 0 }
 
-unfoldable pub outputAfter : List ℕ → Areas → List ℕ → List ℕ
-outputAfter t a out =
-    let n = refusal (ofCompile t a (length out)) in
-    let new = over (compiled t) out in
+unfoldable pub outputAfter : ℕ → List ℕ → Areas → List ℕ → List ℕ
+outputAfter e t a out =
+    let n = refusal (ofCompile e t a (length out)) in
+    let new = over (compiled e t) out in
     cond (eqb n 0) new out
 
 -- ---- score a view against a stored text (gives the score)
 unfoldable pub scoreJob : List ℕ → List (List ℕ) → View → ℕ → Areas → Scored
 scoreJob t bs v k a =
     let n = refusal (ofView t bs v k a) in
-    let value = scoreView (lines t) (getD (shelved 0 bs) k noText) v .value in
+    let value = scoreView (lines (editionOf bs) t) (getD (shelved 0 bs) k noText) v .value in
     record { refusal = n; score = cond (eqb n 0) (value .score) nought }
 
 -- ---- find bounds (gives first line, line after last, score, count of scorings)
--- where nothing is refused, over the stored texts
-unfoldable pub boundsFound : List ℕ → List Stored → View → ℕ → Bounded
-boundsFound t ss v k =
-    let m = bounds (lines t) v (getD ss k noText) in
+-- where nothing is refused, over the lines and the stored texts
+unfoldable pub boundsFound : List (List ℕ) → List Stored → View → ℕ → Bounded
+boundsFound ls ss v k =
+    let m = bounds ls v (getD ss k noText) in
     let b = m .value in
     record { refusal = 0; first = b .first; after = b .after; score = b .value .score; count = length (m .list) }
 
 unfoldable pub boundsJob : List ℕ → List (List ℕ) → View → ℕ → Areas → Bounded
 boundsJob t bs v k a =
     let n = refusal (ofView t bs v k a) in
-    cond (eqb n 0) (boundsFound t (shelved 0 bs) v k) (record { refusal = n; first = 0; after = 0; score = nought; count = 0 })
+    cond (eqb n 0) (boundsFound (lines (editionOf bs) t) (shelved 0 bs) v k) (record { refusal = n; first = 0; after = 0; score = nought; count = 0 })
 
 -- ---- scan
 -- what the budget leaves of the scan; nothing where it is refused for another reason
 unfoldable pub happened : List ℕ → List (List ℕ) → Limits → Mode → ℕ → Areas → ℕ → List Event
 happened t bs lim mode b a results =
     let n = refusal (ofScan t bs lim mode b a results) in
-    let es = afford b (events lim mode (shelved 0 bs) (lines t)) in
+    let es = afford b (events lim mode (shelved 0 bs) (lines (editionOf bs) t)) in
     cond (eqb n 0 || eqb n 12) es []
 
 -- the text that is named: no text where none is
@@ -126,9 +126,9 @@ lent bytes words = record { bytes = length bytes; words = length words }
 pub record CheckDone (book : List ℕ) (a : Checked) : Type 0 where
   pub answer : a ≡ check book
 
-pub record CompileDone (t b₀ b w₀ w out₀ out : List ℕ) (a : Compiled) : Type 0 where
-  pub answer : a ≡ compile t (lent b₀ w₀) (length out₀)
-  pub output : out ≡ outputAfter t (lent b₀ w₀) out₀
+pub record CompileDone (e : ℕ) (t b₀ b w₀ w out₀ out : List ℕ) (a : Compiled) : Type 0 where
+  pub answer : a ≡ compile e t (lent b₀ w₀) (length out₀)
+  pub output : out ≡ outputAfter e t (lent b₀ w₀) out₀
   pub bytes : b ≡ areaAfter (a .refusal) b₀
   pub words : w ≡ areaAfter (a .refusal) w₀
 

@@ -3,6 +3,7 @@
 use Prim.Native.Nat.{ℕ, suc, _+_}
 use mathlib.Core.Bool.{Bool, false, not, _&&_, _||_, cond}
 use mathlib.Core.List.{List, [], _∷_, _++_, map}
+use lib.Dec.{eqb}
 use lib.ListN.{length, drop}
 use Rattle.rules.specs.Bytes.{text, space, dropped, among, solid, starts, keep, runs, trim, split}
 
@@ -17,9 +18,13 @@ urls inside (x ∷ xs) =
     let gone = inside && not (space x) in
     cond gone [] (cond (url (x ∷ xs)) (text "http://blackboxed/url") (x ∷ [])) ++ urls (gone || url (x ∷ xs)) xs
 
--- 4. byte 32, tab, `\`, `/`, `|` or the digit 4
-unfoldable pub gap : ℕ → Bool
-gap x = among (text " \t\\/|4") x
+-- the original's slip: in edition 1 pass 4 takes the digit 4 too
+unfoldable pub slip : ℕ → ℕ → Bool
+slip e x = eqb x 52 && eqb e 1
+
+-- 4. byte 32, tab, `\`, `/` or `|`, and that digit
+unfoldable pub gap : ℕ → ℕ → Bool
+gap e x = among (text " \t\\/|") x || slip e x
 
 -- 5. five kinds of runs, in order
 unfoldable pub signs : List ℕ → List ℕ
@@ -40,11 +45,15 @@ lineBy set s =
     let five = signs four in
     trim five
 
-unfoldable pub line : List ℕ → List ℕ
-line s = lineBy gap s
+unfoldable pub linesBy : (ℕ → Bool) → List ℕ → List (List ℕ)
+linesBy set t = map (lineBy set) (split 10 t)
 
-unfoldable pub lines : List ℕ → List (List ℕ)
-lines t = map line (split 10 t)
+-- of edition e: the editions differ in that set alone
+unfoldable pub line : ℕ → List ℕ → List ℕ
+line e s = lineBy (gap e) s
+
+unfoldable pub lines : ℕ → List ℕ → List (List ℕ)
+lines e t = linesBy (gap e) t
 
 -- L
 unfoldable pub lineCount : List ℕ → ℕ

@@ -9,12 +9,12 @@ use lib.Ieee.{Float, le}
 use Rattle.rules.specs.declared.Limits.{Limits}
 use Rattle.rules.specs.declared.Mode.{Mode}
 use Rattle.rules.specs.declared.Mode.the-variants.{Elimination, TopDown}
-use Rattle.rules.specs.Sizes.{textMost, linesMost, byteArea, wordArea, recordWidth}
-use Rattle.rules.specs.Bytes.{every}
+use Rattle.rules.specs.Sizes.{textMost, linesMost, byteArea, wordArea, recordWidth, editionMost}
+use Rattle.rules.specs.Bytes.{within, every}
 use Rattle.rules.specs.Lines.{lines, lineCount}
 use Rattle.rules.specs.Table.{nought, one}
 use Rattle.rules.specs.Search.{View}
-use Rattle.rules.specs.Book.{sound, allSound, shelved, compiled}
+use Rattle.rules.specs.Book.{sound, allSound, shelved, editionOf, differ, compiled}
 use Rattle.rules.specs.Scan.{events, scorings}
 
 pub record Row : Type 0 where
@@ -36,11 +36,12 @@ ofText t =
     row 2 (not (every (λ x. ltb x 128) t)) ∷
     row 3 (ltb linesMost (lineCount t)) ∷ []
 
--- of all lent books: 4 of any, 5 only where none has a text
+-- of all lent books: 4 of any, 5 only where none has a text, 15 where their editions differ
 unfoldable pub ofBooks : List (List ℕ) → List Row
 ofBooks bs =
     row 4 (not (allSound bs)) ∷
-    row 5 (eqb (length (shelved 0 bs)) 0) ∷ []
+    row 5 (eqb (length (shelved 0 bs)) 0) ∷
+    row 15 (differ bs) ∷ []
 
 -- no stored text has the number k
 abbrev pub ofNumber : List (List ℕ) → ℕ → Row
@@ -58,12 +59,15 @@ small t a = ltb (a .bytes) (byteArea (length t)) || ltb (a .words) (wordArea (le
 unfoldable pub ofCheck : List ℕ → List Row
 ofCheck book = row 4 (not (sound book)) ∷ []
 
--- ---- compile, to an output of so many bytes: first what is refused before any work
-unfoldable pub beforeCompile : List ℕ → Areas → List Row
-beforeCompile t a = ofText t ++ row 10 (small t a) ∷ []
+-- ---- compile, under edition e, to an output of so many bytes: first what is refused before any work
+unfoldable pub beforeCompile : ℕ → List ℕ → Areas → List Row
+beforeCompile e t a =
+    ofText t ++
+    row 4 (not (within 1 editionMost e)) ∷
+    row 10 (small t a) ∷ []
 
-unfoldable pub ofCompile : List ℕ → Areas → ℕ → List Row
-ofCompile t a out = beforeCompile t a ++ row 11 (ltb out (length (compiled t))) ∷ []
+unfoldable pub ofCompile : ℕ → List ℕ → Areas → ℕ → List Row
+ofCompile e t a out = beforeCompile e t a ++ row 11 (ltb out (length (compiled e t))) ∷ []
 
 -- ---- score, and bounds, of a view against the stored text k
 unfoldable pub ofView : List ℕ → List (List ℕ) → View → ℕ → Areas → List Row
@@ -92,7 +96,7 @@ resultsNeed l (Elimination optimize p) = cond optimize (recordWidth * p) 0
 resultsNeed l (TopDown s) = recordWidth * l
 
 unfoldable pub overBudget : ℕ → Limits → Mode → List ℕ → List (List ℕ) → Bool
-overBudget b lim mode t bs = ltb b (length (scorings (events lim mode (shelved 0 bs) (lines t))))
+overBudget b lim mode t bs = ltb b (length (scorings (events lim mode (shelved 0 bs) (lines (editionOf bs) t))))
 
 -- with results of so many u32: what is refused before any work
 unfoldable pub beforeScan : List ℕ → List (List ℕ) → Limits → Mode → Areas → ℕ → List Row

@@ -22,6 +22,10 @@ totalMost = 8_388_608
 abbrev pub nameMost : ℕ
 nameMost = 64
 
+-- the editions that a book and compile may have: 1 to this one
+abbrev pub editionMost : ℕ
+editionMost = 2
+
 -- the lent areas of a text of n bytes, in bytes and in u32
 abbrev pub byteArea : ℕ → ℕ
 byteArea n = 8 * n + 64

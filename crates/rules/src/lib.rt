@@ -16,6 +16,11 @@ pub const TOTAL_MOST: u64 = 8388608;
 
 pub const NAME_MOST: usize = 64;
 
+// The editions that a book and compile may have: from the first, in which line pass 4 takes the digit 4, to this one.
+pub const EDITION_FIRST: u32 = 1;
+
+pub const EDITION_MOST: u32 = 2;
+
 // The work areas: bytes and words for each byte of the text, and what both have to spare.
 pub const BYTES_EACH: usize = 8;
 
