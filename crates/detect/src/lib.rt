@@ -3,7 +3,7 @@
 // SPDX-License-Identifier: Apache-2.0), changed: the sort in `analyze` is a running best. Assumes nothing.
 ghost use mathlib.Core.Path.{_≡_};
 ghost use Prim.Native.Nat.{_≤_};
-ghost use Rattle.slices.specs.Classes.{classTable};
+ghost use Rattle.slices.specs.Classes.{Classes};
 ghost use Rattle.detection_shelf.specs.Shelves.{shelf, CountsOf};
 ghost use Rattle.license_notes.specs.Laid.{Laid};
 ghost use Rattle.license_views.specs.Tabled.{Tabled, tableOver};
@@ -82,7 +82,7 @@ pub fn best_above<'a>(
     floor: f32,
     budget: Scorings,
 ) -> Chosen
-    requires { ⌜ (now class ≡ classTable) × Laid n lines (now area) (now words) ⌝ }
+    requires { ⌜ Classes (now class) × Laid n lines (now area) (now words) ⌝ }
     requires { ⌜ (v .start ≤ v .end) × (v .end ≤ lines) ⌝ }
     requires { ⌜ CountsOf (shelf (now book) (now second)) texts ⌝ }
     ensures { λ r. ⌜ BestAbove n lines (now (area .entry)) (now (words .entry)) (now (area .exit)) (now (words .exit)) v (shelf (now (book .entry)) (now (second .entry))) floor (budget .count) r ⌝ }
@@ -104,7 +104,7 @@ pub fn best_text<'a>(
     texts: Counts,
     budget: Scorings,
 ) -> Chosen
-    requires { ⌜ (now class ≡ classTable) × Laid n lines (now area) (now words) ⌝ }
+    requires { ⌜ Classes (now class) × Laid n lines (now area) (now words) ⌝ }
     requires { ⌜ (v .start ≤ v .end) × (v .end ≤ lines) ⌝ }
     requires { ⌜ CountsOf (shelf (now book) (now second)) texts ⌝ }
     ensures { λ r. ⌜ BestDone n lines (now (area .entry)) (now (words .entry)) (now (area .exit)) (now (words .exit)) v (shelf (now (book .entry)) (now (second .entry))) (budget .count) r ⌝ }

@@ -9,7 +9,7 @@ use Rattle.rules.specs.declared.View.{View}
 use Rattle.rules.specs.declared.Value.{Value}
 use Rattle.rules.specs.Search.{Made, Stored, view, scoreView}
 use Rattle.rules.specs.Book.{entriesOf, soundTable}
-use Rattle.slices.specs.Classes.{classTable}
+use Rattle.slices.specs.Classes.{Classes}
 use Rattle.preproc_table.specs.Entries.{linesAt}
 use Rattle.license_notes.specs.Laid.{Laid}
 use Rattle.detection_shelf.specs.Bodies.{tableOfBody}
@@ -25,7 +25,7 @@ scoreAt ls s ends fixed i = scoreView ls s (viewBetween ends fixed i)
 -- a search over one bound of a view, of a note of n bytes and so many lines
 pub record Working (n lines : ℕ) (class area words body : List ℕ) : Type 0 where
   pub laid : Laid n lines area words
-  pub classes : class ≡ classTable
+  pub classes : Classes class
   pub sound : soundTable body (entriesOf body) ≡ true
 
 -- indexes from l to r make views within the note

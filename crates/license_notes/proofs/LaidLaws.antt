@@ -8,12 +8,14 @@ use native.Mathlib.Omega.{arith}
 use lib.Dec.{eqb}
 use lib.ListN.{length}
 use Rattle.rules.specs.Bytes.{text, newline, space, dropped, every, keep, runs, trimStart, addFront, trimEnd, trim, onFirst, split}
-use Rattle.rules.specs.Lines.{url, urls, gap, signs, lineBy, line, lines, lineCount, size}
+use Rattle.rules.specs.Lines.{url, urls, signs, lineBy, linesBy, lines, lineCount, size}
 use Rattle.rules.specs.Search.{blank}
 use Rattle.rules.specs.Sizes.{byteArea, wordArea}
 use Rattle.rules.specs.Refusal.{refusal, ofText}
 use Rattle.rules.proofs.BoolLaws.{and-left, and-right, and-both, cond-of}
-use Rattle.rules.proofs.GrowthLaws.{lines-size, blank-size}
+use Rattle.rules.proofs.GrowthLaws.{linesBy-size, blank-size}
+use Rattle.slices.specs.Classes.{gapIn, classTable}
+use Rattle.slices.proofs.KindLaws.{edition-lines}
 use Rattle.preproc_table.specs.Entries.{linesAt, Blanked}
 use Rattle.preproc_lines.specs.Normalised.{Normalised}
 use Rattle.preproc_test.proofs.CountLaws.{first-length, split-some, passed-length}
@@ -91,14 +93,14 @@ unfolding trimEnd
 trimEnd-plain [] h = h
 trimEnd-plain (x ∷ xs) h = addFront-plain x (trimEnd xs) (one-plain x xs h) (trimEnd-plain xs (rest-plain x xs h))
 
-line-plain : (s : List ℕ) → plain s ≡ true → plain (line s) ≡ true
-unfolding line lineBy trim plain every newline
-line-plain s h =
+line-plain : (set : ℕ → Bool) (s : List ℕ) → plain s ≡ true → plain (lineBy set s) ≡ true
+unfolding lineBy trim plain every newline
+line-plain set s h =
     let two = keep (λ x. not (dropped x)) s in
     let three = urls false two in
-    let four = runs gap 32 false three in
+    let four = runs set 32 false three in
     trimEnd-plain (trimStart (signs four)) (trimStart-plain (signs four) (signs-plain four
-    (runs-plain gap 32 false three refl (urls-plain false two (keep-plain (λ x. not (dropped x)) s h)))))
+    (runs-plain set 32 false three refl (urls-plain false two (keep-plain (λ x. not (dropped x)) s h)))))
 
 -- ---- the pieces between newlines hold none
 first-plain : (x : ℕ) (ls : List (List ℕ)) → plain (x ∷ []) ≡ true → plainLines ls ≡ true → plainLines (onFirst x ls) ≡ true
@@ -119,15 +121,15 @@ split-plain (x ∷ xs) = at (eqb x 10) refl (split-plain xs)
     at true q h = h
     at false q h = first-plain x (split 10 xs) (single q) h
 
-map-plain : (ps : List (List ℕ)) → plainLines ps ≡ true → plainLines (map line ps) ≡ true
+map-plain : (set : ℕ → Bool) (ps : List (List ℕ)) → plainLines ps ≡ true → plainLines (map (lineBy set) ps) ≡ true
 unfolding plainLines
-map-plain [] h = refl
-map-plain (p ∷ ps) h =
-    and-both (plain (line p)) (plainLines (map line ps)) (line-plain p (and-left (plain p) (plainLines ps) h)) (map-plain ps (and-right (plain p) (plainLines ps) h))
+map-plain set [] h = refl
+map-plain set (p ∷ ps) h =
+    and-both (plain (lineBy set p)) (plainLines (map (lineBy set) ps)) (line-plain set p (and-left (plain p) (plainLines ps) h)) (map-plain set ps (and-right (plain p) (plainLines ps) h))
 
-pub lines-plain : (t : List ℕ) → plainLines (lines t) ≡ true
-unfolding lines
-lines-plain t = map-plain (split 10 t) (split-plain t)
+pub lines-plain : (set : ℕ → Bool) (t : List ℕ) → plainLines (linesBy set t) ≡ true
+unfolding linesBy
+lines-plain set t = map-plain set (split 10 t) (split-plain t)
 
 -- ---- there are few
 split-few : (s : List ℕ) → length (split 10 s) ≤ suc (length s)
@@ -142,18 +144,22 @@ unfolding lineCount
 lines-few t = omega (arith, split-few t)
 
 -- ---- what `normalise` leaves is laid
-pub laid-lines : (t area words : List ℕ) (r : ℕ) → refusal (ofText t) ≡ 0 → byteArea (length t) ≤ length area → wordArea (length t) ≤ length words →
-    Normalised t area words r → Laid (length t) r area words
-laid-lines t area words r e p q d =
+pub laid-lines : (set : ℕ → Bool) (t area words : List ℕ) (r : ℕ) → refusal (ofText t) ≡ 0 → byteArea (length t) ≤ length area → wordArea (length t) ≤ length words →
+    Normalised set t area words r → Laid (length t) r area words
+laid-lines set t area words r e p q d =
     record {
       apart = d .apart;
       few = omega (arith, d .count, lines-few t);
       small = passed-length t e;
       area-room = p;
       words-room = q;
-      plain = ap plainLines (d .lines) ∙ lines-plain t;
-      bytes = omega (arith, ap size (d .lines), lines-size t);
+      plain = ap plainLines (d .lines) ∙ lines-plain set t;
+      bytes = omega (arith, ap size (d .lines), linesBy-size set t);
     }
+
+-- by the table of an edition they are that edition's
+pub noted-lines : (e n : ℕ) (class t : List ℕ) (ls : List (List ℕ)) → n ≡ e → class ≡ classTable n → ls ≡ linesBy (gapIn class) t → ls ≡ lines e t
+noted-lines e n class t ls said q h = h ∙ edition-lines n class t q ∙ ap (λ (m : ℕ). lines m t) said
 
 -- ---- white-out keeps the lines laid
 blank-plain : (a e : ℕ) (ls : List (List ℕ)) → plainLines ls ≡ true → plainLines (blank a e ls) ≡ true

@@ -12,7 +12,7 @@ use Rattle.rules.specs.Passes.{aggressive}
 use Rattle.rules.specs.Search.{viewed}
 use Rattle.rules.specs.Lines.{size}
 use Rattle.slices.specs.declared.ends.ByteSpan.{ByteSpan}
-use Rattle.slices.specs.Classes.{classTable}
+use Rattle.slices.specs.Classes.{Classes}
 use Rattle.preproc_table.specs.Entries.{tableEnd, viewStart, linesAt, Apart}
 use Rattle.preproc_table.proofs.EntryLaws.{lines-viewed, lines-kept, lines-below, apart-below}
 use Rattle.prefix_list.specs.Listing.{plainLines}
@@ -58,7 +58,7 @@ pub view-is : (n lines : ℕ) (area words : List ℕ) (v : View) → v .start �
 unfolding viewed
 view-is n lines area words v o h = sym (lines-viewed area words (v .start) (v .end) lines o h)
 
-pub view-ready : (n lines : ℕ) (class area words : List ℕ) (v : View) → class ≡ classTable → Laid n lines area words → v .start ≤ v .end → v .end ≤ lines →
+pub view-ready : (n lines : ℕ) (class area words : List ℕ) (v : View) → Classes class → Laid n lines area words → v .start ≤ v .end → v .end ≤ lines →
     view.Ready class area words n v
 view-ready n lines class area words v c laid o h =
     record {

@@ -5,7 +5,7 @@ ghost use mathlib.Core.Path.{_≡_};
 ghost use Prim.Native.Nat.{_≤_};
 ghost use Rattle.rules.specs.Table.{viewTable};
 ghost use Rattle.rules.specs.Search.{viewed};
-ghost use Rattle.slices.specs.Classes.{classTable};
+ghost use Rattle.slices.specs.Classes.{Classes};
 ghost use Rattle.preproc_table.specs.Entries.{linesAt};
 ghost use Rattle.license_notes.specs.Laid.{Laid, Held};
 ghost use Rattle.license_views.specs.Tabled.{Tabled, Processed, tableOver};
@@ -35,7 +35,7 @@ pub fn process(
     lines: usize,
     v: View,
 ) -> ByteSpan
-    requires { ⌜ (now class ≡ classTable) × Laid n lines (now area) (now words) ⌝ }
+    requires { ⌜ Classes (now class) × Laid n lines (now area) (now words) ⌝ }
     requires { ⌜ (v .start ≤ v .end) × (v .end ≤ lines) ⌝ }
     ensures { λ r. ⌜ Processed n lines v (now (area .entry)) (now (words .entry)) r (now (area .exit)) (now (words .exit)) ⌝ }
 {
@@ -55,7 +55,7 @@ pub fn view_table(
     lines: usize,
     v: View,
 ) -> Viewed
-    requires { ⌜ (now class ≡ classTable) × Laid n lines (now area) (now words) ⌝ }
+    requires { ⌜ Classes (now class) × Laid n lines (now area) (now words) ⌝ }
     requires { ⌜ (v .start ≤ v .end) × (v .end ≤ lines) ⌝ }
     ensures stands { λ r. ⌜ Tabled n (now (area .exit)) (now (words .exit)) r ⌝ }
     ensures table { λ r. ⌜ tableOver (now (area .exit)) r ≡ viewTable (viewed (linesAt (now (area .entry)) (now (words .entry)) lines) v) ⌝ }

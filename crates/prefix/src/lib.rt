@@ -7,7 +7,7 @@ ghost use Prim.Native.Nat.{_+_, _≤_};
 ghost use lib.ListN.{length, take};
 ghost use Rattle.rules.specs.Sizes.{textMost, byteArea, wordArea};
 ghost use Rattle.rules.specs.Search.{viewed};
-ghost use Rattle.slices.specs.Classes.{classTable};
+ghost use Rattle.slices.specs.Classes.{Classes};
 ghost use Rattle.preproc_table.specs.Entries.{tableEnd, viewStart, linesAt, Apart};
 ghost use Rattle.prefix_list.specs.Listing.{plainLines};
 ghost use Rattle.prefix_choice.specs.Choice.{Strips};
@@ -28,7 +28,7 @@ pub fn common_prefix(
     count: usize,
     v: View,
 ) -> Common
-    requires { ⌜ (now class ≡ classTable) × Apart n (viewStart n) (now words) count × (v .start ≤ v .end) × (v .end ≤ count) × (count ≤ n + 1) ⌝ }
+    requires { ⌜ Classes (now class) × Apart n (viewStart n) (now words) count × (v .start ≤ v .end) × (v .end ≤ count) × (count ≤ n + 1) ⌝ }
     requires { ⌜ (n ≤ textMost) × (byteArea n ≤ length (now area)) × (wordArea n ≤ length (now words)) ⌝ }
     requires { ⌜ plainLines (linesAt (now area) (now words) count) ≡ true ⌝ }
     ensures strips { λ r. ⌜ Strips n (viewed (linesAt (now (area .entry)) (now (words .entry)) count) v) (now (area .exit)) r ⌝ }

@@ -7,7 +7,7 @@ ghost use lib.ListN.{length, take};
 ghost use lib.Seq.{slice};
 ghost use Rattle.rules.specs.Prefix.{prefixes};
 ghost use Rattle.rules.specs.Table.{occurs};
-ghost use Rattle.slices.specs.Classes.{classTable};
+ghost use Rattle.slices.specs.Classes.{Classes};
 ghost use Rattle.preproc_table.specs.Entries.{viewStart, linesFrom, Apart};
 ghost use Rattle.prefix_list.specs.Listing.{Home, PairLies, Shared, ListStands};
 ghost use mathlib.Core.List.{[], _∷_, _++_};
@@ -37,7 +37,7 @@ pub fn home(
     a: usize,
     b: usize,
 ) -> ByteSpan
-    requires { ⌜ (now class ≡ classTable) × Apart n (viewStart n) (now table) count × (v .start ≤ v .end) × (v .end ≤ count) × (2 * count ≤ length (now table)) × (viewStart n ≤ length (now area)) ⌝ }
+    requires { ⌜ Classes (now class) × Apart n (viewStart n) (now table) count × (v .start ≤ v .end) × (v .end ≤ count) × (2 * count ≤ length (now table)) × (viewStart n ≤ length (now area)) ⌝ }
     requires { ⌜ (a ≤ b) × (b ≤ length (now area)) × (0 < occurs (slice a b (now area)) (prefixes (linesFrom (now area) (now table) (v .start) (v .end - v .start)))) ⌝ }
     ensures { λ r. ⌜ Home n (now (area .entry)) (slice a b (now (area .entry))) r ⌝ }
 {
@@ -64,7 +64,7 @@ pub struct Listed {
 
 // What lines i and i + 1 have in common, trimmed, as bytes of line i. Linear in line i.
 pub fn shared(class: &[u8; 256], area: &[u8], table: &[u32], i: usize) -> ByteSpan
-    requires { ⌜ (now class ≡ classTable) × (2 * i + 3 < length (now table)) × PairLies (now area) (now table) i ⌝ }
+    requires { ⌜ Classes (now class) × (2 * i + 3 < length (now table)) × PairLies (now area) (now table) i ⌝ }
     ensures { λ r. ⌜ Shared (now (area .entry)) (now (table .entry)) i r ⌝ }
 {
     let start = line_start(table, i);
@@ -100,7 +100,7 @@ pub fn list_prefixes(
     count: usize,
     v: View,
 ) -> Listed
-    requires { ⌜ (now class ≡ classTable) × Apart n (viewStart n) (now words) count × (v .start ≤ v .end) × (v .end ≤ count) × (count ≤ n + 1) ⌝ }
+    requires { ⌜ Classes (now class) × Apart n (viewStart n) (now words) count × (v .start ≤ v .end) × (v .end ≤ count) × (count ≤ n + 1) ⌝ }
     requires { ⌜ (n ≤ textMost) × (byteArea n ≤ length (now area)) × (wordArea n ≤ length (now words)) ⌝ }
     ensures { λ r. ⌜ ListStands n (prefixes (linesFrom (now (area .entry)) (now (words .entry)) (v .start) (v .end - v .start))) (now (area .entry)) (now (words .entry)) r (now (area .exit)) (now (words .exit)) ⌝ }
 {

@@ -7,7 +7,7 @@ ghost use Prim.Native.Nat.{_+_, _≤_};
 ghost use lib.ListN.{length, drop};
 ghost use Rattle.rules.specs.Bytes.{digit, lead, holds};
 ghost use Rattle.rules.specs.Passes.{paragraph, hitA, hitB, item, spaced, items, hitC, hit};
-ghost use Rattle.slices.specs.Classes.{classTable};
+ghost use Rattle.slices.specs.Classes.{Classes};
 use slices::class::FOUR;
 use slices::class::OTHER_DIGIT;
 use slices::class::SPACE_HIGH;
@@ -83,7 +83,7 @@ fn hit_b(s: &[u8], at: usize, start: bool) -> usize
 
 // How many digits stand here: the 4 has a class of its own.
 fn digit_run(class: &[u8; 256], s: &[u8], at: usize) -> usize
-    requires { ⌜ now class ≡ classTable ⌝ }
+    requires { ⌜ Classes (now class) ⌝ }
     ensures { λ r. ⌜ r ≡ lead digit (drop at (now (s .entry))) ⌝ }
 {
     either_len(class, FOUR, FOUR, OTHER_DIGIT, OTHER_DIGIT, s, at)
@@ -91,7 +91,7 @@ fn digit_run(class: &[u8; 256], s: &[u8], at: usize) -> usize
 
 // C's item: `c`, or a run of digits.
 fn item_len(class: &[u8; 256], s: &[u8], at: usize) -> usize
-    requires { ⌜ now class ≡ classTable ⌝ }
+    requires { ⌜ Classes (now class) ⌝ }
     ensures { λ r. ⌜ r ≡ item (drop at (now (s .entry))) ⌝ }
 {
     if s.len() <= at {
@@ -105,7 +105,7 @@ fn item_len(class: &[u8; 256], s: &[u8], at: usize) -> usize
 
 // One or more spaces, and an item.
 fn spaced_len(class: &[u8; 256], s: &[u8], at: usize) -> usize
-    requires { ⌜ (now class ≡ classTable) × (at ≤ length (now s)) ⌝ }
+    requires { ⌜ Classes (now class) × (at ≤ length (now s)) ⌝ }
     ensures { λ r. ⌜ r ≡ spaced (drop at (now (s .entry))) ⌝ }
 {
     let k = run_len(class, SPACE_LOW, SPACE_HIGH, s, at);
@@ -121,7 +121,7 @@ fn spaced_len(class: &[u8; 256], s: &[u8], at: usize) -> usize
 
 // As many of these as fit. Linear: each try goes on from where the last one ended, and the one that fails reads spaces alone.
 fn items_len(class: &[u8; 256], s: &[u8], at: usize) -> usize
-    requires { ⌜ (now class ≡ classTable) × (at ≤ length (now s)) ⌝ }
+    requires { ⌜ Classes (now class) × (at ≤ length (now s)) ⌝ }
     ensures { λ r. ⌜ r ≡ items 0 (drop at (now (s .entry))) ⌝ }
 {
     let mut i = at;
@@ -137,7 +137,7 @@ fn items_len(class: &[u8; 256], s: &[u8], at: usize) -> usize
 // C: at a line's start `copyright`, one or more of these, then the rest of that line. What it reads it takes, but for the spaces behind
 // `copyright` where no item follows them.
 fn hit_c(class: &[u8; 256], s: &[u8], at: usize, fresh: bool) -> usize
-    requires { ⌜ now class ≡ classTable ⌝ }
+    requires { ⌜ Classes (now class) ⌝ }
     ensures { λ r. ⌜ r ≡ hitC fresh (drop at (now (s .entry))) ⌝ }
 {
     if fresh {
@@ -157,7 +157,7 @@ fn hit_c(class: &[u8; 256], s: &[u8], at: usize, fresh: bool) -> usize
 // What the hit at the place takes, or 0. `start`: the text starts here; `fresh`: a line does. Elsewhere only a newline can begin a hit,
 // and one test sees that none does.
 pub fn hit_len(class: &[u8; 256], s: &[u8], at: usize, start: bool, fresh: bool) -> usize
-    requires { ⌜ (now class ≡ classTable) × (at ≤ length (now s)) ⌝ }
+    requires { ⌜ Classes (now class) × (at ≤ length (now s)) ⌝ }
     ensures { λ r. ⌜ r ≡ hit start fresh (drop at (now (s .entry))) ⌝ }
 {
     let a = hit_a(s, at, start);

@@ -9,13 +9,13 @@ ghost use lib.ListN.{length, take, drop};
 ghost use Rattle.lists.specs.Wrote.{InFront};
 ghost use Rattle.rules.specs.Passes.{hit, withoutCopyright};
 ghost use Rattle.rules.specs.Passes;
-ghost use Rattle.slices.specs.Classes.{classTable};
+ghost use Rattle.slices.specs.Classes.{Classes};
 use preproc_copyright::hit_a;
 use preproc_copyright::hit_len;
 
 // What the hit at the place takes, or 0. Inside a line only a newline can begin one, so that one test sees that none does.
 fn hit_at(class: &[u8; 256], s: &[u8], at: usize, fresh: bool) -> usize
-    requires { ⌜ (now class ≡ classTable) × (at < length (now s)) ⌝ }
+    requires { ⌜ Classes (now class) × (at < length (now s)) ⌝ }
     ensures { λ r. ⌜ r ≡ hit (eqb at 0) fresh (drop at (now (s .entry))) ⌝ }
 {
     if at == 0 {
@@ -33,7 +33,7 @@ fn hit_at(class: &[u8; 256], s: &[u8], at: usize, fresh: bool) -> usize
 // Pass 6: each hit becomes two newlines. Linear: what a hit takes is read again by none, and tries that fail read different lines (A),
 // one line (B) or the spaces behind different words (C).
 pub fn without_copyright(class: &[u8; 256], buf: &mut [u8], n: usize) -> usize
-    requires { ⌜ (now class ≡ classTable) × (n ≤ length (now buf)) ⌝ }
+    requires { ⌜ Classes (now class) × (n ≤ length (now buf)) ⌝ }
     ensures { λ r. ⌜ InFront (withoutCopyright true true 0 (take n (now (buf .entry)))) r (now (buf .exit)) ⌝ }
 {
     let mut i = 0;

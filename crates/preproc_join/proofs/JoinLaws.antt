@@ -13,7 +13,7 @@ use Rattle.rules.specs.Bytes.{starts, trim, join}
 use Rattle.rules.specs.Prefix.{strip}
 use Rattle.rules.proofs.HitLaws.{starts-length}
 use Rattle.slices.specs.declared.ends.ByteSpan.{ByteSpan}
-use Rattle.slices.specs.Classes.{classTable, spaceIn}
+use Rattle.slices.specs.Classes.{Classes, spaceIn}
 use Rattle.slices.specs.Ends.{Bare}
 use Rattle.slices.proofs.EndLaws.{bare-within, bare-trim}
 use Rattle.slices.proofs.KindLaws.{by-table, space-table}
@@ -62,7 +62,7 @@ module _ (area table : List ℕ) (i : ℕ) (p : Prefix) where
           let m : length (take (e - k) (drop k area)) ≡ e - k = ap length (part-slice k e area) ∙ length-slice k e area h in
           omega (arith, q .high)
 
-      pub left-strip : t ≡ classTable → p .strip ≡ true → Left area table i p (record { start = k + s .start; end = k + s .end })
+      pub left-strip : Classes t → p .strip ≡ true → Left area table i p (record { start = k + s .start; end = k + s .end })
       unfolding left lineAt strip
       left-strip c f =
           let w = left-within in

@@ -10,7 +10,7 @@ use Rattle.lists.specs.Wrote.{InFront}
 use Rattle.rules.specs.Bytes.{starts}
 use Rattle.rules.specs.Prefix.{strip}
 use Rattle.slices.specs.declared.ends.ByteSpan.{ByteSpan}
-use Rattle.slices.specs.Classes.{classTable}
+use Rattle.slices.specs.Classes.{Classes}
 use Rattle.preproc_table.specs.Entries.{startAt, endAt, lineAt, linesFrom}
 use Rattle.preproc_join.specs.declared.Prefix.{Prefix}
 
@@ -44,7 +44,7 @@ pub record Added (out d₀ : List ℕ) (to r : ℕ) (d : List ℕ) : Type 0 wher
 
 -- what copying it asks
 pub record Puts (class area table : List ℕ) (i : ℕ) (p : Prefix) (to : ℕ) : Type 0 where
-  pub classes : class ≡ classTable
+  pub classes : Classes class
   pub entry : 2 * i + 1 < length table
   pub order : startAt table i ≤ endAt table i
   pub below : endAt table i ≤ to
@@ -65,7 +65,7 @@ tails (l ∷ ls) = 10 ∷ (l ++ tails ls)
 
 -- what joining them asks: the lines and the prefix lie below `to`
 pub record Below (class table : List ℕ) (end : ℕ) (p : Prefix) (to : ℕ) : Type 0 where
-  pub classes : class ≡ classTable
+  pub classes : Classes class
   pub entries : 2 * end ≤ length table
   pub order : (i : ℕ) → i < end → startAt table i ≤ endAt table i
   pub below : (i : ℕ) → i < end → endAt table i ≤ to

@@ -7,7 +7,7 @@ ghost use Prim.Native.Nat.{_+_, _*_, _≤_, _<_};
 ghost use lib.ListN.{length};
 ghost use Rattle.preproc_table.specs.Entries.{startAt, endAt};
 ghost use Rattle.rules.specs.Bytes.{join};
-ghost use Rattle.slices.specs.Classes.{classTable};
+ghost use Rattle.slices.specs.Classes.{Classes};
 ghost use Rattle.preproc_join.specs.Joins.{Past, Left, Puts, Put, Added, Below, Joined, tails, viewLines};
 use preproc_table::line_end;
 use preproc_table::line_start;
@@ -39,7 +39,7 @@ fn past_prefix(area: &[u8], a: usize, e: usize, at: usize, len: usize) -> usize
 
 // What is left of line i.
 fn line_part(class: &[u8; 256], area: &[u8], table: &[u32], i: usize, p: Prefix) -> ByteSpan
-    requires { ⌜ (now class ≡ classTable) × (2 * i + 1 < length (now table)) × (startAt (now table) i ≤ endAt (now table) i) × (endAt (now table) i ≤ length (now area)) × (p .at + p .len ≤ length (now area)) ⌝ }
+    requires { ⌜ Classes (now class) × (2 * i + 1 < length (now table)) × (startAt (now table) i ≤ endAt (now table) i) × (endAt (now table) i ≤ length (now area)) × (p .at + p .len ≤ length (now area)) ⌝ }
     ensures { λ r. ⌜ Left (now (area .entry)) (now (table .entry)) i p r ⌝ }
 {
     let a = line_start(table, i);

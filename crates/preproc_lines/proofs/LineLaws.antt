@@ -11,7 +11,7 @@ use Rattle.lists.specs.Wrote.{Wrote, InFront}
 use Rattle.lists.proofs.SliceLaws.{part-rest, part-slice, part-at, slice-part}
 use Rattle.lists.proofs.ChainLaws.{front-of, wrote-behind, wrote-before, wrote-from, wrote-end}
 use Rattle.rules.specs.Bytes.{text, among, space, dropped, keep, runs, trim}
-use Rattle.rules.specs.Lines.{urls, gap, signs, lineBy, line}
+use Rattle.rules.specs.Lines.{urls, signs, lineBy}
 use Rattle.rules.proofs.GrowthLaws.{keep-length, runs-length, urls-length}
 use Rattle.slices.specs.declared.ends.ByteSpan.{ByteSpan}
 use Rattle.slices.specs.Ends.{Bare}
@@ -34,9 +34,9 @@ signs-length s =
       runs-length (among (text "_")) 95 false e,
     )
 
-pub line-trim : (s : List ℕ) → trim (untrimmed s) ≡ line s
-unfolding line lineBy untrimmed
-line-trim s = refl
+line-trim : (set : ℕ → Bool) (s : List ℕ) → trim (untrimmed set s) ≡ lineBy set s
+unfolding lineBy untrimmed
+line-trim set s = refl
 
 abbrev kept : List ℕ → List ℕ
 kept s = keep (λ x. not (dropped x)) s
@@ -77,33 +77,33 @@ module _ (src : List ℕ) (to : ℕ) {d₀ d₁ : List ℕ} {n₂ : ℕ} (fits :
         ∙ part-slice (length src) to d₀
 
     -- what they leave, with the part back in its place
-    pub fill-done : {n₅ : ℕ} (ys post : List ℕ) → length d₂ ≡ length d₁ → InFront (signs (runs gap 32 false (take (e - to) (take (length d₂ - to) (drop to d₂))))) n₅ ys →
-        Filled src d₀ to (to + n₅) (take to d₂ ++ (ys ++ post))
+    pub fill-done : (set : ℕ → Bool) {n₅ : ℕ} (ys post : List ℕ) → length d₂ ≡ length d₁ → InFront (signs (runs set 32 false (take (e - to) (take (length d₂ - to) (drop to d₂))))) n₅ ys →
+        Filled set src d₀ to (to + n₅) (take to d₂ ++ (ys ++ post))
     unfolding untrimmed
-    fill-done {n₅} ys post long f =
+    fill-done set {n₅} ys post long f =
         let l : length (take to d₂) ≡ to = length-take-le to d₂ (omega arith) in
-        let g : InFront (signs (runs gap 32 false (urls false (kept src)))) n₅ ys = rw three-part at f in
+        let g : InFront (signs (runs set 32 false (urls false (kept src)))) n₅ ys = rw three-part at f in
         record {
           low = omega arith;
-          high = omega (arith, g .count, signs-length (runs gap 32 false (urls false (kept src))), runs-length gap 32 false (urls false (kept src)), three-length);
+          high = omega (arith, g .count, signs-length (runs set 32 false (urls false (kept src))), runs-length set 32 false (urls false (kept src)), three-length);
           bytes = sym (part-at to n₅ (take to d₂ ++ (ys ++ post))) ∙ ap (take n₅) (drop-at (take to d₂) (ys ++ post) to l) ∙ take-append-le n₅ ys post (g .within) ∙ g .bytes;
           same = ap (drop (length src)) (take-at (take to d₂) (ys ++ post) to l) ∙ three-same;
         }
 
 -- ---- pass 6: the ends
-module _ {src d₀ d : List ℕ} {to r : ℕ} {p : ℕ → Bool} {s : ByteSpan} (f : Filled src d₀ to r d) (b : Bare p (take (r - to) (drop to d)) s) where
+module _ {src d₀ d : List ℕ} {to r : ℕ} {set p : ℕ → Bool} {s : ByteSpan} (f : Filled set src d₀ to r d) (b : Bare p (take (r - to) (drop to d)) s) where
   pub bare-most : (s .start ≤ s .end) × (to + s .end ≤ r)
   bare-most =
       let w = bare-within b in
       (w .0, omega (arith, f .low, w .1, length-take (r - to) (drop to d)))
 
-  pub placed : p ≡ space → Placed src d₀ to (record { start = to + s .start; end = to + s .end }) d
+  pub placed : p ≡ space → Placed set src d₀ to (record { start = to + s .start; end = to + s .end }) d
   placed e =
       let m = bare-most in
       record {
         low = omega arith;
         order = omega (arith, m .0);
         high = omega (arith, m .1, f .high);
-        bytes = sym (slice-part (s .start) (s .end) (r - to) to d (omega (arith, f .low, m .1))) ∙ bare-trim b e ∙ ap trim (part-slice to r d ∙ f .bytes) ∙ line-trim src;
+        bytes = sym (slice-part (s .start) (s .end) (r - to) to d (omega (arith, f .low, m .1))) ∙ bare-trim b e ∙ ap trim (part-slice to r d ∙ f .bytes) ∙ line-trim set src;
         same = f .same;
       }

@@ -1,4 +1,4 @@
--- The walk over a text's lines. `Normalising text area table at to count`: `count` lines are there, the text is done up to `at`, and the next line
+-- The walk over a text's lines. `Normalising set text area table at to count`, where pass 4 takes `set`: `count` lines are there, the text is done up to `at`, and the next line
 -- goes to `to`.
 --     going-start     with none done
 --     piece-within, piece-length     the next line lies in the text, as long as it was counted
@@ -19,8 +19,8 @@ use lib.Seq.{drop-drop, length-take-le}
 use borrow.Author.Tests.{le-leb, lt-leb, leb-true, leb-false}
 use Rattle.lists.proofs.SliceLaws.{slice-within}
 use Rattle.rules.specs.Bytes.{newline, lead, lineLen, split, onFirst}
-use Rattle.rules.specs.Lines.{line, lines}
-use Rattle.rules.proofs.RefusalLaws.{lines-count}
+use Rattle.rules.specs.Lines.{lineBy, linesBy}
+use Rattle.rules.proofs.RefusalLaws.{linesBy-count}
 use Rattle.slices.specs.declared.ends.ByteSpan.{ByteSpan}
 use Rattle.slices.proofs.EndLaws.{lead-most}
 use Rattle.preproc_lines.specs.Placed.{Placed}
@@ -79,7 +79,7 @@ rest-next at t h =
     ∙ ap (λ (ls : List (List ℕ)). take (lineLen (drop at t)) (drop at t) ∷ ls) (rest-drop at (lineLen (drop at t) + 1) t h)
 
 -- ---- the walk
-pub record Normalising (text area table : List ℕ) (at to count : ℕ) : Type 0 where
+pub record Normalising (set : ℕ → Bool) (text area table : List ℕ) (at to count : ℕ) : Type 0 where
   pub few : count ≤ at
   pub within : at ≤ length text + 1
   pub low : length text ≤ to
@@ -87,11 +87,11 @@ pub record Normalising (text area table : List ℕ) (at to count : ℕ) : Type 0
   pub top : to ≤ 4 * length text + 1
   pub before : (i : ℕ) → i < count → endAt table i < to
   pub apart : Apart (length text) (4 * length text) table count
-  pub there : linesAt area table count ++ map line (restOf at text) ≡ lines text
+  pub there : linesAt area table count ++ map (lineBy set) (restOf at text) ≡ linesBy set text
 
-pub going-start : (text area table : List ℕ) → Normalising text area table 0 (length text) 0
-unfolding linesAt linesFrom lines
-going-start text area table =
+pub going-start : (set : ℕ → Bool) (text area table : List ℕ) → Normalising set text area table 0 (length text) 0
+unfolding linesAt linesFrom linesBy
+going-start set text area table =
     record {
       few = omega arith;
       within = omega arith;
@@ -106,7 +106,7 @@ going-start text area table =
             high = λ i h. absurd (not-suc-le-zero h);
             apart = λ i j h k. absurd (not-suc-le-zero k);
           };
-      there = ap (map line) (rest-start text);
+      there = ap (map (lineBy set)) (rest-start text);
     }
 
 -- the line at `at`, m bytes long, as the part `&text[at..at + m]`
@@ -128,7 +128,7 @@ module _ (text : List ℕ) (at m : ℕ) (e : m ≡ lineLen (drop at text)) (h : 
       let k : at + m - at ≡ m = omega arith in
       rw k (length-take-le m (drop at text) (omega (arith, piece-within, length-drop at text)))
 
-  module _ {area area′ table : List ℕ} {to count : ℕ} {r : ByteSpan} (g : Normalising text area table at to count) (p : Placed piece area to r area′) (room : 2 * count + 1 < length table) where
+  module _ {set : ℕ → Bool} {area area′ table : List ℕ} {to count : ℕ} {r : ByteSpan} (g : Normalising set text area table at to count) (p : Placed set piece area to r area′) (room : 2 * count + 1 < length table) where
     abbrev now-written : List ℕ
     now-written = entrySet table count (r .start) (r .end)
 
@@ -166,21 +166,21 @@ module _ (text : List ℕ) (at m : ℕ) (e : m ≡ lineLen (drop at text)) (h : 
         rw (old-start i l, old-end i l)
         (slice-within (length piece) to area′ area (omega (arith, piece-length, piece-within, g .apart .low i l)) (g .apart .order i l) (omega (arith, g .before i l)) (p .same))
 
-    last-line : lineAt area′ now-written count ≡ line (take (lineLen (drop at text)) (drop at text))
+    last-line : lineAt area′ now-written count ≡ lineBy set (take (lineLen (drop at text)) (drop at text))
     unfolding lineAt
-    last-line = rw (last-start, last-end) (p .bytes ∙ ap line piece-is)
+    last-line = rw (last-start, last-end) (p .bytes ∙ ap (lineBy set) piece-is)
 
-    step-lines : linesAt area′ now-written (count + 1) ≡ linesAt area table count ++ (line (take (lineLen (drop at text)) (drop at text)) ∷ [])
+    step-lines : linesAt area′ now-written (count + 1) ≡ linesAt area table count ++ (lineBy set (take (lineLen (drop at text)) (drop at text)) ∷ [])
     unfolding linesAt
     step-lines =
         rw (add-one count)
         (lines-more area′ now-written 0 count
         ∙ ap₂ (λ (ls : List (List ℕ)) (l : List ℕ). ls ++ (l ∷ [])) (lines-same area′ area now-written table 0 count (λ j u v. old-line j (omega arith))) last-line′)
       where
-        last-line′ : lineAt area′ now-written (0 + count) ≡ line (take (lineLen (drop at text)) (drop at text))
+        last-line′ : lineAt area′ now-written (0 + count) ≡ lineBy set (take (lineLen (drop at text)) (drop at text))
         last-line′ = let z : 0 + count ≡ count = omega arith in rw z last-line
 
-    pub going-on : Normalising text area′ now-written (at + m + 1) (r .end + 1) (count + 1)
+    pub going-on : Normalising set text area′ now-written (at + m + 1) (r .end + 1) (count + 1)
     going-on =
         record {
           few = omega (arith, g .few);
@@ -193,17 +193,17 @@ module _ (text : List ℕ) (at m : ℕ) (e : m ≡ lineLen (drop at text)) (h : 
           there = step-there;
         }
       where
-        step-there : linesAt area′ now-written (count + 1) ++ map line (restOf (at + m + 1) text) ≡ lines text
+        step-there : linesAt area′ now-written (count + 1) ++ map (lineBy set) (restOf (at + m + 1) text) ≡ linesBy set text
         step-there =
             let k : at + m + 1 ≡ at + (lineLen (drop at text) + 1) = omega (arith, e) in
-            rw (step-lines, append-assoc, k) (ap (λ (ls : List (List ℕ)). linesAt area table count ++ map line ls) (sym (rest-next at text h)) ∙ g .there)
+            rw (step-lines, append-assoc, k) (ap (λ (ls : List (List ℕ)). linesAt area table count ++ map (lineBy set) ls) (sym (rest-next at text h)) ∙ g .there)
 
-pub going-end : {text area table : List ℕ} {at to count : ℕ} → length text < at → Normalising text area table at to count → Normalised text area table count
+pub going-end : {set : ℕ → Bool} {text area table : List ℕ} {at to count : ℕ} → length text < at → Normalising set text area table at to count → Normalised set text area table count
 unfolding linesAt
-going-end {text} {area} {table} {at} {to} {count} h g =
-    let e : linesFrom area table 0 count ≡ lines text = rw (rest-none at text h, append-nil) at (g .there) in
+going-end {set} {text} {area} {table} {at} {to} {count} h g =
+    let e : linesFrom area table 0 count ≡ linesBy set text = rw (rest-none at text h, append-nil) at (g .there) in
     record {
-      count = sym (lines-length area table 0 count) ∙ ap length e ∙ lines-count text;
+      count = sym (lines-length area table 0 count) ∙ ap length e ∙ linesBy-count set text;
       lines = e;
       apart = g .apart;
     }

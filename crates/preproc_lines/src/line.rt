@@ -4,7 +4,7 @@
 ghost use mathlib.Core.Path.{_≡_};
 ghost use Prim.Native.Nat.{_+_, _*_, _≤_};
 ghost use lib.ListN.{length};
-ghost use Rattle.slices.specs.Classes.{classTable};
+ghost use Rattle.slices.specs.Classes.{Classes, gapIn};
 ghost use Rattle.preproc_lines.specs.Placed.{Filled, Placed};
 use preproc_runs::drop_into;
 use preproc_signs::join_signs;
@@ -18,8 +18,8 @@ use slices::ends::bare;
 
 // Line passes 2 to 5 over src, made from `to` on; answers where that ends. A constant number of walks.
 pub fn fill_line(class: &[u8; 256], src: &[u8], area: &mut [u8], to: usize) -> usize
-    requires { ⌜ (now class ≡ classTable) × (length (now src) ≤ to) × (to + 3 * length (now src) ≤ length (now area)) ⌝ }
-    ensures { λ r. ⌜ Filled (now (src .entry)) (now (area .entry)) to r (now (area .exit)) ⌝ }
+    requires { ⌜ Classes (now class) × (length (now src) ≤ to) × (to + 3 * length (now src) ≤ length (now area)) ⌝ }
+    ensures { λ r. ⌜ Filled (gapIn (now (class .entry))) (now (src .entry)) (now (area .entry)) to r (now (area .exit)) ⌝ }
 {
     let n2 = drop_into(class, DROPPED_LOW, DROPPED_HIGH, src, area);
     let end = blackbox_urls(class, area, n2, to);
@@ -30,8 +30,8 @@ pub fn fill_line(class: &[u8; 256], src: &[u8], area: &mut [u8], to: usize) -> u
 
 // Line passes 2 to 6 over src, made from `to` on; answers where the trimmed line stands.
 pub fn put_line(class: &[u8; 256], src: &[u8], area: &mut [u8], to: usize) -> ByteSpan
-    requires { ⌜ (now class ≡ classTable) × (length (now src) ≤ to) × (to + 3 * length (now src) ≤ length (now area)) ⌝ }
-    ensures { λ r. ⌜ Placed (now (src .entry)) (now (area .entry)) to r (now (area .exit)) ⌝ }
+    requires { ⌜ Classes (now class) × (length (now src) ≤ to) × (to + 3 * length (now src) ≤ length (now area)) ⌝ }
+    ensures { λ r. ⌜ Placed (gapIn (now (class .entry))) (now (src .entry)) (now (area .entry)) to r (now (area .exit)) ⌝ }
 {
     let end = fill_line(class, src, area, to);
     let s = bare(class, SPACE_LOW, SPACE_HIGH, &area[to..end]);

@@ -6,7 +6,7 @@ ghost use Prim.Native.Nat.{_≤_};
 ghost use lib.ListN.{length};
 ghost use Rattle.rules.specs.Sizes.{byteArea, wordArea};
 ghost use Rattle.rules.specs.Refusal.{refusal, ofText};
-ghost use Rattle.slices.specs.Classes.{classTable};
+ghost use Rattle.slices.specs.Classes.{Classes, gapIn};
 ghost use Rattle.preproc_lines.specs.Normalised.{Normalised};
 use crate::line::put_line;
 use preproc_table::set_line;
@@ -15,8 +15,8 @@ use slices::lead::line_len;
 // The lines of the text, from its own length on in the area, one byte or more apart; answers how many. Each line is walked a constant
 // number of times.
 pub fn normalise(class: &[u8; 256], text: &[u8], area: &mut [u8], words: &mut [u32]) -> usize
-    requires { ⌜ (now class ≡ classTable) × (refusal (ofText (now text)) ≡ 0) × (byteArea (length (now text)) ≤ length (now area)) × (wordArea (length (now text)) ≤ length (now words)) ⌝ }
-    ensures { λ r. ⌜ Normalised (now (text .entry)) (now (area .exit)) (now (words .exit)) r ⌝ }
+    requires { ⌜ Classes (now class) × (refusal (ofText (now text)) ≡ 0) × (byteArea (length (now text)) ≤ length (now area)) × (wordArea (length (now text)) ≤ length (now words)) ⌝ }
+    ensures { λ r. ⌜ Normalised (gapIn (now (class .entry))) (now (text .entry)) (now (area .exit)) (now (words .exit)) r ⌝ }
 {
     let n = text.len();
     let mut at = 0;

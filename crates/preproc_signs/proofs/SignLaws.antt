@@ -1,7 +1,7 @@
 -- The kinds of line passes 4 and 5 in one walk: `joined` is `inTurn` (`joined-turn`), where the byte that a kind leaves is of no later kind
 -- and no later kind leaves the same (`Good`). So one walk by the table of classes is passes 4 and 5 (`joined-signs`).
 -- Assumes nothing.
-use mathlib.Core.Path.{_≡_, refl, sym, ap, _∙_}
+use mathlib.Core.Path.{_≡_, refl, sym, subst, ap, _∙_}
 use mathlib.Core.Bool.{Bool, true, false, cond}
 use mathlib.Core.List.{List, [], _∷_}
 use Prim.Native.Nat.{ℕ}
@@ -9,10 +9,10 @@ use lib.Dec.{eqb}
 use lib.ListN.{getD}
 use borrow.Author.Tests.{eqb-true, eqb-false, eq-eqb, ne-eqb}
 use Rattle.rules.specs.Bytes.{within, runs}
-use Rattle.rules.specs.Lines.{gap, signs}
+use Rattle.rules.specs.Lines.{signs}
 use Rattle.rules.proofs.Opened.{opened}
-use Rattle.slices.specs.Classes.{inClass, classTable}
-use Rattle.slices.proofs.KindLaws.{gap-table, quote-table, dash-table, open-table, close-table, under-table}
+use Rattle.slices.specs.Classes.{inClass, gapIn, classTable, Classes}
+use Rattle.slices.proofs.KindLaws.{quote-table, dash-table, open-table, close-table, under-table}
 use Rattle.preproc_signs.specs.Signs.{Kind, kinds, signIn, inTurn, joined}
 
 -- ---- one kind, by the first byte
@@ -133,9 +133,10 @@ module _ (class : ℕ → ℕ) where
 abbrev pub classAt : List ℕ → ℕ → ℕ
 classAt t x = getD t x 0
 
-kinds-good : Good (classAt classTable) kinds
+-- a run becomes a byte that has the same class in every edition
+kinds-good : (e : ℕ) → Good (classAt (classTable e)) kinds
 unfolding Good Fresh Outside kinds classTable opened
-kinds-good =
+kinds-good e =
     let d : (a b : ℕ) → eqb a b ≡ false → a ≡ b → ⊥ = eqb-false in (
       d 0 32 refl,
       (d 32 39 refl, (d 32 45 refl, (d 32 40 refl, (d 32 41 refl, (d 32 95 refl, tt))))),
@@ -169,13 +170,16 @@ kinds-good =
     )
 
 -- kind after kind is pass after pass
-turn-signs : (xs : List ℕ) → inTurn (classAt classTable) kinds 0 xs ≡ signs (runs gap 32 false xs)
+turn-signs : (e : ℕ) (xs : List ℕ) → inTurn (classAt (classTable e)) kinds 0 xs ≡ signs (runs (gapIn (classTable e)) 32 false xs)
 unfolding inTurn kinds signs inClass
-turn-signs xs = rw (← gap-table, ← quote-table, ← dash-table, ← open-table, ← close-table, ← under-table) refl
+turn-signs e xs = rw (← quote-table e, ← dash-table e, ← open-table e, ← close-table e, ← under-table e) refl
 
--- one walk by the table is passes 4 and 5
-pub joined-signs : (xs : List ℕ) → joined (λ x. signIn kinds (classAt classTable x)) 0 xs ≡ signs (runs gap 32 false xs)
-joined-signs xs = joined-turn (classAt classTable) kinds kinds-good 0 xs ∙ turn-signs xs
+-- one walk by a table of some edition is passes 4 and 5
+pub joined-signs : {t : List ℕ} → Classes t → (xs : List ℕ) → joined (λ x. signIn kinds (classAt t x)) 0 xs ≡ signs (runs (gapIn t) 32 false xs)
+joined-signs {t} c xs =
+    let e = c .edition in
+    subst (λ (u : List ℕ). joined (λ x. signIn kinds (classAt u x)) 0 xs ≡ signs (runs (gapIn u) 32 false xs)) (sym (c .table))
+    (joined-turn (classAt (classTable e)) kinds (kinds-good e) 0 xs ∙ turn-signs e xs)
 
 -- ---- the walk, by the first byte
 module _ (sign : ℕ → ℕ) (g b : ℕ) {l l′ : List ℕ} where

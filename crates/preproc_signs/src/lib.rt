@@ -7,8 +7,8 @@ ghost use Prim.Native.Nat.{_≤_};
 ghost use lib.ListN.{length, take, getD};
 ghost use Rattle.lists.specs.Wrote.{InFront};
 ghost use Rattle.rules.specs.Bytes.{runs};
-ghost use Rattle.rules.specs.Lines.{gap, signs};
-ghost use Rattle.slices.specs.Classes.{classTable};
+ghost use Rattle.rules.specs.Lines.{signs};
+ghost use Rattle.slices.specs.Classes.{Classes, gapIn};
 ghost use Rattle.preproc_signs.specs.Signs.{kinds, signIn};
 use slices::class::CLOSING;
 use slices::class::DASH;
@@ -50,10 +50,10 @@ fn sign_of(class: &[u8; 256], b: u8) -> u8
     0
 }
 
-// Line passes 4 and 5, in place, on the first n. One walk.
+// Line passes 4 and 5, in place, on the first n; pass 4 takes the gaps of the table's edition. One walk.
 pub fn join_signs(class: &[u8; 256], buf: &mut [u8], n: usize) -> usize
-    requires { ⌜ (now class ≡ classTable) × (n ≤ length (now buf)) ⌝ }
-    ensures { λ r. ⌜ InFront (signs (runs gap 32 false (take n (now (buf .entry))))) r (now (buf .exit)) ⌝ }
+    requires { ⌜ Classes (now class) × (n ≤ length (now buf)) ⌝ }
+    ensures { λ r. ⌜ InFront (signs (runs (gapIn (now (class .entry))) 32 false (take n (now (buf .entry))))) r (now (buf .exit)) ⌝ }
 {
     let mut i = 0;
     let mut w = 0;

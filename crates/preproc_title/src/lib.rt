@@ -5,7 +5,7 @@ ghost use mathlib.Core.Path.{_≡_};
 ghost use Prim.Native.Nat.{_≤_};
 ghost use lib.ListN.{length, drop};
 ghost use Rattle.rules.specs.Passes.{titleEnd, titleRest, titleLine, withoutTitle};
-ghost use Rattle.slices.specs.Classes.{classTable};
+ghost use Rattle.slices.specs.Classes.{Classes};
 ghost use Rattle.preproc_title.specs.Matches.{titleHere};
 use slices::class::SPACE_HIGH;
 use slices::class::SPACE_LOW;
@@ -25,7 +25,7 @@ fn title_end(s: &[u8], at: usize) -> bool
 
 // What may follow `license`: ` version ` with what it names, and then the line's end.
 fn title_rest(class: &[u8; 256], s: &[u8], at: usize) -> bool
-    requires { ⌜ now class ≡ classTable ⌝ }
+    requires { ⌜ Classes (now class) ⌝ }
     ensures { λ r. ⌜ r ≡ titleRest (drop at (now (s .entry))) ⌝ }
 {
     if title_end(s, at) {
@@ -44,7 +44,7 @@ fn title_rest(class: &[u8; 256], s: &[u8], at: usize) -> bool
 
 // `license` stands here, and its rest ends the line.
 fn title_at(class: &[u8; 256], s: &[u8], at: usize) -> bool
-    requires { ⌜ now class ≡ classTable ⌝ }
+    requires { ⌜ Classes (now class) ⌝ }
     ensures { λ r. ⌜ r ≡ titleHere (drop at (now (s .entry))) ⌝ }
 {
     if starts_with(s, at, b"license") {
@@ -56,7 +56,7 @@ fn title_at(class: &[u8; 256], s: &[u8], at: usize) -> bool
 // Some `license` of the line has a rest that ends it. Linear: two tries after ` version ` read different bytes, since what it names
 // holds no space.
 fn title_line(class: &[u8; 256], line: &[u8]) -> bool
-    requires { ⌜ now class ≡ classTable ⌝ }
+    requires { ⌜ Classes (now class) ⌝ }
     ensures { λ r. ⌜ r ≡ titleLine (now (line .entry)) ⌝ }
 {
     let mut i = 0;
@@ -71,7 +71,7 @@ fn title_line(class: &[u8; 256], line: &[u8]) -> bool
 
 // How many bytes at the start go: a title's line and the two newlines that follow it, or none.
 pub fn title_len(class: &[u8; 256], s: &[u8]) -> usize
-    requires { ⌜ now class ≡ classTable ⌝ }
+    requires { ⌜ Classes (now class) ⌝ }
     ensures { λ r. ⌜ (r ≤ length (now (s .entry))) × (withoutTitle (now (s .entry)) ≡ drop r (now (s .entry))) ⌝ }
 {
     let n = line_len(s, 0);

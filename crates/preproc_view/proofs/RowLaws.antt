@@ -12,7 +12,7 @@ use Rattle.lists.proofs.SliceLaws.{part-slice, part-rest, slice-shift, slice-fi
 use Rattle.rules.specs.Bytes.{within, space, word, keep, runs, trim}
 use Rattle.rules.specs.Passes.{lowered, withoutTitle, withoutCopyright, passes}
 use Rattle.slices.specs.declared.ends.ByteSpan.{ByteSpan}
-use Rattle.slices.specs.Classes.{classTable, keptIn, spaceIn, verticalIn}
+use Rattle.slices.specs.Classes.{Classes, keptIn, spaceIn, verticalIn}
 use Rattle.slices.specs.Ends.{Bare}
 use Rattle.slices.proofs.EndLaws.{bare-within, bare-trim}
 use Rattle.slices.proofs.KindLaws.{by-table, space-table, vertical-table, kept-table}
@@ -20,7 +20,7 @@ use Rattle.preproc_runs.specs.Capped.{capped}
 use Rattle.preproc_runs.proofs.PassLaws.{vertical-capped}
 use Rattle.preproc_view.specs.Rows.{StandsAt, firstPasses, lastPasses}
 
-module _ (t : List ℕ) (e : t ≡ classTable) where
+module _ (t : List ℕ) (e : Classes t) where
   pub first-row : (s : List ℕ) → map lowered (keep (keptIn t) (capped (verticalIn t) 10 2 0 s)) ≡ firstPasses s
   unfolding firstPasses
   first-row s =

@@ -9,7 +9,7 @@ use Rattle.rules.specs.Sizes.{byteArea}
 use Rattle.rules.specs.Prefix.{withoutPrefix}
 use Rattle.rules.specs.Passes.{aggressive}
 use Rattle.slices.specs.declared.ends.ByteSpan.{ByteSpan}
-use Rattle.slices.specs.Classes.{classTable}
+use Rattle.slices.specs.Classes.{Classes}
 use Rattle.preproc_table.specs.Entries.{viewStart, linesFrom, Apart}
 use Rattle.preproc_join.specs.declared.Prefix.{Prefix}
 use Rattle.preproc_join.specs.Joins.{left}
@@ -21,7 +21,7 @@ viewAt area table v = linesFrom area table (v .start) (v .end - v .start)
 
 -- the lines of a text of n bytes lie in [n, 4n) of an area of its size, and the view is one of them
 pub record Ready (class area table : List ℕ) (n : ℕ) (v : View) : Type 0 where
-  pub classes : class ≡ classTable
+  pub classes : Classes class
   pub room : byteArea n ≤ length area
   pub entries : 2 * v .end ≤ length table
   pub apart : Apart n (viewStart n) table (v .end)

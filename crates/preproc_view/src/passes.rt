@@ -8,7 +8,7 @@ ghost use lib.ListN.{length, take};
 ghost use Rattle.lists.specs.Wrote.{InFront};
 ghost use Rattle.rules.specs.Passes.{lowered};
 ghost use Rattle.rules.specs.Passes;
-ghost use Rattle.slices.specs.Classes.{classTable};
+ghost use Rattle.slices.specs.Classes.{Classes};
 ghost use Rattle.preproc_view.specs.Rows.{StandsAt, firstPasses, lastPasses};
 use preproc_cut::without_copyright;
 use preproc_runs::cap_runs;
@@ -28,7 +28,7 @@ use slices::ends::bare;
 
 // A byte in lower case.
 fn lower_byte(class: &[u8; 256], b: u8) -> u8
-    requires { ⌜ now class ≡ classTable ⌝ }
+    requires { ⌜ Classes (now class) ⌝ }
     ensures { λ r. ⌜ r ≡ lowered b ⌝ }
 {
     if in_class(class, UPPER, UPPER, b) {
@@ -39,7 +39,7 @@ fn lower_byte(class: &[u8; 256], b: u8) -> u8
 
 // Pass 4: the first n in lower case.
 pub fn lower_in(class: &[u8; 256], buf: &mut [u8], n: usize) -> usize
-    requires { ⌜ (now class ≡ classTable) × (n ≤ length (now buf)) ⌝ }
+    requires { ⌜ Classes (now class) × (n ≤ length (now buf)) ⌝ }
     ensures { λ r. ⌜ InFront (map lowered (take n (now (buf .entry)))) r (now (buf .exit)) ⌝ }
 {
     let mut i = 0;
@@ -53,7 +53,7 @@ pub fn lower_in(class: &[u8; 256], buf: &mut [u8], n: usize) -> usize
 
 // Passes 6 to 8: where the result stands among the first n.
 fn last_passes(class: &[u8; 256], buf: &mut [u8], n: usize) -> ByteSpan
-    requires { ⌜ (now class ≡ classTable) × (n ≤ length (now buf)) ⌝ }
+    requires { ⌜ Classes (now class) × (n ≤ length (now buf)) ⌝ }
     ensures { λ r. ⌜ StandsAt (lastPasses (take n (now (buf .entry)))) (now (buf .exit)) r ⌝ }
 {
     let n6 = without_copyright(class, buf, n);
@@ -63,7 +63,7 @@ fn last_passes(class: &[u8; 256], buf: &mut [u8], n: usize) -> ByteSpan
 
 // Passes 2 to 4.
 fn first_passes(class: &[u8; 256], buf: &mut [u8], n: usize) -> usize
-    requires { ⌜ (now class ≡ classTable) × (n ≤ length (now buf)) ⌝ }
+    requires { ⌜ Classes (now class) × (n ≤ length (now buf)) ⌝ }
     ensures { λ r. ⌜ InFront (firstPasses (take n (now (buf .entry)))) r (now (buf .exit)) ⌝ }
 {
     let n2 = cap_runs(class, VERTICAL_LOW, VERTICAL_HIGH, b'\n', 2, buf, n);
@@ -73,7 +73,7 @@ fn first_passes(class: &[u8; 256], buf: &mut [u8], n: usize) -> usize
 
 // Passes 2 to 8: where the processed text stands. The title only moves its start.
 pub fn passes(class: &[u8; 256], buf: &mut [u8], n: usize) -> ByteSpan
-    requires { ⌜ (now class ≡ classTable) × (n ≤ length (now buf)) ⌝ }
+    requires { ⌜ Classes (now class) × (n ≤ length (now buf)) ⌝ }
     ensures { λ r. ⌜ StandsAt (Passes.passes (take n (now (buf .entry)))) (now (buf .exit)) r ⌝ }
 {
     let n4 = first_passes(class, buf, n);

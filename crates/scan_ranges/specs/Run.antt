@@ -15,7 +15,7 @@ use Rattle.rules.specs.declared.Bounds.{Bounds}
 use Rattle.rules.specs.Search.{bounds, blank, whole, best}
 use Rattle.rules.specs.Scan.{Event, afford, scorings, records, numbers}
 use Rattle.rules.specs.Refusal.{unit}
-use Rattle.slices.specs.Classes.{classTable}
+use Rattle.slices.specs.Classes.{Classes}
 use Rattle.preproc_table.specs.Entries.{linesAt}
 use Rattle.license_bounds.specs.declared.Ranged.{Ranged}
 use Rattle.license_charge.specs.Pay.{pay}
@@ -38,7 +38,7 @@ leftOver b es = cond (leb (length (scorings es)) b) (some (b - length (scorings 
 
 -- what stands ready for a scan: a note's lines in the areas, and a sound books with a text
 pub record Scanning (scope : Scope) (class area words : List ℕ) (books : Shelf) : Type 0 where
-  pub classes : class ≡ classTable
+  pub classes : Classes class
   pub laid : Laid (scope .n) (scope .lines) area words
   pub few : scope .lines ≤ linesMost
   pub counted : CountsOf books (scope .texts)

@@ -11,7 +11,7 @@ use lib.ListN.{length, drop, length-drop}
 use borrow.Author.Tests.{leb-true}
 use Rattle.rules.specs.Bytes.{within, space, upper, lead, starts}
 use Rattle.rules.proofs.HitLaws.{lead-length, starts-length}
-use Rattle.slices.specs.Classes.{classTable, spaceIn, upperIn}
+use Rattle.slices.specs.Classes.{Classes, spaceIn, upperIn}
 use Rattle.rules.specs.Passes.{lowered}
 use Rattle.rules.proofs.BoolLaws.{and-right}
 use Rattle.slices.proofs.KindLaws.{by-table, space-table, upper-table}
@@ -20,7 +20,7 @@ use Rattle.slices.proofs.KindLaws.{by-table, space-table, upper-table}
 abbrev pub dark : ℕ → Bool
 dark x = not (space x)
 
-module _ (t l : List ℕ) (e : t ≡ classTable) where
+module _ (t l : List ℕ) (e : Classes t) where
   space-of : spaceIn t ≡ space
   space-of = by-table spaceIn e space-table
 
@@ -31,7 +31,7 @@ module _ (t l : List ℕ) (e : t ≡ classTable) where
   others-of = ap (λ (f : ℕ → Bool). lead (λ x. not (f x)) l) space-of
 
 -- ---- a byte in lower case
-module _ (t : List ℕ) (b : ℕ) (e : t ≡ classTable) where
+module _ (t : List ℕ) (b : ℕ) (e : Classes t) where
   upper-of : upperIn t b ≡ upper b
   upper-of = ap (λ (f : ℕ → Bool). f b) (by-table upperIn e upper-table)
 

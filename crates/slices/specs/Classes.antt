@@ -1,5 +1,6 @@
--- A byte's class by a lent table, and the table of the rules' classes.
+-- A byte's class by a lent table, and the tables of the rules' classes, one for each edition.
 -- Assumes nothing.
+use mathlib.Core.Path.{_≡_}
 use Prim.Native.Nat.{ℕ}
 use mathlib.Core.Bool.{Bool, _||_}
 use mathlib.Core.List.{List}
@@ -20,6 +21,10 @@ inEither t lo hi low high x = inClass t lo hi x || inClass t low high x
 abbrev pub droppedIn : List ℕ → ℕ → Bool
 droppedIn t = inClass t 1 2
 
+-- pass 4's set
+abbrev pub gapIn : List ℕ → ℕ → Bool
+gapIn t = inClass t 2 5
+
 abbrev pub keptIn : List ℕ → ℕ → Bool
 keptIn t = inClass t 4 11
 
@@ -32,10 +37,15 @@ verticalIn t = inClass t 6 7
 abbrev pub upperIn : List ℕ → ℕ → Bool
 upperIn t = inClass t 10 10
 
--- the digit 4, or one of the others
+-- the digit 4 where it has a class of its own, or one of the others
 abbrev pub digitIn : List ℕ → ℕ → Bool
 digitIn t = inEither t 4 4 8 8
 
--- the 256 classes
-unfoldable pub classTable : List ℕ
-classTable = tab 256 classOf
+-- the 256 classes of edition e
+unfoldable pub classTable : ℕ → List ℕ
+classTable e = tab 256 (classOf e)
+
+-- a table of some edition: all that a pass asks of it that is the same in every edition
+pub record Classes (t : List ℕ) : Type 0 where
+  pub edition : ℕ
+  pub table : t ≡ classTable edition

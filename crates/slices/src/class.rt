@@ -1,10 +1,11 @@
-// The class of a byte, by a table that is lent.
+// The class of a byte, by a table that is lent: that of an edition.
 // From detection/preproc.rs of spdx 0.13.6 (Copyright 2018-2019 Amazon.com, Inc. or its affiliates. All Rights Reserved.
 // SPDX-License-Identifier: Apache-2.0), changed: the character sets of its patterns, as one table. Assumes nothing.
 ghost use mathlib.Core.Path.{_≡_};
 ghost use Rattle.slices.specs.Classes.{inClass, inEither, classTable};
+use rules::EDITION_FIRST;
 
-// 0 refused, 1 dropped, 2 the bar, 3 slashes, 4 the digit 4, 5 space and tab, 6 newline, 7 the other spaces, 8 the other digits,
+// 0 refused, 1 dropped, 2 the bar, 3 slashes, 4 the digit 4 of edition 1, 5 space and tab, 6 newline, 7 the other spaces, 8 the other digits,
 // 9 lower case, 10 upper case, 11 underscore, 12 quotes, 13 dash, 14 opening, 15 closing, 16 other punctuation.
 // What the passes ask for is a range of these, or one alone; specs/Classes.antt has the same by name.
 pub const DROPPED_LOW: u8 = 1;
@@ -43,6 +44,10 @@ pub const OPENING: u8 = 14;
 
 pub const CLOSING: u8 = 15;
 
+// The digit that line pass 4 takes in the first edition.
+const FOUR_BYTE: usize = 52;
+
+// Edition 1's.
 const CLASS: [u8; 256] = [
     1, // 0: controls
     1,
@@ -302,11 +307,15 @@ const CLASS: [u8; 256] = [
     0,
 ];
 
-// The table, made once and lent to every pass: a const is built anew at each use.
-pub fn class_table() -> [u8; 256]
-    ensures { λ r. ⌜ r ≡ classTable ⌝ }
+// The edition's table, made once and lent to every pass: a const is built anew at each use.
+pub fn class_table(edition: u32) -> [u8; 256]
+    ensures { λ r. ⌜ r ≡ classTable edition ⌝ }
 {
-    CLASS
+    let mut table = CLASS;
+    if edition != EDITION_FIRST {
+        table[FOUR_BYTE] = OTHER_DIGIT;
+    }
+    table
 }
 
 // Whether the class of b is from lo to hi.

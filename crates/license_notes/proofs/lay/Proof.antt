@@ -23,7 +23,7 @@ returns : tie.Need-returns
 returns c =
     let made = c .before .before .before .before in
     let d = made .normalise .ensures in
-    (laid-lines _ _ _ _ (start made .pre .1) (search needs) (search needs) d, (d .lines, d .count))
+    (laid-lines _ _ _ _ _ (start made .pre .1) (search needs) (search needs) d, (d .lines, d .count))
 
 pub lay-spec : {M : Type 1} → statement M
 lay-spec = tie.close (tie.spec normalise-requires same-length same-length-2 returns)

@@ -86,7 +86,7 @@ returns : tie.Need-returns Inv-loop μ-loop
 returns c =
     let a = c .before .before .before .args in
     let o = over-end (join-end _ _ (slice-done _ _ _ (c .loop-test .left))) (c .before .loop .inv) in
-    subst (λ (l : List ℕ). InFront l (c .before .loop .w) (c .before .loop .buf)) (rw (c .before .before .before .pre .0) (joined-signs (take (a .n) (a .buf .now)))) o
+    subst (λ (l : List ℕ). InFront l (c .before .loop .w) (c .before .loop .buf)) (joined-signs (c .before .before .before .pre .0) (take (a .n) (a .buf .now))) o
 
 pub join-signs-spec : {M : Type 1} → statement M
 join-signs-spec =

@@ -55,7 +55,7 @@ returns c =
     let k : tie.After-drop-into = search in
     let b : tie.After-blackbox-urls = search in
     let joined : tie.After-join-signs = search in
-    fill-done (source k) (to k) (start k .pre .1) (omega arith) (two k) (b .blackbox-urls .ensures) _ _ (omega arith) (joined .join-signs .ensures)
+    fill-done (source k) (to k) (start k .pre .1) (omega arith) (two k) (b .blackbox-urls .ensures) _ _ _ (omega arith) (joined .join-signs .ensures)
 
 pub fill-line-spec : {M : Type 1} → statement M
 fill-line-spec =

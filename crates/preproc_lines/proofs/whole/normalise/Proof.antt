@@ -7,6 +7,7 @@ use native.Mathlib.Omega.{arith}
 use denote.Ref.{now}
 use lib.ListN.{length, take, drop}
 use Rattle.rules.specs.Sizes.{textMost}
+use Rattle.slices.specs.Classes.{gapIn}
 use Rattle.preproc_test.proofs.CountLaws.{passed-length}
 use Rattle.preproc_lines.proofs.WholeLaws.{Normalising, going-start, piece-within, piece-length, end-top, going-on, going-end}
 use borrow.Author.Needs.{needs}
@@ -14,7 +15,7 @@ use Rattle.preproc_lines.proofs.whole.normalise.Statement.{statement}
 use Rattle.preproc_lines.proofs.whole.normalise.Tie as tie
 
 abbrev Inv-loop : tie.InvT-loop
-Inv-loop class text area₀ table₀ n at₀ to₀ count₀ area table at to count = (n ≡ length text) × (length area ≡ length area₀) × (length table ≡ length table₀) × Normalising text area table at to count
+Inv-loop class text area₀ table₀ n at₀ to₀ count₀ area table at to count = (n ≡ length text) × (length area ≡ length area₀) × (length table ≡ length table₀) × Normalising (gapIn class) text area table at to count
 
 abbrev μ-loop : tie.MeasureT-loop
 μ-loop class text area₀ table₀ n at₀ to₀ count₀ area table at to count = length text + 1 - at
@@ -36,7 +37,7 @@ module _ (k : tie.After-line-len Inv-loop μ-loop) where
   abbrev len : ℕ
   len = k .line-len .result
 
-  going : Normalising source (head .loop .area) (head .loop .words) (head .loop .at) (head .loop .to) (head .loop .count)
+  going : Normalising (gapIn (now (start .args .class))) source (head .loop .area) (head .loop .words) (head .loop .at) (head .loop .to) (head .loop .count)
   going = head .loop .inv .3
 
   short : length source ≤ textMost
@@ -55,7 +56,7 @@ module _ (k : tie.After-line-len Inv-loop μ-loop) where
   long = piece-length source (head .loop .at) len (k .line-len .ensures) inside
 
 loop-holds : tie.Need-loop-holds Inv-loop μ-loop
-loop-holds c = (refl, refl, refl, going-start _ _ _)
+loop-holds c = (refl, refl, refl, going-start _ _ _ _)
 
 add-end : tie.Need-add-end Inv-loop μ-loop
 add-end c = omega (arith, within c)
