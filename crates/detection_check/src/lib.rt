@@ -13,6 +13,8 @@ ghost use Rattle.detection_check.specs.Walks.{refused, found, Within, re
 use detection_bodies::name_sound;
 use detection_bodies::table_sound;
 use detection_bodies::within;
+use detection_edition::EDITION_KIND;
+use detection_edition::edition_sound;
 use records::pieces::RecordAt;
 use records::reader::read;
 use rules::BOOK_MOST;
@@ -55,6 +57,9 @@ pub fn stored_kind(kind: u16) -> bool
 fn follows(a: u16, b: u16) -> bool
     ensures { λ r. ⌜ r ≡ mayFollow a b ⌝ }
 {
+    if b == EDITION_KIND {
+        return a == 0;
+    }
     if b == 1 {
         return a != 1;
     }
@@ -71,10 +76,12 @@ fn body_sound(kind: u16, body: &[u8]) -> bool
     ensures { λ r. ⌜ r ≡ soundBody (record { kind = kind; body = now (body .entry) }) ⌝ }
 {
     if stored_kind(kind) {
-        table_sound(body)
-    } else {
-        name_sound(body)
+        return table_sound(body);
     }
+    if kind == EDITION_KIND {
+        return edition_sound(body);
+    }
+    name_sound(body)
 }
 
 // A record after one of kind `before`, under `name`.

@@ -1,10 +1,11 @@
 -- Rows that are tried one after the other, and what is known of a text, a book, a view, settings and areas that are let through.
 --     check-texts, check-sound                   what `check` says of a book that it does not refuse
 --     empty-checked                              and of an empty one
---     checks-first, checks-second, checks-none, checks-some   the answers of `check` of both books, as the two rows of the lent books
---     both-first, both-then                      refusals 1 to 5, then the others
---     compile-most, view-most, scan-most         no refusal before any work is above 10
---     compile-first, compile-then                compile: the text decides, then the areas
+--     checks-first, checks-second, checks-none, checks-apart, checks-some   the answers of `check` of both books and their editions, as the
+--                                                rows of the lent books
+--     both-first, both-then                      refusals 1 to 5 and 15, then the others
+--     compile-early, view-early, scan-early      a refusal before any work is none of those that change lent memory
+--     compile-first, compile-then                compile: the text decides, then the edition and the areas
 --     through, compile-through, view-through, scan-through   what holds where nothing is refused
 --     view-admitted, view-kept                   the two ways on from `admit_view`, which both jobs of a view take
 -- Assumes nothing.
@@ -20,8 +21,8 @@ use Rattle.rules.specs.declared.Limits.{Limits}
 use Rattle.rules.specs.declared.Mode.{Mode}
 use Rattle.rules.specs.declared.View.{View}
 use Rattle.rules.specs.declared.Checked.{Checked}
-use Rattle.rules.specs.Sizes.{storedMost, textMost, linesMost, byteArea, wordArea}
-use Rattle.rules.specs.Bytes.{every}
+use Rattle.rules.specs.Sizes.{storedMost, textMost, linesMost, editionMost, byteArea, wordArea}
+use Rattle.rules.specs.Bytes.{within, every}
 use Rattle.rules.specs.Lines.{lineCount}
 use Rattle.rules.specs.Book as Book
 use Rattle.rules.specs.Book.{stored}
@@ -31,8 +32,7 @@ use Rattle.rules.specs.Jobs.{lent, check, CheckDone}
 use Rattle.rules.proofs.SoundLaws.{sound-most}
 use Rattle.rules.proofs.ShelfLaws.{two-length}
 use Rattle.rules.proofs.BoolLaws.{and-left, and-right}
-use Rattle.rules.proofs.DownLaws.{Each}
-use Rattle.rules.proofs.RefusalLaws.{refusal-first, refusal-then, refusal-most}
+use Rattle.rules.proofs.RefusalLaws.{early, allEarly, Numbered, refusal-first, refusal-then, refusal-early, compile-numbered, scan-numbered}
 use Rattle.preproc_test.specs.declared.Tested.{Tested}
 use Rattle.preproc_test.specs.Counts.{AsTested}
 use Rattle.detection_shelf.specs.declared.Counts.{Counts}
@@ -40,7 +40,7 @@ use Rattle.detection_shelf.specs.Shelves.{Shelf, booksOf, Lends, texts, CountsO
 use Rattle.detection_shelf.proofs.ShelfLaws.{lent-read}
 use Rattle.refusals.specs.declared.Admitted.{Admitted}
 use Rattle.refusals.specs.Admits.{AdmitsShelf, Admits, AdmitsBooks, AdmitsView, Through, ViewThrough, ScanThrough}
-use Rattle.refusals_rows.specs.Rows.{smallFor, viewRows, scanRows}
+use Rattle.refusals_rows.specs.Rows.{smallFor, compileRows, viewRows, scanRows}
 use Rattle.refusals.proofs.AreaLaws.{BothAfter, kept}
 
 -- ---- rows
@@ -82,9 +82,9 @@ text-through t h =
 pub tested-lines : (t : List ℕ) (r : Tested) → AsTested t r → r .refusal ≡ 0 → r .lines ≡ lineCount t
 tested-lines t r h z = h .lines ∙ rw (eq-eqb (refusal (ofText t)) 0 (sym (h .number) ∙ z))
 
--- ---- the answer of `check`, as the two rows of a book
-abbrev firstOf : (isSound isEmpty : Bool) → ℕ
-firstOf isSound isEmpty = cond (not isSound) 4 (cond isEmpty 5 0)
+-- ---- the answer of `check`, as the rows of a book
+abbrev firstOf : (isSound isEmpty isApart : Bool) → ℕ
+firstOf isSound isEmpty isApart = cond (not isSound) 4 (cond isEmpty 5 (cond isApart 15 0))
 
 module _ (book : List ℕ) (c : Checked) (d : CheckDone book c) where
   check-number : c .refusal ≡ refusal (ofCheck book)
@@ -107,7 +107,7 @@ module _ (book : List ℕ) (c : Checked) (d : CheckDone book c) where
           none : _≡_ {A = ℕ} 4 0 → ⊥
           none e = omega arith
 
--- ---- the answers of `check` of both books, as the two rows of the lent books: a second that is not lent is empty, and so sound
+-- ---- the answers of `check` of both books, as the rows of the lent books: a second that is not lent is empty, and so sound
 empty-sound : Book.sound [] ≡ true
 unfolding Book.sound Book.filled Book.stored Book.storedFrom Book.storedOf Book.storedIn Book.recordsOf Book.pieces recurse turns Book.goOn Book.front Book.soundRecords
 empty-sound = refl
@@ -129,7 +129,10 @@ module _ (books : Shelf) (two : Bool) (lends : Lends books two) where
   abbrev ofLent : ℕ
   ofLent = refusal (ofBooks (booksOf books two))
 
-  books-are : ofLent ≡ firstOf (Book.sound (books .first) && Book.sound (books .second)) (eqb (length (texts books)) 0)
+  abbrev apart : Bool
+  apart = Book.differ (booksOf books two)
+
+  books-are : ofLent ≡ firstOf (Book.sound (books .first) && Book.sound (books .second)) (eqb (length (texts books)) 0) apart
   unfolding refusal ofBooks
   books-are = rw (lent-sound, lent-read books two lends .texts)
 
@@ -141,7 +144,7 @@ module _ (books : Shelf) (two : Bool) (lends : Lends books two) where
   unfolding refusal ofCheck
   checks-first c x k = at (Book.sound (books .first)) (check-number (books .first) c x) ∙ sym books-are
     where
-      at : (s : Bool) → c .refusal ≡ cond (not s) 4 0 → c .refusal ≡ firstOf (s && Book.sound (books .second)) (eqb (length (texts books)) 0)
+      at : (s : Bool) → c .refusal ≡ cond (not s) 4 0 → c .refusal ≡ firstOf (s && Book.sound (books .second)) (eqb (length (texts books)) 0) apart
       at true e = absurd (k e)
       at false e = e
 
@@ -150,7 +153,7 @@ module _ (books : Shelf) (two : Bool) (lends : Lends books two) where
     unfolding refusal ofCheck
     checks-second k = at (Book.sound (books .second)) (check-number (books .second) d y) ∙ sym books-are
       where
-        at : (s : Bool) → d .refusal ≡ cond (not s) 4 0 → d .refusal ≡ firstOf (Book.sound (books .first) && s) (eqb (length (texts books)) 0)
+        at : (s : Bool) → d .refusal ≡ cond (not s) 4 0 → d .refusal ≡ firstOf (Book.sound (books .first) && s) (eqb (length (texts books)) 0) apart
         at true e = absurd (k e)
         at false e = rw (check-sound (books .first) c x z) e
 
@@ -170,27 +173,44 @@ module _ (books : Shelf) (two : Bool) (lends : Lends books two) where
         omega (arith, check-texts (books .second) d y w, sound-most (books .second) (check-sound (books .second) d y w)),
       )
 
-      rows-are : ofLent ≡ cond (eqb (length (texts books)) 0) 5 0
+      rows-are : ofLent ≡ cond (eqb (length (texts books)) 0) 5 (cond apart 15 0)
       rows-are = books-are ∙ rw (check-sound (books .first) c x z, check-sound (books .second) d y w)
 
       pub checks-none : c .texts + d .texts ≡ 0 → ofLent ≡ 5
       checks-none k = rows-are ∙ rw (eq-eqb (length (texts books)) 0 (sym (checks-counted (c .texts + d .texts) refl .all) ∙ k))
 
-      pub checks-some : (c .texts + d .texts ≡ 0 → ⊥) → ofLent ≡ 0
-      checks-some k = rows-are ∙ rw (ne-eqb (length (texts books)) 0 (λ e. k (checks-counted (c .texts + d .texts) refl .all ∙ e)))
+      module _ (k : c .texts + d .texts ≡ 0 → ⊥) where
+        editions-are : ofLent ≡ cond apart 15 0
+        editions-are = rows-are ∙ rw (ne-eqb (length (texts books)) 0 (λ e. k (checks-counted (c .texts + d .texts) refl .all ∙ e)))
 
--- ---- refusals 1 to 5, then the others
-text-numbered : (t : List ℕ) → Each (λ r. (1 ≤ r .number) × (r .number ≤ 10)) (ofText t)
-unfolding ofText
-text-numbered t = omega arith
+        pub checks-apart : apart ≡ true → ofLent ≡ 15
+        checks-apart q = editions-are ∙ rw q
+
+        pub checks-some : apart ≡ false → ofLent ≡ 0
+        checks-some q = editions-are ∙ rw q
+
+-- ---- the editions of the lent books
+pub lent-alone : (first second : List ℕ) (two : Bool) → two ≡ false → false ≡ Book.differ (booksOf (record { first = first; second = second }) two)
+unfolding Book.differ Book.allOf
+lent-alone first second two e = rw e refl
+
+pub lent-both : (first second : List ℕ) (two : Bool) → two ≡ true → (m n : ℕ) → m ≡ Book.edition second → n ≡ Book.edition first →
+    not (eqb m n) ≡ Book.differ (booksOf (record { first = first; second = second }) two)
+unfolding Book.differ Book.allOf
+lent-both first second two e m n p q = rw (e, p, q) (ap not (sym (and-true (eqb (Book.edition second) (Book.edition first)))))
+
+-- ---- refusals 1 to 5 and 15, then the others
+text-numbered : (t : List ℕ) → Numbered (ofText t)
+unfolding ofText allEarly early
+text-numbered t = refl
 
 module _ (t : List ℕ) (books : Shelf) (two : Bool) where
   abbrev both : List Row
   both = ofText t ++ ofBooks (booksOf books two)
 
-  both-numbered : Each (λ r. (1 ≤ r .number) × (r .number ≤ 10)) both
-  unfolding ofText ofBooks
-  both-numbered = omega arith
+  both-numbered : Numbered both
+  unfolding ofText ofBooks allEarly early
+  both-numbered = refl
 
   pub text-first : (refusal (ofText t) ≡ 0 → ⊥) → refusal (ofText t) ≡ refusal both
   text-first k = sym (refusal-first (ofText t) (ofBooks (booksOf books two)) k)
@@ -218,14 +238,17 @@ module _ (t : List ℕ) (books : Shelf) (two : Bool) where
           texts = λ _. h .texts z;
         }
 
--- ---- no number above those of the rows, of any lent books
-pub view-most : (t : List ℕ) (bs : List (List ℕ)) (v : View) (k : ℕ) (a : Areas) → refusal (ofView t bs v k a) ≤ 10
-unfolding ofView ofText ofBooks
-view-most t bs v k a = refusal-most (ofView t bs v k a) (omega arith)
+-- ---- a refusal before any work, of any lent books
+view-numbered : (t : List ℕ) (bs : List (List ℕ)) (v : View) (k : ℕ) (a : Areas) → Numbered (ofView t bs v k a)
+unfolding ofView ofText ofBooks allEarly early
+view-numbered t bs v k a = refl
 
-pub scan-most : (t : List ℕ) (bs : List (List ℕ)) (lim : Limits) (mode : Mode) (a : Areas) (results : ℕ) → refusal (beforeScan t bs lim mode a results) ≤ 10
-unfolding beforeScan ofText ofBooks
-scan-most t bs lim mode a results = refusal-most (beforeScan t bs lim mode a results) (omega arith)
+view-early : (t : List ℕ) (bs : List (List ℕ)) (v : View) (k : ℕ) (a : Areas) → (refusal (ofView t bs v k a) ≡ 0 → ⊥) → early (refusal (ofView t bs v k a)) ≡ true
+view-early t bs v k a = refusal-early (ofView t bs v k a) (view-numbered t bs v k a)
+
+pub scan-early : (t : List ℕ) (bs : List (List ℕ)) (lim : Limits) (mode : Mode) (a : Areas) (results : ℕ) → (refusal (beforeScan t bs lim mode a results) ≡ 0 → ⊥) →
+    early (refusal (beforeScan t bs lim mode a results)) ≡ true
+scan-early t bs lim mode a results = refusal-early (beforeScan t bs lim mode a results) (scan-numbered t bs lim mode a results)
 
 -- ---- what holds where nothing is refused
 none-first : (rs qs : List Row) → refusal (rs ++ qs) ≡ 0 → refusal rs ≡ 0
@@ -241,8 +264,8 @@ through t books two lends h =
     let all = Book.shelved 0 (booksOf books two) in
     let z = none-first (ofText t) (ofBooks (booksOf books two)) h in
     let p = text-through t z in
-    let a = row-passes 3 (not (Book.allSound (booksOf books two))) (row 5 (eqb (length all) 0) ∷ []) (text-then t books two z ∙ h) in
-    let b = row-passes 4 (eqb (length all) 0) [] (a .1) in
+    let a = row-passes 3 (not (Book.allSound (booksOf books two))) _ (text-then t books two z ∙ h) in
+    let b = row-passes 4 (eqb (length all) 0) _ (a .1) in
     let k = eqb-false (length all) 0 (b .0) in
     record { text = z; short = p .short; few = p .few; some = omega (arith, k, ap length (lent-read books two lends .texts)) }
 
@@ -250,29 +273,31 @@ pub both-through : (t : List ℕ) (books : Shelf) (two : Bool) → Lends books t
 both-through t books two lends h z = through t books two lends (sym (h .number) ∙ z)
 
 -- ---- compile
-module _ (t : List ℕ) (a : Areas) where
-  pub compile-first : (refusal (ofText t) ≡ 0 → ⊥) → refusal (ofText t) ≡ refusal (beforeCompile t a)
-  unfolding beforeCompile
-  compile-first k = sym (refusal-first (ofText t) (row 10 (small t a) ∷ []) k)
+module _ (e : ℕ) (t : List ℕ) (a : Areas) where
+  compile-rows : beforeCompile e t a ≡ ofText t ++ compileRows (length t) e a
+  unfolding beforeCompile compileRows small
+  compile-rows = refl
 
-  pub compile-then : refusal (ofText t) ≡ 0 → (b : Bool) → b ≡ smallFor (length t) a → cond b 10 0 ≡ refusal (beforeCompile t a)
-  unfolding beforeCompile refusal small
-  compile-then z b e = ap (λ (q : Bool). cond q 10 0) e ∙ sym (refusal-then (ofText t) (row 10 (small t a) ∷ []) (text-numbered t) z)
+  pub compile-first : (refusal (ofText t) ≡ 0 → ⊥) → refusal (ofText t) ≡ refusal (beforeCompile e t a)
+  compile-first k = sym (ap refusal compile-rows ∙ refusal-first (ofText t) (compileRows (length t) e a) k)
 
-  pub compile-most : refusal (beforeCompile t a) ≤ 10
-  unfolding beforeCompile ofText
-  compile-most = refusal-most (beforeCompile t a) (omega arith)
+  pub compile-then : refusal (ofText t) ≡ 0 → refusal (compileRows (length t) e a) ≡ refusal (beforeCompile e t a)
+  compile-then z = sym (ap refusal compile-rows ∙ refusal-then (ofText t) (compileRows (length t) e a) (text-numbered t) z)
+
+  pub compile-early : (refusal (beforeCompile e t a) ≡ 0 → ⊥) → early (refusal (beforeCompile e t a)) ≡ true
+  compile-early = refusal-early (beforeCompile e t a) (compile-numbered e t a)
 
   pub record CompileThrough : Type 0 where
     pub text : refusal (ofText t) ≡ 0
     pub bytes : byteArea (length t) ≤ a .bytes
     pub words : wordArea (length t) ≤ a .words
 
-  pub compile-through : refusal (beforeCompile t a) ≡ 0 → CompileThrough
-  unfolding beforeCompile small
+  pub compile-through : refusal (beforeCompile e t a) ≡ 0 → CompileThrough
+  unfolding compileRows
   compile-through h =
-      let z = none-first (ofText t) (row 10 (small t a) ∷ []) h in
-      let w = neither _ _ (row-passes 9 (small t a) [] (sym (refusal-then (ofText t) (row 10 (small t a) ∷ []) (text-numbered t) z) ∙ h) .0) in
+      let z = none-first (ofText t) (compileRows (length t) e a) (sym (ap refusal compile-rows) ∙ h) in
+      let x = row-passes 3 (not (within 1 editionMost e)) _ (compile-then z ∙ h) in
+      let w = neither _ _ (row-passes 9 (smallFor (length t) a) [] (x .1) .0) in
       record { text = z; bytes = ltb-false _ _ (w .0); words = ltb-false _ _ (w .1) }
 
 -- ---- a view
@@ -311,8 +336,8 @@ view-admitted t books two lends v k a h z = (view-through t books two lends v k 
 -- a refusal leaves both areas as they were
 pub view-kept : (t : List ℕ) (bs : List (List ℕ)) (v : View) (k : ℕ) (b w : List ℕ) (n : ℕ) → n ≡ refusal (ofView t bs v k (lent b w)) → (n ≡ 0 → ⊥) → BothAfter n b b w w
 view-kept t bs v k b w n e q =
-    let h : n ≤ 10 = omega (arith, view-most t bs v k (lent b w)) in
-    record { bytes = kept n b q h; words = kept n w q h }
+    let h : early n ≡ true = rw e (view-early t bs v k (lent b w) (λ z. q (e ∙ z))) in
+    record { bytes = kept n b h; words = kept n w h }
 
 -- ---- a scan
 module _ (t : List ℕ) (books : Shelf) (two : Bool) (lim : Limits) (mode : Mode) (a : Areas) (results : ℕ) where

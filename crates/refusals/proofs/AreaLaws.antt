@@ -2,17 +2,18 @@
 --     kept, zeroed                  one area
 --     BothAfter, both-zeroed        both areas of a job
 -- Assumes nothing.
-use mathlib.Core.Path.{_≡_, ap, _∙_}
+use mathlib.Core.Path.{_≡_, refl, ap, _∙_}
+use mathlib.Core.Bool.{true}
 use mathlib.Core.List.{List}
-use Prim.Native.Nat.{ℕ, _≤_}
-use native.Mathlib.Omega.{arith}
+use Prim.Native.Nat.{ℕ}
 use lib.ListN.{length, replicate}
 use borrow.Author.Tests.{ne-eqb}
 use Rattle.rules.specs.Jobs.{areaAfter}
+use Rattle.rules.proofs.RefusalLaws.{early, not-early}
 
-pub kept : (n : ℕ) (area : List ℕ) → (n ≡ 0 → ⊥) → n ≤ 10 → area ≡ areaAfter n area
-unfolding areaAfter
-kept n area k h = simp (ne-eqb n 0 k, ne-eqb n 11 (λ e. omega arith), ne-eqb n 12 (λ e. omega arith))
+pub kept : (n : ℕ) (area : List ℕ) → early n ≡ true → area ≡ areaAfter n area
+unfolding areaAfter early
+kept n area h = simp (ne-eqb n 0 (not-early 0 n refl h), ne-eqb n 11 (not-early 11 n refl h), ne-eqb n 12 (not-early 12 n refl h))
 
 -- the work kept the area's length n, and then n zeroes were written
 zeroed : (n : ℕ) (area left : List ℕ) → n ≡ length area → left ≡ replicate n 0 → left ≡ areaAfter 0 area

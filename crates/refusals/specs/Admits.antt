@@ -25,7 +25,7 @@ pub record Admits (t : List ℕ) (books : Shelf) (rows : List Row) (r : Admitted
   pub lines : r .refusal ≡ 0 → r .lines ≡ lineCount t
   pub texts : r .refusal ≡ 0 → CountsOf books (r .texts)
 
--- refusals 1 to 5, which the jobs share: the rows of the books that are lent
+-- refusals 1 to 5 and 15, which the jobs share: the rows of the books that are lent
 abbrev pub AdmitsBooks : (t : List ℕ) (books : Shelf) (two : Bool) (r : Admitted) → Type 0
 AdmitsBooks t books two r = Admits t books (ofText t ++ ofBooks (booksOf books two)) r
 

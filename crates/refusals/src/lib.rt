@@ -4,16 +4,18 @@
 ghost use mathlib.Core.Path.{_≡_};
 ghost use mathlib.Core.Bool.{false};
 ghost use mathlib.Core.List.{[]};
+ghost use Rattle.rules.specs.Book.{differ};
 ghost use Rattle.rules.specs.Jobs.{CheckDone};
 ghost use Rattle.rules.specs.Refusal.{refusal, beforeCompile};
-ghost use Rattle.detection_shelf.specs.Shelves.{shelf, Lends};
+ghost use Rattle.detection_shelf.specs.Shelves.{shelf, booksOf, Lends};
 ghost use Rattle.refusals.specs.Admits.{AdmitsShelf, AdmitsBooks, AdmitsView, AdmitsScan};
 use detection_check::check_book;
+use detection_edition::edition_of;
 use detection_shelf::Counts;
 use preproc_test::test_text;
+use refusals_rows::refuse_compile;
 use refusals_rows::refuse_scan;
 use refusals_rows::refuse_view;
-use refusals_rows::small_areas;
 use rules::Checked;
 use rules::Limits;
 use rules::Mode;
@@ -54,7 +56,17 @@ fn check_second(second: &[u8], two: bool) -> Checked
     }
 }
 
-// Refusals 4 and 5, by the rows of the lent books, one or two: one walk over each.
+// Whether a second book is lent, of another edition than the first: one book alone never differs.
+fn editions_differ(book: &[u8], second: &[u8], two: bool) -> bool
+    ensures { λ r. ⌜ r ≡ differ (booksOf (shelf (now (book .entry)) (now (second .entry))) two) ⌝ }
+{
+    if !two {
+        return false;
+    }
+    edition_of(second) != edition_of(book)
+}
+
+// Refusals 4, 5 and 15, by the rows of the lent books, one or two: one walk over each.
 pub fn admit_books(book: &[u8], second: &[u8], two: bool) -> BooksAdmitted
     requires { ⌜ Lends (shelf (now book) (now second)) two ⌝ }
     ensures { λ r. ⌜ AdmitsShelf (shelf (now (book .entry)) (now (second .entry))) two r ⌝ }
@@ -71,6 +83,9 @@ pub fn admit_books(book: &[u8], second: &[u8], two: bool) -> BooksAdmitted
     if all == 0 {
         return refused(5);
     }
+    if editions_differ(book, second, two) {
+        return refused(15);
+    }
     let texts = Counts {
         first: one.texts,
         all,
@@ -78,7 +93,7 @@ pub fn admit_books(book: &[u8], second: &[u8], two: bool) -> BooksAdmitted
     BooksAdmitted { refusal: 0, texts }
 }
 
-// Refusals 1 to 5: one walk over the text, and the books where the text is taken.
+// Refusals 1 to 5 and 15: one walk over the text, and the books where the text is taken.
 fn admit_text_books(text: &[u8], book: &[u8], second: &[u8], two: bool) -> Admitted
     requires { ⌜ Lends (shelf (now book) (now second)) two ⌝ }
     ensures { λ r. ⌜ AdmitsBooks (now (text .entry)) (shelf (now (book .entry)) (now (second .entry))) two r ⌝ }
@@ -102,19 +117,16 @@ fn admit_text_books(text: &[u8], book: &[u8], second: &[u8], two: bool) -> Admit
     }
 }
 
-// Before compile, with work areas of so many bytes and words: refusals 1 to 3 and 10.
-pub fn admit_compile(text: &[u8], bytes: usize, words: usize) -> u32
-    ensures { λ r. ⌜ r ≡ refusal (beforeCompile (now (text .entry)) (record { bytes = bytes; words = words })) ⌝ }
+// Before compile under an edition, with work areas of so many bytes and words: refusals 1 to 4 and 10.
+pub fn admit_compile(text: &[u8], edition: u32, bytes: usize, words: usize) -> u32
+    ensures { λ r. ⌜ r ≡ refusal (beforeCompile edition (now (text .entry)) (record { bytes = bytes; words = words })) ⌝ }
 {
     let tested = test_text(text);
     let number = tested.refusal;
     if number != 0 {
         return number;
     }
-    if small_areas(text.len(), bytes, words) {
-        return 10;
-    }
-    0
+    refuse_compile(text.len(), edition, bytes, words)
 }
 
 // Before the score or the bounds of a view against the stored text k, with work areas of so many bytes and words. `two`: the second book is lent.

@@ -1,4 +1,4 @@
--- The rows of a view and of a scan behind those of the text and the books, over numbers.
+-- The rows of compile, of a view and of a scan behind those of the text and the books, over numbers.
 -- Assumes nothing.
 use Prim.Native.Nat.{ℕ}
 use mathlib.Core.Bool.{Bool, not, _&&_, _||_}
@@ -7,12 +7,18 @@ use lib.Dec.{leb, ltb}
 use Rattle.rules.specs.declared.Limits.{Limits}
 use Rattle.rules.specs.declared.Mode.{Mode}
 use Rattle.rules.specs.declared.View.{View}
-use Rattle.rules.specs.Sizes.{byteArea, wordArea}
+use Rattle.rules.specs.Sizes.{editionMost, byteArea, wordArea}
+use Rattle.rules.specs.Bytes.{within}
 use Rattle.rules.specs.Refusal.{Row, row, Areas, unit, stepZero, resultsNeed}
 
--- the rows that follow those five, over the text's length, L and N
+-- the rows that follow those, over the text's length, L and N
 abbrev pub smallFor : ℕ → Areas → Bool
 smallFor n a = ltb (a .bytes) (byteArea n) || ltb (a .words) (wordArea n)
+
+unfoldable pub compileRows : (n e : ℕ) → Areas → List Row
+compileRows n e a =
+    row 4 (not (within 1 editionMost e)) ∷
+    row 10 (smallFor n a) ∷ []
 
 unfoldable pub viewRows : (n lines texts : ℕ) → View → ℕ → Areas → List Row
 viewRows n lines texts v k a =

@@ -1,4 +1,4 @@
-// The rows of refusals that are tested by numbers alone: areas, views, limits, results. In the rules' order.
+// The rows of refusals that are tested by numbers alone: editions, areas, views, limits, results. In the rules' order.
 // Added to spdx 0.13.6 (detection/scan.rs, Copyright 2018 Amazon.com, Inc. or its affiliates. All Rights Reserved.
 // SPDX-License-Identifier: Apache-2.0), which refuses nothing. Assumes nothing.
 ghost use mathlib.Core.Path.{_≡_};
@@ -7,16 +7,18 @@ ghost use Prim.Native.Nat.{_≤_};
 ghost use lib.Dec.{ltb, leb};
 ghost use Rattle.rules.specs.Sizes.{textMost, linesMost, byteArea, wordArea};
 ghost use Rattle.rules.specs.Refusal.{refusal, unit, stepZero, resultsNeed};
-ghost use Rattle.refusals_rows.specs.Rows.{viewRows, scanRows};
+ghost use Rattle.refusals_rows.specs.Rows.{compileRows, viewRows, scanRows};
 use rules::AREA_SPARE;
 use rules::BYTES_EACH;
+use rules::EDITION_FIRST;
+use rules::EDITION_MOST;
 use rules::Limits;
 use rules::Mode;
 use rules::RECORD_WIDTH;
 use rules::View;
 use rules::WORDS_EACH;
 
-pub fn small_areas(n: usize, bytes: usize, words: usize) -> bool
+fn small_areas(n: usize, bytes: usize, words: usize) -> bool
     requires { ⌜ n ≤ textMost ⌝ }
     ensures { λ r. ⌜ r ≡ (ltb bytes (byteArea n) || ltb words (wordArea n)) ⌝ }
 {
@@ -24,6 +26,23 @@ pub fn small_areas(n: usize, bytes: usize, words: usize) -> bool
         return true;
     }
     words < WORDS_EACH * n + AREA_SPARE
+}
+
+// Refusals 4 and 10 of compile, of a text of n bytes.
+pub fn refuse_compile(n: usize, edition: u32, bytes: usize, words: usize) -> u32
+    requires { ⌜ n ≤ textMost ⌝ }
+    ensures { λ r. ⌜ r ≡ refusal (compileRows n edition (record { bytes = bytes; words = words })) ⌝ }
+{
+    if edition < EDITION_FIRST {
+        return 4;
+    }
+    if EDITION_MOST < edition {
+        return 4;
+    }
+    if small_areas(n, bytes, words) {
+        return 10;
+    }
+    0
 }
 
 fn view_inside(v: View, lines: usize) -> bool

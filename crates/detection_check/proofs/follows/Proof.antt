@@ -17,24 +17,33 @@ returns-2 : tie.Need-returns-2
 unfolding follows
 returns-2 c = simp (ne-eqb _ _ (c .before .if1 .left), eq-eqb _ _ (c .if2 .taken))
 
-within-requires : tie.Need-within-requires
-within-requires c κs = search needs
-
 returns-3 : tie.Need-returns-3
 unfolding follows
-returns-3 c =
-    let e : within 3 5 (c .before .before .before .before .args .b) ≡ false = sym (c .before .within .ensures) ∙ not-true _ (c .if3 .taken) in
-    simp (ne-eqb _ _ (c .before .before .before .if1 .left), ne-eqb _ _ (c .before .before .if2 .left), e)
+returns-3 c = simp (ne-eqb _ _ (c .before .before .if1 .left), ne-eqb _ _ (c .before .if2 .left), eq-eqb _ _ (c .if3 .taken))
 
-within-requires-2 : tie.Need-within-requires-2
-within-requires-2 c κs = search needs
+within-requires : tie.Need-within-requires
+within-requires c κs = search needs
 
 returns-4 : tie.Need-returns-4
 unfolding follows
 returns-4 c =
-    let e : within 3 5 (c .before .before .before .before .before .args .b) ≡ true = sym (c .before .before .within .ensures) ∙ not-false _ (c .before .if3 .left) in
-    c .within2 .ensures ∙ simp (ne-eqb _ _ (c .before .before .before .before .if1 .left), ne-eqb _ _ (c .before .before .before .if2 .left), e)
+    let tested : tie.After-within = search in
+    let begin : tie.Start = search in
+    let e : within 3 5 (begin .args .b) ≡ false = sym (tested .within .ensures) ∙ not-true _ (c .if4 .taken) in
+    simp (ne-eqb _ _ (tested .before .before .before .if1 .left), ne-eqb _ _ (tested .before .before .if2 .left), ne-eqb _ _ (tested .before .if3 .left), e)
+
+within-requires-2 : tie.Need-within-requires-2
+within-requires-2 c κs = search needs
+
+returns-5 : tie.Need-returns-5
+unfolding follows
+returns-5 c =
+    let tested : tie.After-within = search in
+    let begin : tie.Start = search in
+    let e : within 3 5 (begin .args .b) ≡ true = sym (tested .within .ensures) ∙ not-false _ (c .before .if4 .left) in
+    c .within2 .ensures ∙
+    simp (ne-eqb _ _ (tested .before .before .before .if1 .left), ne-eqb _ _ (tested .before .before .if2 .left), ne-eqb _ _ (tested .before .if3 .left), e)
 
 pub follows-spec : {M : Type 1} → statement M
 follows-spec =
-    tie.close (tie.spec returns returns-2 within-requires returns-3 within-requires-2 returns-4)
+    tie.close (tie.spec returns returns-2 returns-3 within-requires returns-4 within-requires-2 returns-5)

@@ -1,11 +1,11 @@
--- `refusals::admit_books` meets its contract: the checks of both books, as the rows of the lent ones.
+-- `refusals::admit_books` meets its contract: the checks of both books, and their editions, as the rows of the lent ones.
 -- Assumes nothing.
-use mathlib.Core.Path.{refl, sym}
+use mathlib.Core.Path.{refl, sym, _∙_}
 use denote.Ref.{now}
 use native.Mathlib.Omega.{arith}
 use borrow.Author.Needs.{needs}
 use Rattle.detection_shelf.specs.Shelves.{shelf}
-use Rattle.refusals.proofs.AdmitLaws.{shelf-refused, checks-first, checks-second, checks-counted, checks-fit, checks-none, checks-some}
+use Rattle.refusals.proofs.AdmitLaws.{shelf-refused, checks-first, checks-second, checks-counted, checks-fit, checks-none, checks-apart, checks-some}
 use Rattle.refusals.proofs.admit_books.Statement.{statement}
 use Rattle.refusals.proofs.admit_books.Tie as tie
 
@@ -69,6 +69,22 @@ returns-3 c =
 
 returns-4 : tie.Need-returns-4
 returns-4 c =
+    let h : tie.Then4 = search in
+    let some : tie.Else3 = search in
+    let compared : tie.After-editions-differ = search in
+    let g : tie.Else2 = search in
+    let one = checked-first g in
+    let p = start one in
+    let a = p .args in
+    let s = shelf (now (a .book)) (now (a .second)) in
+    rw (c .refused4 .ensures)
+    (shelf-refused s (a .two) (p .pre) _ _
+    (sym (checks-apart s (a .two) (p .pre) _ _ (one .check-book .ensures) (checked-second g .check-second .ensures) (sound-first g .if1 .left) (g .if2 .left) (some .if3 .left) (sym (compared .editions-differ .ensures) ∙ h .if4 .taken))) (λ e. omega arith))
+
+returns-5 : tie.Need-returns-5
+returns-5 c =
+    let some : tie.Else3 = search in
+    let compared : tie.After-editions-differ = search in
     let g : tie.Else2 = search in
     let first = checked-first g .check-book .ensures in
     let other = checked-second g .check-second .ensures in
@@ -76,7 +92,7 @@ returns-4 c =
     let a = p .args in
     let s = shelf (now (a .book)) (now (a .second)) in
     record {
-      number = sym (checks-some s (a .two) (p .pre) _ _ first other (sound-first g .if1 .left) (g .if2 .left) (c .if3 .left));
+      number = sym (checks-some s (a .two) (p .pre) _ _ first other (sound-first g .if1 .left) (g .if2 .left) (some .if3 .left) (sym (compared .editions-differ .ensures) ∙ c .if4 .left));
       texts = λ _. checks-counted s (a .two) (p .pre) _ _ first other (sound-first g .if1 .left) (g .if2 .left) _ refl;
     }
 
@@ -93,4 +109,7 @@ admit-books-spec =
     add-all
     (λ c κs. search needs)
     returns-3
-    returns-4)
+    (λ c κs. search needs)
+    (λ c κs. search needs)
+    returns-4
+    returns-5)

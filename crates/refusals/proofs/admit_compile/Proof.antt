@@ -1,7 +1,6 @@
--- `refusals::admit_compile` meets its contract: the text decides, then the areas.
+-- `refusals::admit_compile` meets its contract: the text decides, then the edition and the areas.
 -- Assumes nothing.
-use mathlib.Core.Path.{sym, ap, _∙_}
-use mathlib.Core.Bool.{Bool, cond}
+use mathlib.Core.Path.{sym, _∙_}
 use native.Mathlib.Omega.{arith}
 use borrow.Author.Needs.{needs}
 use Rattle.preproc_test.proofs.CountLaws.{passed-length}
@@ -11,19 +10,17 @@ use Rattle.refusals.proofs.admit_compile.Tie as tie
 
 returns : tie.Need-returns
 returns c =
-    let e = c .before .test-text .ensures .number in
-    e ∙ compile-first _ _ (λ z. c .if1 .taken (e ∙ z))
+    let tested : tie.After-test-text = search in
+    let e = tested .test-text .ensures .number in
+    e ∙ compile-first _ _ _ (λ z. c .if1 .taken (e ∙ z))
 
-small-areas-requires : tie.Need-small-areas-requires
-small-areas-requires c κs = omega (arith, passed-length _ (sym (c .before .test-text .ensures .number) ∙ c .if1 .left))
+refuse-compile-requires : tie.Need-refuse-compile-requires
+refuse-compile-requires c κs = omega (arith, passed-length _ (sym (c .before .test-text .ensures .number) ∙ c .if1 .left))
 
 returns-2 : tie.Need-returns-2
 returns-2 c =
-    sym (ap (λ (q : Bool). cond q 10 0) (c .if2 .taken)) ∙ compile-then _ _ (sym (c .before .before .before .test-text .ensures .number) ∙ c .before .before .if1 .left) _ (c .before .small-areas .ensures)
-
-returns-3 : tie.Need-returns-3
-returns-3 c =
-    sym (ap (λ (q : Bool). cond q 10 0) (c .if2 .left)) ∙ compile-then _ _ (sym (c .before .before .before .test-text .ensures .number) ∙ c .before .before .if1 .left) _ (c .before .small-areas .ensures)
+    let tested : tie.After-test-text = search in
+    c .refuse-compile .ensures ∙ compile-then _ _ _ (sym (tested .test-text .ensures .number) ∙ c .before .if1 .left)
 
 pub admit-compile-spec : {M : Type 1} → statement M
-admit-compile-spec = tie.close (tie.spec (λ c κs. search needs) returns small-areas-requires returns-2 returns-3)
+admit-compile-spec = tie.close (tie.spec (λ c κs. search needs) returns refuse-compile-requires returns-2)
