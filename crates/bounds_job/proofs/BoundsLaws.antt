@@ -6,8 +6,9 @@ use Prim.Native.Nat.{ℕ}
 use borrow.Author.Tests.{ne-eqb}
 use Rattle.rules.specs.declared.View.{View}
 use Rattle.rules.specs.declared.Bounded.{Bounded}
+use Rattle.rules.specs.Lines.{lines}
 use Rattle.rules.specs.Search.{Stored}
-use Rattle.rules.specs.Book.{shelved}
+use Rattle.rules.specs.Book.{shelved, editionOf}
 use Rattle.rules.specs.Refusal.{refusal, ofView}
 use Rattle.rules.specs.Jobs.{lent, boundsFound, boundsJob, BoundsDone}
 use Rattle.refusals.proofs.AdmitLaws.{view-kept}
@@ -24,7 +25,7 @@ module _ (t : List ℕ) (bs : List (List ℕ)) (v : View) (k : ℕ) (b₀ w₀ :
       let areas = view-kept t bs v k b₀ w₀ n e q in
       rw r (record { answer = rw (← e, ne-eqb n 0 q); bytes = areas .bytes; words = areas .words })
 
-  pub bounds-done : (ss : List Stored) → shelved 0 bs ≡ ss → (x : Bounded) → number ≡ 0 → x ≡ boundsFound t ss v k → {b w : List ℕ} → BothAfter 0 b₀ b w₀ w →
+  pub bounds-done : (ss : List Stored) → shelved 0 bs ≡ ss → (x : Bounded) → number ≡ 0 → x ≡ boundsFound (lines (editionOf bs) t) ss v k → {b w : List ℕ} → BothAfter 0 b₀ b w₀ w →
       BoundsDone t bs v k b₀ b w₀ w x
   unfolding boundsJob boundsFound
   bounds-done ss s x z e areas =

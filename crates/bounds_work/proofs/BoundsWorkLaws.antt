@@ -11,7 +11,6 @@ use borrow.Author.Tests.{le-leb}
 use Rattle.rules.specs.declared.View.{View}
 use Rattle.rules.specs.declared.Bounded.{Bounded}
 use Rattle.rules.specs.Sizes.{linesMost}
-use Rattle.rules.specs.Lines.{lines}
 use Rattle.rules.specs.Search.{Stored, noText, bounds}
 use Rattle.rules.specs.Count.{mostFor}
 use Rattle.rules.specs.Jobs.{boundsFound}
@@ -64,7 +63,7 @@ module _ (ls : List (List ℕ)) (v : View) (s : Stored) (order : v .start ≤ v 
         paid : count ≤ boundsMost → boundsMost - (boundsMost - count) ≡ count
         paid h = omega arith
 
-pub bounds-found : (t : List ℕ) (ss : List Stored) (ls : List (List ℕ)) (v : View) (k : ℕ) (x : Bounded) (order : v .start ≤ v .end) (inside : v .end ≤ linesMost) → ls ≡ lines t →
-    x ≡ answer ls v (getD ss k noText) order inside → x ≡ boundsFound t ss v k
+pub bounds-found : (ms : List (List ℕ)) (ss : List Stored) (ls : List (List ℕ)) (v : View) (k : ℕ) (x : Bounded) (order : v .start ≤ v .end) (inside : v .end ≤ linesMost) → ls ≡ ms →
+    x ≡ answer ls v (getD ss k noText) order inside → x ≡ boundsFound ms ss v k
 unfolding boundsFound
-bounds-found t ss ls v k x order inside l e = e ∙ rw l
+bounds-found ms ss ls v k x order inside l e = e ∙ rw l

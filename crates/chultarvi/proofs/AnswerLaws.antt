@@ -13,8 +13,8 @@ use Rattle.rules.specs.declared.Scanned.{Scanned}
 use Rattle.rules.specs.declared.NamedText.{NamedText}
 use Rattle.rules.specs.Jobs.{CompileDone, ScoreDone, BoundsDone, NameDone, ScanDone}
 
-pub compile-as : {t b₀ b w₀ w o₀ o : List ℕ} {x y : Compiled} → x ≡ y → CompileDone t b₀ b w₀ w o₀ o x → CompileDone t b₀ b w₀ w o₀ o y
-compile-as {t} {b₀} {b} {w₀} {w} {o₀} {o} e d = subst (λ (z : Compiled). CompileDone t b₀ b w₀ w o₀ o z) e d
+pub compile-as : {e : ℕ} {t b₀ b w₀ w o₀ o : List ℕ} {x y : Compiled} → x ≡ y → CompileDone e t b₀ b w₀ w o₀ o x → CompileDone e t b₀ b w₀ w o₀ o y
+compile-as {e} {t} {b₀} {b} {w₀} {w} {o₀} {o} q d = subst (λ (z : Compiled). CompileDone e t b₀ b w₀ w o₀ o z) q d
 
 pub score-as : {t : List ℕ} {bs : List (List ℕ)} {v : View} {k : ℕ} {b₀ b w₀ w : List ℕ} {x y : Scored} → x ≡ y → ScoreDone t bs v k b₀ b w₀ w x →
     ScoreDone t bs v k b₀ b w₀ w y

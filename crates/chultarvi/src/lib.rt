@@ -3,6 +3,7 @@
 ghost use mathlib.Core.Path.{_≡_};
 ghost use mathlib.Core.List.{[], _∷_};
 ghost use Rattle.rules.specs.Search.{view};
+ghost use Rattle.rules.specs.Book.{edition};
 ghost use Rattle.rules.specs.declared.Mode.the-variants.{Elimination, TopDown};
 ghost use Rattle.answers_c.specs.Answers.{compiledOf, scoredOf, boundedOf, scannedOf, namedOf};
 ghost use Rattle.rules.specs.Jobs.{ScoreDone, BoundsDone, NameDone, ScanDone, check, CompileDone};
@@ -22,6 +23,7 @@ use bounds_job::bounds_both;
 use bounds_job::bounds_of;
 use compile::compile;
 use detection_check::check_book;
+use detection_edition::edition_of;
 use name_job::name_both;
 use name_job::name_of;
 use rules::Limits;
@@ -40,16 +42,26 @@ pub extern "C" fn chultarvi_check_book(book: &[u8]) -> BookChecked
     checked_for_c(checked)
 }
 
+// The edition of any bytes: of a sound book, its own.
+#[no_mangle]
+pub extern "C" fn chultarvi_edition(book: &[u8]) -> u32
+    ensures { λ r. ⌜ r ≡ edition (now (book .entry)) ⌝ }
+{
+    edition_of(book)
+}
+
+// A wide edition, so that a caller's 65,538 is refused and not cut to 2.
 #[no_mangle]
 pub extern "C" fn chultarvi_compile(
     text: &[u8],
+    edition: u32,
     area: &mut [u8],
     words: &mut [u32],
     out: &mut [u8],
 ) -> TextCompiled
-    ensures { λ r. ⌜ CompileDone (now (text .entry)) (now (area .entry)) (now (area .exit)) (now (words .entry)) (now (words .exit)) (now (out .entry)) (now (out .exit)) (compiledOf r) ⌝ }
+    ensures { λ r. ⌜ CompileDone edition (now (text .entry)) (now (area .entry)) (now (area .exit)) (now (words .entry)) (now (words .exit)) (now (out .entry)) (now (out .exit)) (compiledOf r) ⌝ }
 {
-    let compiled = compile(text, area, words, out);
+    let compiled = compile(text, edition, area, words, out);
     compiled_for_c(compiled)
 }
 

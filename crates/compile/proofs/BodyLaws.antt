@@ -64,12 +64,12 @@ whole-viewed : (ls : List (List ℕ)) (v : View) → v .start ≡ 0 → v .end �
 unfolding viewed
 whole-viewed ls v s e = rw s (take-all (v .end - 0) ls (omega (arith, e)))
 
-pub compiled-is : (t : List ℕ) (ls : List (List ℕ)) (n : ℕ) (u : Table) → ls ≡ lines t → n ≡ lineCount t → u ≡ viewTable (viewed ls (record { start = 0; end = n })) →
-    tableOut u ≡ compiled t
+pub compiled-is : (e : ℕ) (t : List ℕ) (ls : List (List ℕ)) (n : ℕ) (u : Table) → ls ≡ lines e t → n ≡ lineCount t → u ≡ viewTable (viewed ls (record { start = 0; end = n })) →
+    tableOut u ≡ compiled e t
 unfolding compiled
-compiled-is t ls n u e c h =
-    let w = whole-viewed ls (record { start = 0; end = n }) refl (c ∙ sym (lines-count t) ∙ ap length (sym e)) in
-    ap tableOut (h ∙ ap viewTable (w ∙ e))
+compiled-is e t ls n u l c h =
+    let w = whole-viewed ls (record { start = 0; end = n }) refl (c ∙ sym (lines-count e t) ∙ ap length (sym l)) in
+    ap tableOut (h ∙ ap viewTable (w ∙ l))
 
 pub bodied-as : (a b out₀ : List ℕ) (r : Compiled) (out : List ℕ) → a ≡ b → Bodied a out₀ r out → Bodied b out₀ r out
 bodied-as a b out₀ r out e h = subst (λ (l : List ℕ). Bodied l out₀ r out) e h

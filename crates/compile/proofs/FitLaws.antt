@@ -64,6 +64,6 @@ table-long s =
     rw (length-append, length-append, length-written 4 (length (bigrams s)), length-written 4 (length (tallied (bigrams s))))
     (omega (arith, tallied-long (bigrams s), bigrams-bulk s))
 
-pub compiled-fits : (t : List ℕ) → length (compiled t) ≤ 24 * length t + 64
+pub compiled-fits : (e : ℕ) (t : List ℕ) → length (compiled e t) ≤ 24 * length t + 64
 unfolding compiled viewTable
-compiled-fits t = omega (arith, table-long (aggressive (lines t)), aggressive-length (lines t), lines-size t)
+compiled-fits e t = omega (arith, table-long (aggressive (lines e t)), aggressive-length (lines e t), lines-size e t)

@@ -18,12 +18,12 @@ use Rattle.rules.proofs.WordLaws.{aggressive-words}
 use Rattle.preproc_test.proofs.CountLaws.{passed-length}
 use Rattle.ngram_body.proofs.SoundBody.{body-sound, body-again}
 
-module _ (t : List ℕ) (e : refusal (ofText t) ≡ 0) where
+module _ (e : ℕ) (t : List ℕ) (z : refusal (ofText t) ≡ 0) where
   abbrev processed : List ℕ
-  processed = aggressive (lines t)
+  processed = aggressive (lines e t)
 
   short : length processed ≤ totalMost
-  short = omega (arith, aggressive-length (lines t), lines-size t, passed-length t e)
+  short = omega (arith, aggressive-length (lines e t), lines-size e t, passed-length t z)
 
   fits : length processed < 256 ^ 4
   fits = let s = short in omega arith
@@ -31,10 +31,10 @@ module _ (t : List ℕ) (e : refusal (ofText t) ≡ 0) where
   few : length (bigrams processed) ≤ totalMost
   few = omega (arith, short, bigrams-length processed)
 
-  pub compiled-sound : soundTable (compiled t) (entriesOf (compiled t)) ≡ true
+  pub compiled-sound : soundTable (compiled e t) (entriesOf (compiled e t)) ≡ true
   unfolding compiled viewTable
-  compiled-sound = body-sound processed fits few (aggressive-words (lines t))
+  compiled-sound = body-sound processed fits few (aggressive-words (lines e t))
 
-  pub compiled-again : tableIn (compiled t) (entriesOf (compiled t)) ≡ viewTable (lines t)
+  pub compiled-again : tableIn (compiled e t) (entriesOf (compiled e t)) ≡ viewTable (lines e t)
   unfolding compiled viewTable
   compiled-again = body-again processed fits few

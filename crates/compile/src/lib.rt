@@ -1,4 +1,4 @@
-// The job `compile`: a text's table, as the body that a book stores.
+// The job `compile`: a text's table under an edition, as the body that a book stores.
 // From detection/license.rs and ngram.rs of spdx 0.13.6 (Copyright 2018 Amazon.com, Inc. or its affiliates. All Rights Reserved.
 // SPDX-License-Identifier: Apache-2.0), changed: the table goes to lent memory as bytes. Assumes nothing.
 ghost use mathlib.Core.Path.{_≡_};
@@ -54,13 +54,19 @@ fn write_body(area: &[u8], words: &[u32], n: usize, t: Viewed, out: &mut [u8]) -
 }
 
 // The work, on a text that is let through in areas that fit. Both areas are zero after it.
-pub fn compile_through(text: &[u8], area: &mut [u8], words: &mut [u32], out: &mut [u8]) -> Compiled
+pub fn compile_through(
+    text: &[u8],
+    edition: u32,
+    area: &mut [u8],
+    words: &mut [u32],
+    out: &mut [u8],
+) -> Compiled
     requires { ⌜ (refusal (ofText (now text)) ≡ 0) × (byteArea (length (now text)) ≤ length (now area)) × (wordArea (length (now text)) ≤ length (now words)) ⌝ }
-    ensures body { λ r. ⌜ Bodied (compiled (now (text .entry))) (now (out .entry)) r (now (out .exit)) ⌝ }
+    ensures body { λ r. ⌜ Bodied (compiled edition (now (text .entry))) (now (out .entry)) r (now (out .exit)) ⌝ }
     ensures bytes { λ r. ⌜ now (area .exit) ≡ replicate (length (now (area .entry))) 0 ⌝ }
     ensures words { λ r. ⌜ now (words .exit) ≡ replicate (length (now (words .entry))) 0 ⌝ }
 {
-    let class = class_table();
+    let class = class_table(edition);
     let n = text.len();
     let lines = lay(&class, text, area, words);
     let whole = View {
@@ -73,16 +79,22 @@ pub fn compile_through(text: &[u8], area: &mut [u8], words: &mut [u32], out: &mu
     answer
 }
 
-// Any text, any lent memory. n log n in the text.
-pub fn compile(text: &[u8], area: &mut [u8], words: &mut [u32], out: &mut [u8]) -> Compiled
-    ensures { λ r. ⌜ CompileDone (now (text .entry)) (now (area .entry)) (now (area .exit)) (now (words .entry)) (now (words .exit)) (now (out .entry)) (now (out .exit)) r ⌝ }
+// Any text, any edition, any lent memory. n log n in the text.
+pub fn compile(
+    text: &[u8],
+    edition: u32,
+    area: &mut [u8],
+    words: &mut [u32],
+    out: &mut [u8],
+) -> Compiled
+    ensures { λ r. ⌜ CompileDone edition (now (text .entry)) (now (area .entry)) (now (area .exit)) (now (words .entry)) (now (words .exit)) (now (out .entry)) (now (out .exit)) r ⌝ }
 {
-    let number = admit_compile(text, area.len(), words.len());
+    let number = admit_compile(text, edition, area.len(), words.len());
     if number != 0 {
         return Compiled {
             refusal: number,
             len: 0,
         };
     }
-    compile_through(text, area, words, out)
+    compile_through(text, edition, area, words, out)
 }

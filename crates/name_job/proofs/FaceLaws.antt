@@ -28,7 +28,7 @@ use Rattle.rules.specs.Bytes.{every}
 use Rattle.rules.specs.Lines.{lineCount}
 use Rattle.rules.specs.Search.{Stored, noText, noBest}
 use Rattle.rules.specs.Scan.{names, records, verdict}
-use Rattle.rules.specs.Book.{allSound, shelved, noPart, nameParts, partIn, Lies, ReadAs}
+use Rattle.rules.specs.Book.{allSound, shelved, differ, noPart, nameParts, partIn, Lies, ReadAs}
 use Rattle.rules.specs.Refusal.{refusal, Areas, ofText, ofBooks, ofName, beforeScan, ofScan}
 use Rattle.rules.specs.Jobs.{lent, happened, named, namePart, answered, scan, numbered, nameJob, ScanDone, NameDone}
 use Rattle.rules.proofs.DownLaws.{Each, each-at, each-of}
@@ -40,22 +40,23 @@ use Rattle.rules.proofs.RefusalLaws.{scan-zero, scan-only}
 use Rattle.refusals.proofs.AdmitLaws.{row-passes}
 use Rattle.name_job.proofs.RecordLaws.{happened-held}
 
--- ---- 0 exactly where the books are sound and have so many texts
+-- ---- 0 exactly where the books are sound, of one edition, and have so many texts
 module _ (bs : List (List ℕ)) (k : ℕ) where
   abbrev stored : Stored
   stored = getD (shelved 0 bs) k noText
 
-  zero-only : refusal (ofName bs k) ≡ 0 → (allSound bs ≡ true) × (k < length (shelved 0 bs))
+  zero-only : refusal (ofName bs k) ≡ 0 → (allSound bs ≡ true) × (differ bs ≡ false) × (k < length (shelved 0 bs))
   unfolding ofName ofBooks
   zero-only z =
       let four = row-passes 3 (not (allSound bs)) _ z in
       let five = row-passes 4 (eqb (length (shelved 0 bs)) 0) _ (four .1) in
-      let nine = row-passes 8 (leb (length (shelved 0 bs)) k) [] (five .1) in
-      (not-false _ (four .0), leb-false _ _ (nine .0))
+      let fifteen = row-passes 14 (differ bs) _ (five .1) in
+      let nine = row-passes 8 (leb (length (shelved 0 bs)) k) [] (fifteen .1) in
+      (not-false _ (four .0), fifteen .0, leb-false _ _ (nine .0))
 
-  zero-there : allSound bs ≡ true → k < length (shelved 0 bs) → refusal (ofName bs k) ≡ 0
+  zero-there : allSound bs ≡ true → differ bs ≡ false → k < length (shelved 0 bs) → refusal (ofName bs k) ≡ 0
   unfolding ofName ofBooks refusal
-  zero-there s l = rw (s, ne-eqb (length (shelved 0 bs)) 0 (λ e. omega (arith, e, l)), lt-leb (length (shelved 0 bs)) k l)
+  zero-there s o l = rw (s, ne-eqb (length (shelved 0 bs)) 0 (λ e. omega (arith, e, l)), o, lt-leb (length (shelved 0 bs)) k l)
 
   numbered-there : refusal (ofName bs k) ≡ 0 → numbered (refusal (ofName bs k)) bs k ≡ stored
   unfolding numbered
@@ -66,11 +67,11 @@ module _ {bs : List (List ℕ)} {k : ℕ} {a : NamedText} (d : NameDone bs k a) 
   unfolding nameJob
   number = ap (λ (x : NamedText). x .refusal) (d .answer)
 
-  pub only-named : a .refusal ≡ 0 → (allSound bs ≡ true) × (k < length (shelved 0 bs))
+  pub only-named : a .refusal ≡ 0 → (allSound bs ≡ true) × (differ bs ≡ false) × (k < length (shelved 0 bs))
   only-named e = zero-only bs k (sym number ∙ e)
 
-  pub all-named : allSound bs ≡ true → k < length (shelved 0 bs) → a .refusal ≡ 0
-  all-named s l = number ∙ zero-there bs k s l
+  pub all-named : allSound bs ≡ true → differ bs ≡ false → k < length (shelved 0 bs) → a .refusal ≡ 0
+  all-named s o l = number ∙ zero-there bs k s o l
 
   pub kind-named : a .refusal ≡ 0 → a .kind ≡ stored bs k .kind
   unfolding nameJob
@@ -96,7 +97,7 @@ module _ {bs : List (List ℕ)} {k : ℕ} {a : NamedText} (d : NameDone bs k a) 
     pub named-spelled : a .refusal ≡ 0 → partIn first second (a .part) ≡ stored bs k .name
     named-spelled e =
         let both = first ∷ second ∷ [] in
-        let l : k < length (shelved 0 both) = omega (arith, only-named e .1, ap length (read .texts)) in
+        let l : k < length (shelved 0 both) = omega (arith, only-named e .2, ap length (read .texts)) in
         ap (partIn first second) (part-there e) ∙
         rw (read .names, read .texts) (each-at (λ s. partIn first second (namePart (nameParts false both) s) ≡ s .name) (shelved 0 both) k noText l (text-named first second))
 
@@ -114,7 +115,7 @@ module _ {bs : List (List ℕ)} {k : ℕ} {a : NamedText} (d : NameDone bs k a) 
         at true q =
             let z = eqb-true (a .refusal) 0 q in
             let o = only-named z in
-            let s = each-at StoredSound (shelved 0 bs) k noText (o .1) (shelved-sound 0 bs (o .0)) in
+            let s = each-at StoredSound (shelved 0 bs) k noText (o .2) (shelved-sound 0 bs (o .0)) in
             omega (arith, spelled-length (named-spelled z), s .name-to)
         at false q = let none = ap (λ (p : Named). p .len) (part-none (eqb-false (a .refusal) 0 q)) in omega (arith, none)
 
@@ -124,22 +125,22 @@ module _ (bs : List (List ℕ)) where
   abbrev pub Answered : Stored → Type 0
   Answered s = nameJob bs (s .number) ≡ record { refusal = 0; kind = s .kind; part = namePart (nameParts false bs) s }
 
-  answered-at : allSound bs ≡ true → (k : ℕ) → k < length (shelved 0 bs) → Answered (getD (shelved 0 bs) k noText)
+  answered-at : allSound bs ≡ true → differ bs ≡ false → (k : ℕ) → k < length (shelved 0 bs) → Answered (getD (shelved 0 bs) k noText)
   unfolding nameJob
-  answered-at sound k l =
+  answered-at sound one k l =
       let n = shelved-number 0 bs k l ∙ zero-add k in
-      let z = zero-there bs k sound l in
+      let z = zero-there bs k sound one l in
       rw n (λ i. record { refusal = z i; kind = numbered-there bs k z i .kind; part = namePart (nameParts false bs) (numbered-there bs k z i) })
 
-  answered-each : allSound bs ≡ true → Each Answered (shelved 0 bs)
-  answered-each sound = each-of Answered (shelved 0 bs) noText (answered-at sound)
+  answered-each : allSound bs ≡ true → differ bs ≡ false → Each Answered (shelved 0 bs)
+  answered-each sound one = each-of Answered (shelved 0 bs) noText (answered-at sound one)
 
 module _ (t : List ℕ) (bs : List (List ℕ)) (lim : Limits) (mode : Mode) (budget : ℕ) (room : Areas) (results : ℕ) where
   abbrev result : ℕ
   result = refusal (ofScan t bs lim mode budget room results)
 
-  -- where anything happens the books are sound and have a text
-  books-read : eqb result 0 || eqb result 12 ≡ true → (allSound bs ≡ true) × (0 < length (shelved 0 bs))
+  -- where anything happens the books are sound, of one edition, and have a text
+  books-read : eqb result 0 || eqb result 12 ≡ true → (allSound bs ≡ true) × (differ bs ≡ false) × (0 < length (shelved 0 bs))
   unfolding beforeScan ofText ofBooks
   books-read h =
       let one = row-passes 0 (ltb textMost (length t)) _ (begun (eqb result 0) refl h) in
@@ -147,8 +148,9 @@ module _ (t : List ℕ) (bs : List (List ℕ)) (lim : Limits) (mode : Mode) (bud
       let three = row-passes 2 (ltb linesMost (lineCount t)) _ (two .1) in
       let four = row-passes 3 (not (allSound bs)) _ (three .1) in
       let five = row-passes 4 (eqb (length (shelved 0 bs)) 0) _ (four .1) in
+      let fifteen = row-passes 14 (differ bs) _ (five .1) in
       let k = eqb-false (length (shelved 0 bs)) 0 (five .0) in
-      (not-false _ (four .0), omega (arith, k))
+      (not-false _ (four .0), fifteen .0, omega (arith, k))
     where
       begun : (q : Bool) → eqb result 0 ≡ q → q || eqb result 12 ≡ true → refusal (beforeScan t bs lim mode room results) ≡ 0
       begun true e k = scan-zero t bs lim mode room results budget (eqb-true result 0 e) .0
@@ -173,7 +175,7 @@ module _ (t : List ℕ) (bs : List (List ℕ)) (lim : Limits) (mode : Mode) (bud
       at : (e : Bool) → eqb result 0 || eqb result 12 ≡ e → Answered bs winner
       at true e =
           named-one (λ s. (s .kind ≡ 0 → ⊥) → Answered bs s) (λ k. absurd (k (no-kind true))) t bs lim mode budget room results
-          (each-of (λ s. (s .kind ≡ 0 → ⊥) → Answered bs s) (shelved 0 bs) noText (λ k l _. answered-at bs (books-read e .0) k l)) q
+          (each-of (λ s. (s .kind ≡ 0 → ⊥) → Answered bs s) (shelved 0 bs) noText (λ k l _. answered-at bs (books-read e .0) (books-read e .1) k l)) q
       at false e = absurd (q (still e))
 
 module _ {t : List ℕ} {bs : List (List ℕ)} {lim : Limits} {mode : Mode} {budget : ℕ} {b₀ b w₀ w r₀ r : List ℕ} {a : Scanned}
@@ -190,4 +192,4 @@ module _ {t : List ℕ} {bs : List (List ℕ)} {lim : Limits} {mode : Mode} {bud
   pub records-named : Each (λ x. Answered bs (x .text)) (records (happened t bs lim mode budget (lent b₀ w₀) (length r₀)))
   records-named =
       happened-held (Answered bs) t bs lim mode budget (lent b₀ w₀) (length r₀)
-      (λ e. let o = books-read t bs lim mode budget (lent b₀ w₀) (length r₀) e in (o .1, answered-each bs (o .0)))
+      (λ e. let o = books-read t bs lim mode budget (lent b₀ w₀) (length r₀) e in (o .2, answered-each bs (o .0) (o .1)))

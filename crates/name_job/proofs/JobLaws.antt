@@ -13,9 +13,9 @@ use Rattle.rules.specs.Search.{Stored, noText}
 use Rattle.rules.specs.Book.{shelved, ReadAs}
 use Rattle.rules.specs.Refusal.{refusal, ofBooks, ofNumber, ofName}
 use Rattle.rules.specs.Jobs.{namePart, numbered, nameJob, NameDone}
-use Rattle.rules.proofs.DownLaws.{Each, each-at}
+use Rattle.rules.proofs.DownLaws.{each-at}
 use Rattle.rules.proofs.SoundLaws.{StoredSound}
-use Rattle.rules.proofs.RefusalLaws.{refusal-first, refusal-then}
+use Rattle.rules.proofs.RefusalLaws.{early, allEarly, Numbered, refusal-first, refusal-then}
 use Rattle.detection_shelf.specs.declared.Counts.{Counts}
 use Rattle.detection_shelf.specs.declared.Shelved.{Shelved}
 use Rattle.detection_shelf.specs.Shelves.{Shelf, texts, CountsOf, Stands, textIn, partHeld, partsOf}
@@ -23,15 +23,15 @@ use Rattle.detection_shelf.proofs.ShelfLaws.{stands-text, stands-part, stands-i
 use Rattle.name_job.specs.Answers.{refusedBy}
 
 module _ (bs : List (List ℕ)) (k : ℕ) where
-  numbered-rows : Each (λ r. (1 ≤ r .number) × (r .number ≤ 10)) (ofBooks bs)
-  unfolding ofBooks
-  numbered-rows = omega arith
+  numbered-rows : Numbered (ofBooks bs)
+  unfolding ofBooks allEarly early
+  numbered-rows = refl
 
   refused-is : (n : ℕ) → n ≡ refusal (ofName bs k) → (n ≡ 0 → ⊥) → {x : NamedText} → x ≡ refusedBy n → NameDone bs k x
   unfolding nameJob numbered namePart noText
   refused-is n e q r = rw r (record { answer = rw (← e, ne-eqb n 0 q) })
 
-  -- 4 or 5
+  -- 4, 5 or 15
   pub name-refused : (n : ℕ) → n ≡ refusal (ofBooks bs) → (n ≡ 0 → ⊥) → {x : NamedText} → x ≡ refusedBy n → NameDone bs k x
   unfolding ofName
   name-refused n e q r = refused-is n (e ∙ sym (refusal-first (ofBooks bs) (ofNumber bs k ∷ []) (λ z. q (e ∙ z)))) q r

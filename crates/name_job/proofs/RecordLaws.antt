@@ -17,7 +17,7 @@ use Rattle.rules.specs.Lines.{lines}
 use Rattle.rules.specs.Table.{Table, valueOf, viewTable}
 use Rattle.rules.specs.Search.{whole, viewed, blank, Stored, noText, Made, recurse, turns, scored, Best, noBest, better, bestFrom, best, bounds}
 use Rattle.rules.specs.Scan.{Event, overall, found, Recorded, after, afford, stops, below, eachPass, elimination, steps, viewsOf, Pair, latest, settled, contained, andOn, downOn, downFrom, topDown, events, records}
-use Rattle.rules.specs.Book.{shelved}
+use Rattle.rules.specs.Book.{shelved, editionOf}
 use Rattle.rules.specs.Refusal.{refusal, Areas, ofScan}
 use Rattle.rules.specs.Jobs.{happened}
 use Rattle.rules.proofs.BoolLaws.{cond-of}
@@ -138,12 +138,12 @@ happened-held P t bs lim mode b a results h = at (eqb n 0 || eqb n 12) h
     n = refusal (ofScan t bs lim mode b a results)
 
     full : List Event
-    full = events lim mode (shelved 0 bs) (lines t)
+    full = events lim mode (shelved 0 bs) (lines (editionOf bs) t)
 
     at : (q : Bool) → (q ≡ true → (0 < length (shelved 0 bs)) × Each P (shelved 0 bs)) → Each (λ r. P (r .text)) (records (cond q (afford b full) []))
     at true k =
         let i = k refl in
         let begins = records-begins b full in
         each-front (λ r. P (r .text)) (records (afford b full)) (begins .rest)
-        (subst (Each (λ r. P (r .text))) (begins .is) (events-held P lim (shelved 0 bs) (i .0) (i .1) mode (lines t)))
+        (subst (Each (λ r. P (r .text))) (begins .is) (events-held P lim (shelved 0 bs) (i .0) (i .1) mode (lines (editionOf bs) t)))
     at false k = tt

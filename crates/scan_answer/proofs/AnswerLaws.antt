@@ -18,7 +18,7 @@ use borrow.Author.Tests.{leb-true, leb-false, lt-ltb, le-ltb, ne-eqb}
 use Rattle.rules.specs.declared.Limits.{Limits}
 use Rattle.rules.specs.declared.Mode.{Mode}
 use Rattle.rules.specs.declared.Scanned.{Scanned}
-use Rattle.rules.specs.Book.{shelved, nameParts, noPart, ReadAs}
+use Rattle.rules.specs.Book.{edition, shelved, editionOf, nameParts, noPart, ReadAs}
 use Rattle.rules.specs.Sizes.{nameMost}
 use Rattle.rules.specs.Lines.{lines}
 use Rattle.rules.specs.Table.{nought}
@@ -29,14 +29,14 @@ use Rattle.detection_shelf.specs.Shelves.{Shelf, texts, bookIn, textIn, partHel
 use Rattle.rules.specs.Refusal.{refusal, ofScan, beforeScan, resultsNeed, Areas}
 use Rattle.rules.specs.Jobs.{over, lent, named, namePart, answered, happened, scan, resultsAfter, areaAfter, ScanDone}
 use Rattle.rules.proofs.BudgetLaws.{afford-count}
-use Rattle.rules.proofs.RefusalLaws.{lines-count, scan-before, scan-then, scan-happened}
+use Rattle.rules.proofs.RefusalLaws.{early, not-early, lines-count, scan-before, scan-then, scan-happened}
 use Rattle.rules.proofs.ScanCountLaws.{results-fit, numbers-length}
 use Rattle.lists.specs.Parts.{part}
 use Rattle.detect_best.specs.declared.Best.{Best}
 use Rattle.detect_best.specs.Beats.{bestIn}
 use Rattle.license_charge.specs.declared.Scorings.{Scorings}
 use Rattle.refusals.proofs.AreaLaws.{kept}
-use Rattle.refusals.proofs.AdmitLaws.{scan-most}
+use Rattle.refusals.proofs.AdmitLaws.{scan-early}
 use Rattle.refusals.specs.Admits.{ScanThrough}
 use Rattle.scan_ranges.specs.declared.Run.{Run}
 use Rattle.scan_elimination.specs.declared.Outcome.{Outcome}
@@ -96,11 +96,11 @@ module _ (t : List ℕ) (books : Shelf) (lim : Limits) (mode : Mode) (budget : �
   abbrev count : ℕ
   count = length (scorings all)
 
-  pub scan-room : (left : Scorings) → left ≡ record { count = budget } → (ls : List (List ℕ)) → ls ≡ lines t →
+  pub scan-room : (left : Scorings) → left ≡ record { count = budget } → (ls : List (List ℕ)) → ls ≡ lines (edition (books .first)) t →
       length (paidNumbers (left .count) (events lim mode (texts books) ls)) ≤ length r₀
   unfolding paidNumbers
   scan-room left made ls e =
-      rw (made, e) (omega (arith, results-fit lim mode (texts books) (lines t) budget (passed .step), passed .room, ap (λ (n : ℕ). resultsNeed n mode) (lines-count t)))
+      rw (made, e) (omega (arith, results-fit lim mode (texts books) (lines (edition (books .first)) t) budget (passed .step), passed .room, ap (λ (n : ℕ). resultsNeed n mode) (lines-count (edition (books .first)) t)))
 
 module _ (t : List ℕ) (books : Shelf) (lim : Limits) (mode : Mode) (budget : ℕ) (r₀ r : List ℕ) (x : Outcome) (h : Eliminated (full t books lim mode) budget books r₀ r x) where
   abbrev es : List Event
@@ -203,23 +203,23 @@ module _ (t : List ℕ) (bs : List (List ℕ)) (lim : Limits) (mode : Mode) (bud
       }
 
   pub scan-refused : (n : ℕ) (x : Scanned) → n ≡ before → (n ≡ 0 → ⊥) → x ≡ refusedBy n → ScanDone t bs lim mode budget b₀ b₀ w₀ w₀ r₀ r₀ x
-  unfolding scan resultsAfter happened over numbers records
+  unfolding scan resultsAfter happened over numbers records early
   scan-refused n x e q r =
-      let h : n ≤ 10 = omega (arith, scan-most t bs lim mode (lent b₀ w₀) (length r₀)) in
+      let h : early n ≡ true = rw e (scan-early t bs lim mode (lent b₀ w₀) (length r₀) (λ z. q (e ∙ z))) in
       let k : number ≡ n = scan-before t bs lim mode (lent b₀ w₀) (length r₀) budget (λ z. q (e ∙ z)) ∙ sym e in
-      let none : [] ≡ happened t bs lim mode budget (lent b₀ w₀) (length r₀) = sym (rw (k, ne-eqb n 0 q, ne-eqb n 12 (λ z. omega (arith, z, h)))) in
+      let none : [] ≡ happened t bs lim mode budget (lent b₀ w₀) (length r₀) = sym (rw (k, ne-eqb n 0 q, ne-eqb n 12 (not-early 12 n refl h))) in
       rw r (record {
         answer = refused-is n ∙ ap₂ (λ (m : ℕ) (l : List Event). answered m lim (nameParts false bs) l) (sym k) none;
         results = ap (λ (l : List Event). over (numbers (records l)) r₀) none;
-        bytes = kept n b₀ q h;
-        words = kept n w₀ q h;
+        bytes = kept n b₀ h;
+        words = kept n w₀ h;
       })
 
   -- 0 or 12: every element of a work area is zero
   zero-after : before ≡ 0 → (n : ℕ) (area left : List ℕ) → n ≡ length area → left ≡ replicate n 0 → left ≡ areaAfter number area
   unfolding areaAfter
   zero-after z n area left l e =
-      at (ltb budget (length (scorings (events lim mode (shelved 0 bs) (lines t))))) ∙ ap (λ (n : ℕ). areaAfter n area) (sym (scan-then t bs lim mode (lent b₀ w₀) (length r₀) budget z))
+      at (ltb budget (length (scorings (events lim mode (shelved 0 bs) (lines (editionOf bs) t))))) ∙ ap (λ (n : ℕ). areaAfter n area) (sym (scan-then t bs lim mode (lent b₀ w₀) (length r₀) budget z))
     where
       cleared : left ≡ replicate (length area) 0
       cleared = e ∙ ap (λ (k : ℕ). replicate k 0) l
@@ -230,11 +230,14 @@ module _ (t : List ℕ) (bs : List (List ℕ)) (lim : Limits) (mode : Mode) (bud
 
   module _ (books : Shelf) (read : ReadAs (books .first) (books .second) bs) (z : before ≡ 0) where
     -- what the definition says of these books is what is said below the refusals
+    full-is : events lim mode (shelved 0 bs) (lines (editionOf bs) t) ≡ full t books lim mode
+    full-is = ap₂ (λ (ss : List Stored) (e : ℕ). events lim mode ss (lines e t)) (read .texts) (read .said)
+
     numbered : overNumber budget (full t books lim mode) ≡ number
-    numbered = sym (scan-then t bs lim mode (lent b₀ w₀) (length r₀) budget z ∙ ap (λ (ss : List Stored). overNumber budget (events lim mode ss (lines t))) (read .texts))
+    numbered = sym (scan-then t bs lim mode (lent b₀ w₀) (length r₀) budget z ∙ ap (overNumber budget) full-is)
 
     happens : afford budget (full t books lim mode) ≡ happened t bs lim mode budget (lent b₀ w₀) (length r₀)
-    happens = sym (scan-happened t bs lim mode (lent b₀ w₀) (length r₀) budget z ∙ ap (λ (ss : List Stored). afford budget (events lim mode ss (lines t))) (read .texts))
+    happens = sym (scan-happened t bs lim mode (lent b₀ w₀) (length r₀) budget z ∙ ap (afford budget) full-is)
 
     said : answered (overNumber budget (full t books lim mode)) lim (partsOf books) (afford budget (full t books lim mode)) ≡ scan t bs lim mode budget (lent b₀ w₀) (length r₀)
     unfolding scan

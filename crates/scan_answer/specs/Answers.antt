@@ -14,7 +14,7 @@ use Rattle.rules.specs.declared.Named.{Named}
 use Rattle.rules.specs.Sizes.{nameMost}
 use Rattle.rules.specs.Table.{nought}
 use Rattle.rules.specs.Search.{Stored}
-use Rattle.rules.specs.Book.{noPart}
+use Rattle.rules.specs.Book.{noPart, edition}
 use Rattle.rules.specs.Lines.{lines}
 use Rattle.rules.specs.Scan.{Event, events, afford, scorings, records, numbers}
 use Rattle.rules.specs.Jobs.{over, named, answered}
@@ -53,7 +53,7 @@ answerFor books lim budget x = record {
 
 -- below the refusals: 12 where the budget does not pay all scorings, the answer to what it pays, and the results area at exit
 abbrev pub full : List ℕ → Shelf → Limits → Mode → List Event
-full t books lim mode = events lim mode (texts books) (lines t)
+full t books lim mode = events lim mode (texts books) (lines (edition (books .first)) t)
 
 abbrev pub overNumber : ℕ → List Event → ℕ
 overNumber budget es = cond (ltb budget (length (scorings es))) 12 0

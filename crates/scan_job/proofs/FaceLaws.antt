@@ -30,7 +30,7 @@ use Rattle.rules.specs.Lines.{lines, lineCount, size}
 use Rattle.rules.specs.declared.View.{View}
 use Rattle.rules.specs.Search.{noText, scoreView}
 use Rattle.rules.specs.Scan.{Event, events, afford, Begins, scorings, records, numbers}
-use Rattle.rules.specs.Book.{allSound, shelved, nameParts, partIn, Lies, ReadAs}
+use Rattle.rules.specs.Book.{allSound, shelved, editionOf, differ, nameParts, partIn, Lies, ReadAs}
 use Rattle.rules.specs.Count.{mostElimination, mostTopDown}
 use Rattle.rules.specs.Refusal.{refusal, ofText, ofBooks, unit, stepZero, beforeScan, ofScan}
 use Rattle.rules.specs.Jobs.{lent, over, answered, scan, resultsAfter, ScanDone}
@@ -50,7 +50,7 @@ use Rattle.scan_job.proofs.ModeLaws.{step-above}
 module _ {t : List ℕ} {bs : List (List ℕ)} {lim : Limits} {mode : Mode} {budget : ℕ} {b₀ b w₀ w r₀ r : List ℕ} {a : Scanned}
     (d : ScanDone t bs lim mode budget b₀ b w₀ w r₀ r a) where
   abbrev pub full : List Event
-  full = events lim mode (shelved 0 bs) (lines t)
+  full = events lim mode (shelved 0 bs) (lines (editionOf bs) t)
 
   -- what is refused before any work
   abbrev pub before : ℕ
@@ -121,7 +121,8 @@ module _ {t : List ℕ} {bs : List (List ℕ)} {lim : Limits} {mode : Mode} {bud
       let three = row-passes 2 (ltb linesMost (lineCount t)) _ (two .1) in
       let four = row-passes 3 (not (allSound bs)) _ (three .1) in
       let five = row-passes 4 (eqb (length (shelved 0 bs)) 0) _ (four .1) in
-      let six = row-passes 5 (not (unit (lim .threshold) && unit (lim .shallow))) _ (five .1) in
+      let fifteen = row-passes 14 (differ bs) _ (five .1) in
+      let six = row-passes 5 (not (unit (lim .threshold) && unit (lim .shallow))) _ (fifteen .1) in
       let seven = row-passes 6 (stepZero mode) _ (six .1) in
       record { short = ltb-false _ _ (one .0); few = ltb-false _ _ (three .0); sound = not-false _ (four .0); step = seven .0 }
 
@@ -133,15 +134,15 @@ module _ {t : List ℕ} {bs : List (List ℕ)} {lim : Limits} {mode : Mode} {bud
   few-texts : before ≡ 0 → length bs ≤ 2 → length (shelved 0 bs) ≤ 2 * storedMost
   few-texts z l = omega (arith, shelved-most 0 bs (passed z .sound), l)
 
-  few-lines : before ≡ 0 → length (lines t) ≤ linesMost
-  few-lines z = omega (arith, lines-count t, passed z .few)
+  few-lines : before ≡ 0 → length (lines (editionOf bs) t) ≤ linesMost
+  few-lines z = omega (arith, lines-count (editionOf bs) t, passed z .few)
 
   -- of any view, over the note's lines or what blanking leaves of them, against any stored text
-  pub t-below : before ≡ 0 → (ls : List (List ℕ)) → size ls ≤ size (lines t) → (v : View) (k : ℕ) → k < length (shelved 0 bs) →
+  pub t-below : before ≡ 0 → (ls : List (List ℕ)) → size ls ≤ size (lines (editionOf bs) t) → (v : View) (k : ℕ) → k < length (shelved 0 bs) →
       scoreView ls (getD (shelved 0 bs) k noText) v .value .t < 2 ^ 24
   t-below z ls l v k h =
       let p = passed z in
-      scoring-t t ls v (getD (shelved 0 bs) k noText) (p .short) l (each-at StoredSound (shelved 0 bs) k noText h (shelved-sound 0 bs (p .sound)))
+      scoring-t (editionOf bs) t ls v (getD (shelved 0 bs) k noText) (p .short) l (each-at StoredSound (shelved 0 bs) k noText h (shelved-sound 0 bs (p .sound)))
 
 -- ---- the two limits
 module _ {t : List ℕ} {bs : List (List ℕ)} {lim : Limits} {budget : ℕ} {b₀ b w₀ w r₀ r : List ℕ} {a : Scanned} where
@@ -150,13 +151,13 @@ module _ {t : List ℕ} {bs : List (List ℕ)} {lim : Limits} {budget : ℕ} {b�
   unfolding events
   elimination-most optimize p d =
       counted-within d (mostElimination (length (shelved 0 bs)) p (lineCount t))
-      (λ z. omega (arith, elimination-count lim optimize p (shelved 0 bs) (lines t), ap (mostElimination (length (shelved 0 bs)) p) (lines-count t)))
+      (λ z. omega (arith, elimination-count lim optimize p (shelved 0 bs) (lines (editionOf bs) t), ap (mostElimination (length (shelved 0 bs)) p) (lines-count (editionOf bs) t)))
 
   pub topDown-most : (s : ℕ) (d : ScanDone t bs lim (TopDown s) budget b₀ b w₀ w r₀ r a) → a .count ≤ mostTopDown (length (shelved 0 bs)) s (lineCount t)
   unfolding events
   topDown-most s d =
       counted-within d (mostTopDown (length (shelved 0 bs)) s (lineCount t))
-      (λ z. omega (arith, topDown-count lim s (shelved 0 bs) (lines t) (step-above (TopDown s) s refl (passed d z .step)), ap (mostTopDown (length (shelved 0 bs)) s) (lines-count t)))
+      (λ z. omega (arith, topDown-count lim s (shelved 0 bs) (lines (editionOf bs) t) (step-above (TopDown s) s refl (passed d z .step)), ap (mostTopDown (length (shelved 0 bs)) s) (lines-count (editionOf bs) t)))
 
   -- below 2^64 whatever the budget, for the lent books are one or two and the passes a u16
   pub count-fits : (mode : Mode) (d : ScanDone t bs lim mode budget b₀ b w₀ w r₀ r a) → length bs ≤ 2 →
@@ -165,15 +166,15 @@ module _ {t : List ℕ} {bs : List (List ℕ)} {lim : Limits} {budget : ℕ} {b�
   count-fits (Elimination optimize p) d l k =
       let h : before d ≡ 0 → length (scorings (full d)) ≤ 2 ^ 64 - 1 = λ z. omega (
         arith,
-        elimination-count lim optimize p (shelved 0 bs) (lines t),
-        elimination-fits (length (shelved 0 bs)) p (length (lines t)) (few-texts d z l) (k optimize p refl) (few-lines d z),
+        elimination-count lim optimize p (shelved 0 bs) (lines (editionOf bs) t),
+        elimination-fits (length (shelved 0 bs)) p (length (lines (editionOf bs) t)) (few-texts d z l) (k optimize p refl) (few-lines d z),
       ) in
       omega (arith, counted-within d (2 ^ 64 - 1) h)
   count-fits (TopDown s) d l k =
       let h : before d ≡ 0 → length (scorings (full d)) ≤ 2 ^ 64 - 1 = λ z. omega (
         arith,
-        topDown-count lim s (shelved 0 bs) (lines t) (step-above (TopDown s) s refl (passed d z .step)),
-        topDown-fits (length (shelved 0 bs)) s (length (lines t)) (few-texts d z l) (few-lines d z),
+        topDown-count lim s (shelved 0 bs) (lines (editionOf bs) t) (step-above (TopDown s) s refl (passed d z .step)),
+        topDown-fits (length (shelved 0 bs)) s (length (lines (editionOf bs) t)) (few-texts d z l) (few-lines d z),
       ) in
       omega (arith, counted-within d (2 ^ 64 - 1) h)
 

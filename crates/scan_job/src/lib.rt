@@ -16,6 +16,7 @@ ghost use Rattle.scan_ranges.specs.Run.{Scanning, paidNumbers};
 ghost use Rattle.scan_elimination.specs.Ended.{Eliminated};
 ghost use Rattle.scan_answer.specs.Answers.{Scans};
 use detect_best::no_best;
+use detection_edition::edition_of;
 use detection_shelf::Counts;
 use license_charge::Scorings;
 use license_charge::scorings_of;
@@ -85,7 +86,7 @@ fn scan_mode<'a>(
     }
 }
 
-// The work, of what is let through; `counts` has N. The areas hold what it leaves.
+// The work, of what is let through, under the first book's edition; `counts` has N. The areas hold what it leaves.
 pub fn scan_laid<'a>(
     text: &[u8],
     book: &'a [u8],
@@ -102,7 +103,7 @@ pub fn scan_laid<'a>(
     requires { ⌜ CountsOf (shelf (now book) (now second)) counts ⌝ }
     ensures { λ r. ⌜ Scans (now (text .entry)) (shelf (now (book .entry)) (now (second .entry))) limits mode budget (now (results .entry)) (now (results .exit)) r ⌝ }
 {
-    let class = class_table();
+    let class = class_table(edition_of(book));
     let n = text.len();
     let lines = lay(&class, text, area, words);
     let scope = Scope {
@@ -125,7 +126,7 @@ pub fn scan_laid<'a>(
     answer(book, second, limits, outcome, budget)
 }
 
-// Over lent books, two or one: refusals 1 to 7, 10 and 12, or the scan. The work areas are zero after 0 and 12, and as they were after any other; the
+// Over lent books, two or one: refusals 1 to 7, 10, 12 and 15, or the scan. The work areas are zero after 0 and 12, and as they were after any other; the
 // results change only where a record is paid.
 fn scan_lent<'a>(
     text: &[u8],

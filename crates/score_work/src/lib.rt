@@ -5,9 +5,11 @@ ghost use mathlib.Core.Path.{_≡_};
 ghost use lib.ListN.{getD};
 ghost use Rattle.rules.specs.Lines.{lines};
 ghost use Rattle.rules.specs.Search.{noText, scoreView};
+ghost use Rattle.rules.specs.Book.{edition};
 ghost use Rattle.rules.specs.Jobs.{lent};
 ghost use Rattle.detection_shelf.specs.Shelves.{shelf, texts, CountsOf};
 ghost use Rattle.refusals.specs.Admits.{ViewThrough};
+use detection_edition::edition_of;
 use detection_shelf::Counts;
 use detection_shelf::body_of;
 use detection_shelf::stored_on;
@@ -18,7 +20,7 @@ use license_views::view_table;
 use rules::View;
 use slices::class::class_table;
 
-// The work, of what is let through: the areas hold what it leaves.
+// The work, of what is let through, under the first book's edition: the areas hold what it leaves.
 pub fn score_laid<'a>(
     text: &[u8],
     book: &'a [u8],
@@ -31,9 +33,9 @@ pub fn score_laid<'a>(
 ) -> f32
     requires { ⌜ ViewThrough (now text) (shelf (now book) (now second)) v k (lent (now area) (now words)) ⌝ }
     requires { ⌜ CountsOf (shelf (now book) (now second)) counts ⌝ }
-    ensures { λ r. ⌜ r ≡ scoreView (lines (now (text .entry))) (getD (texts (shelf (now (book .entry)) (now (second .entry)))) k noText) v .value .score ⌝ }
+    ensures { λ r. ⌜ r ≡ scoreView (lines (edition (now (book .entry))) (now (text .entry))) (getD (texts (shelf (now (book .entry)) (now (second .entry)))) k noText) v .value .score ⌝ }
 {
-    let class = class_table();
+    let class = class_table(edition_of(book));
     let n = text.len();
     let lines = lay(&class, text, area, words);
     let t = view_table(&class, area, words, n, lines, v);

@@ -4,7 +4,11 @@ use mathlib.Core.Path.{sym, ap, _∙_}
 use native.Mathlib.Omega.{arith}
 use denote.Ref.{now}
 use borrow.Author.Needs.{needs}
+use Rattle.slices.proofs.KindLaws.{edition-classes}
+use Rattle.license_notes.proofs.LaidLaws.{noted-lines}
 use lib.ListN.{getD}
+use Rattle.rules.specs.Lines.{lines}
+use Rattle.rules.specs.Book.{edition}
 use Rattle.rules.specs.Search.{noText}
 use Rattle.detection_shelf.specs.Shelves.{shelf, texts}
 use Rattle.detection_shelf.specs.Bodies.{tableOfBody}
@@ -15,6 +19,9 @@ use Rattle.bounds_work.proofs.bounds_laid.Tie as tie
 
 -- the places that the answers speak of, each found by its type: one statement more in the code moves none
 module _ (x : tie.After-class-table) where
+  abbrev asked : tie.After-edition-of
+  asked = search
+
   abbrev start : tie.Start
   start = search
 
@@ -40,7 +47,7 @@ lay-requires : tie.Need-lay-requires
 lay-requires c κs =
     let m : tie.After-class-table = search in
     let p = start m .pre .0 in
-    (m .class-table .ensures, p .both .text, p .bytes, p .words)
+    (edition-classes _ (m .class-table .ensures), p .both .text, p .bytes, p .words)
 
 stored-on-requires : tie.Need-stored-on-requires
 stored-on-requires c κs =
@@ -58,7 +65,7 @@ find-bounds-requires c κs =
     let m = made (laid f) in
     let l = laid f .lay .ensures in
     let p = start m .pre .0 in (
-      record { laid = l .0; classes = m .class-table .ensures; sound = rw (body .body-of .ensures) (f .stored-on .ensures .0 .found .is .sound) },
+      record { laid = l .0; classes = edition-classes _ (m .class-table .ensures); sound = rw (body .body-of .ensures) (f .stored-on .ensures .0 .found .is .sound) },
       (omega (arith, p .start), omega (arith, p .end, l .1 .1), omega (arith, p .both .few, l .1 .1)),
     )
 
@@ -83,14 +90,15 @@ returns c =
     let books = shelf (now (a .book)) (now (a .second)) in
     let wanted = getD (texts books) (a .k) noText in
     let text = stored-table books _ _ (f .stored-on .ensures .0) (f .stored-on .ensures .1) ∙ ap tableOfBody (sym (lent b .body-of .ensures)) in
-    bounds-found (now (a .text)) (texts books) _ (a .v) (a .k) _ (p .start) (omega (arith, p .end, p .both .few))
-    (laid f .lay .ensures .1 .0)
+    bounds-found (lines (edition (now (a .book))) (now (a .text))) (texts books) _ (a .v) (a .k) _ (p .start) (omega (arith, p .end, p .both .few))
+    (noted-lines _ _ _ _ _ (asked (made (laid f)) .edition-of .ensures) (made (laid f) .class-table .ensures) (laid f .lay .ensures .1 .0))
     (c .answer .ensures ∙ answer-is _ _ _ (p .start) (omega (arith, p .end, p .both .few)) _ _ (budget b .scorings-of .ensures) (b .find-bounds .ensures .found wanted text))
 
 pub bounds-laid-spec : {M : Type 1} → statement M
 bounds-laid-spec =
     tie.close
     (tie.spec
+    (λ c κs. search needs)
     (λ c κs. search needs)
     lay-requires
     stored-on-requires

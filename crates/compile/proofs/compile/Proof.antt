@@ -11,13 +11,13 @@ admit-compile-requires : tie.Need-admit-compile-requires
 admit-compile-requires c κs = search needs
 
 returns : tie.Need-returns
-returns c = done-none _ _ _ _ _ (c .before .admit-compile .ensures) (c .if1 .taken)
+returns c = done-none _ _ _ _ _ _ (c .before .admit-compile .ensures) (c .if1 .taken)
 
 compile-through-requires : tie.Need-compile-through-requires
 compile-through-requires c κs =
     let admitted : tie.After-admit-compile = search in
     let free : tie.Else1 = search in
-    let t = compile-through _ _ (sym (admitted .admit-compile .ensures) ∙ free .if1 .left) in
+    let t = compile-through _ _ _ (sym (admitted .admit-compile .ensures) ∙ free .if1 .left) in
     (t .text, t .bytes, t .words)
 
 same-length : tie.Need-same-length
@@ -35,7 +35,7 @@ returns-2 c =
     let admitted : tie.After-admit-compile = search in
     let free : tie.Else1 = search in
     let d = worked .compile-through .ensures in
-    done-work _ _ _ _ _ _ _ _ (sym (admitted .admit-compile .ensures) ∙ free .if1 .left) (d .0) (d .1 .0) (d .1 .1)
+    done-work _ _ _ _ _ _ _ _ _ (sym (admitted .admit-compile .ensures) ∙ free .if1 .left) (d .0) (d .1 .0) (d .1 .1)
 
 pub compile-spec : {M : Type 1} → statement M
 compile-spec =

@@ -4,6 +4,8 @@ use mathlib.Core.Path.{sym, ap, _∙_}
 use native.Mathlib.Omega.{arith}
 use denote.Ref.{now}
 use borrow.Author.Needs.{needs}
+use Rattle.slices.proofs.KindLaws.{edition-classes}
+use Rattle.license_notes.proofs.LaidLaws.{noted-lines}
 use Rattle.detection_shelf.specs.Shelves.{shelf}
 use Rattle.detection_shelf.specs.Bodies.{tableOfBody}
 use Rattle.detection_shelf.proofs.ShelfLaws.{stored-table}
@@ -13,6 +15,9 @@ use Rattle.score_work.proofs.score_laid.Tie as tie
 
 -- the places that the answers speak of, each found by its type: one statement more in the code moves none
 module _ (x : tie.After-class-table) where
+  abbrev asked : tie.After-edition-of
+  asked = search
+
   abbrev start : tie.Start
   start = search
 
@@ -51,7 +56,7 @@ lay-requires : tie.Need-lay-requires
 lay-requires c κs =
     let m : tie.After-class-table = search in
     let p = start m .pre .0 in
-    (m .class-table .ensures, p .both .text, p .bytes, p .words)
+    (edition-classes _ (m .class-table .ensures), p .both .text, p .bytes, p .words)
 
 view-table-requires : tie.Need-view-table-requires
 view-table-requires c κs =
@@ -59,7 +64,7 @@ view-table-requires c κs =
     let done : tie.After-lay = search in
     let l = done .lay .ensures in
     let p = start (made done) .pre .0 in
-    ((made done .class-table .ensures, l .0), (omega (arith, p .start), omega (arith, p .end, l .1 .1)))
+    ((edition-classes _ (made done .class-table .ensures), l .0), (omega (arith, p .start), omega (arith, p .end, l .1 .1)))
 
 stored-on-requires : tie.Need-stored-on-requires
 stored-on-requires c κs =
@@ -90,13 +95,14 @@ returns c =
     let t = tabled f in
     let a = start (made (laid t)) .args in
     let s = shelf (now (a .book)) (now (a .second)) in
-    score-is _ _ _ _ _ _ _ (laid t .lay .ensures .1 .0) (t .view-table .ensures .1 .0)
+    score-is _ _ _ _ _ _ _ (noted-lines _ _ _ _ _ (asked (made (laid t)) .edition-of .ensures) (made (laid t) .class-table .ensures) (laid t .lay .ensures .1 .0)) (t .view-table .ensures .1 .0)
     (stored-table s _ _ (f .stored-on .ensures .0) (f .stored-on .ensures .1) ∙ ap tableOfBody (sym (lent c .body-of .ensures))) (c .charge-exact .ensures .0)
 
 pub score-laid-spec : {M : Type 1} → statement M
 score-laid-spec =
     tie.close
     (tie.spec
+    (λ c κs. search needs)
     (λ c κs. search needs)
     lay-requires
     view-table-requires
