@@ -20,7 +20,7 @@ use Rattle.questions.specs.Numbers.{digits, decimal, fourBytes}
 
 -- the marked book
 book : List ℕ
-book = written 4 1 ++ written 2 1 ++ text "A" ++ written 4 45 ++ written 2 2 ++ compiled (text "My First License")
+book = written 4 1 ++ written 2 1 ++ text "A" ++ written 4 45 ++ written 2 2 ++ compiled 1 (text "My First License")
 
 areas : Areas
 areas = record { bytes = 1088; words = 1600 }

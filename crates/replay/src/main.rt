@@ -17,6 +17,7 @@ use crate::areas::text_area;
 use crate::areas::word_area;
 use crate::scans::answer_scans;
 use questions::words::mark_at;
+use rules::EDITION_FIRST;
 use slices::class::class_table;
 
 // A question on texts alone: lines, a view, a table or a score. One of the four answers it, and the others write nothing.
@@ -28,7 +29,7 @@ fn answer_texts(
     words: &mut [u32; 24640],
     body: &mut [u8; 49152],
 ) {
-    let class = class_table();
+    let class = class_table(EDITION_FIRST);
     let mut out = out_area();
     let lines = replay_lines::answer(&class, line, text, area, words, &mut out);
     io::write_all(1, &out[..lines]);

@@ -101,18 +101,18 @@ module _ (at kind : ℕ) (body b₀ last : List ℕ) (room : at + 6 ≤ length b
 pub part-room : (m : ℕ) (b : List ℕ) → m ≤ length b → length (take (length b - m) (drop m b)) ≡ length b - m
 part-room m b h = length-take-le (length b - m) (drop m b) (omega (arith, length-drop m b))
 
-module _ (t b₀ b w₀ w out₀ out : List ℕ) (a : Compiled) (d : CompileDone t b₀ b w₀ w out₀ out a) (z : a .refusal ≡ 0) where
-  none-refused : refusal (ofCompile t (lent b₀ w₀) (length out₀)) ≡ 0
+module _ (t b₀ b w₀ w out₀ out : List ℕ) (a : Compiled) (d : CompileDone 1 t b₀ b w₀ w out₀ out a) (z : a .refusal ≡ 0) where
+  none-refused : refusal (ofCompile 1 t (lent b₀ w₀) (length out₀)) ≡ 0
   unfolding compile
   none-refused = sym (ap (λ (x : Compiled). x .refusal) (d .answer)) ∙ z
 
-  pub compiled-length : a .len ≡ length (compiled t)
+  pub compiled-length : a .len ≡ length (compiled 1 t)
   unfolding compile
-  compiled-length = ap (λ (x : Compiled). x .len) (d .answer) ∙ rw (eq-eqb (refusal (ofCompile t (lent b₀ w₀) (length out₀))) 0 none-refused)
+  compiled-length = ap (λ (x : Compiled). x .len) (d .answer) ∙ rw (eq-eqb (refusal (ofCompile 1 t (lent b₀ w₀) (length out₀))) 0 none-refused)
 
-  pub compiled-front : take (a .len) out ≡ compiled t
+  pub compiled-front : take (a .len) out ≡ compiled 1 t
   unfolding outputAfter over
   compiled-front =
-      let e : out ≡ compiled t ++ drop (length (compiled t)) out₀ =
-      d .output ∙ rw (eq-eqb (refusal (ofCompile t (lent b₀ w₀) (length out₀))) 0 none-refused) in
-      rw (compiled-length, e) (take-append-seam (compiled t) (drop (length (compiled t)) out₀))
+      let e : out ≡ compiled 1 t ++ drop (length (compiled 1 t)) out₀ =
+      d .output ∙ rw (eq-eqb (refusal (ofCompile 1 t (lent b₀ w₀) (length out₀))) 0 none-refused) in
+      rw (compiled-length, e) (take-append-seam (compiled 1 t) (drop (length (compiled 1 t)) out₀))

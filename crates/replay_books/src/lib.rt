@@ -11,6 +11,7 @@ use compile::compile;
 use questions::fields::text_at;
 use records::numbers::write_u16;
 use records::numbers::write_u32;
+use rules::EDITION_FIRST;
 
 // The head of a record of this kind, whose body has so many bytes.
 fn put_head(book: &mut [u8], at: usize, len: usize, kind: u16)
@@ -47,13 +48,13 @@ pub fn put_text(
 ) -> usize
     requires { ⌜ (at ≤ length (now book)) × (length (now book) ≤ 65536) ⌝ }
     ensures within { λ r. ⌜ (at ≤ r) × (r ≤ length (now (book .exit))) ⌝ }
-    ensures book { λ r. ⌜ Grown at kind (compiled (now (text .entry))) (now (book .entry)) r (now (book .exit)) ⌝ }
+    ensures book { λ r. ⌜ Grown at kind (compiled 1 (now (text .entry))) (now (book .entry)) r (now (book .exit)) ⌝ }
 {
     if book.len() - at < 6 {
         return at;
     }
     let body = at + 6;
-    let made = compile(text, area, words, &mut book[body..]);
+    let made = compile(text, EDITION_FIRST, area, words, &mut book[body..]);
     let len = made.len;
     if made.refusal != 0 {
         return at;

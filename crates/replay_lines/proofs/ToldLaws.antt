@@ -110,7 +110,7 @@ pub answer-none : (t : List ℕ) → (refusal (ofText t) ≡ 0 → ⊥) → answ
 unfolding answerTo
 answer-none t h = rw (ne-eqb (refusal (ofText t)) 0 h)
 
-pub answer-some : (t : List ℕ) → refusal (ofText t) ≡ 0 → answerTo t ≡ told (lines t)
+pub answer-some : (t : List ℕ) → refusal (ofText t) ≡ 0 → answerTo t ≡ told (lines 1 t)
 unfolding answerTo
 answer-some t h = rw (eq-eqb (refusal (ofText t)) 0 h)
 

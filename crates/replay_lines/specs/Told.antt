@@ -21,7 +21,7 @@ told (l ∷ ls) = hexed l ++ markOf ls ∷ told ls
 
 -- a text that is refused gets none
 unfoldable pub answerTo : List ℕ → List ℕ
-answerTo t = cond (eqb (refusal (ofText t)) 0) (told (lines t)) []
+answerTo t = cond (eqb (refusal (ofText t)) 0) (told (lines 1 t)) []
 
 -- nor does another question; of a text 2,048 bytes are read
 unfoldable pub answerOf : List ℕ → List ℕ

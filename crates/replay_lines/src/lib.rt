@@ -53,7 +53,7 @@ fn answer_text(
     table: &mut [u32; 24640],
     out: &mut [u8; 98305],
 ) -> usize
-    requires { ⌜ (now class ≡ classTable) × (length (now text) ≤ 2048) ⌝ }
+    requires { ⌜ (now class ≡ classTable 1) × (length (now text) ≤ 2048) ⌝ }
     ensures { λ r. ⌜ InFront (answerTo (now (text .entry))) r (now (out .exit)) ⌝ }
 {
     let t = test_text(text);
@@ -74,7 +74,7 @@ fn answer_word(
     table: &mut [u32; 24640],
     out: &mut [u8; 98305],
 ) -> usize
-    requires { ⌜ (now class ≡ classTable) × (length (now text) ≡ 2048) ⌝ }
+    requires { ⌜ (now class ≡ classTable 1) × (length (now text) ≡ 2048) ⌝ }
     ensures { λ r. ⌜ InFront (answerTo (textOf 2048 1 (now (line .entry)))) r (now (out .exit)) ⌝ }
 {
     let n = text_at(line, 1, text);
@@ -90,7 +90,7 @@ pub fn answer(
     table: &mut [u32; 24640],
     out: &mut [u8; 98305],
 ) -> usize
-    requires { ⌜ now class ≡ classTable ⌝ }
+    requires { ⌜ now class ≡ classTable 1 ⌝ }
     ensures { λ r. ⌜ InFront (answerOf (now (line .entry))) r (now (out .exit)) ⌝ }
 {
     if !starts_with(line, 0, b"lines ") {

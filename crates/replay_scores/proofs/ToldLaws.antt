@@ -18,7 +18,7 @@ module _ (start end : ℕ) (t : List ℕ) (u : Table) where
   unfolding scoreOver
   no-view e = rw e
 
-  pub right-view : viewFits start end t ≡ true → scoreOver start end t u ≡ bitsTold (valueOf (viewTable (viewed (lines t) (view start end))) u .score)
+  pub right-view : viewFits start end t ≡ true → scoreOver start end t u ≡ bitsTold (valueOf (viewTable (viewed (lines 1 t) (view start end))) u .score)
   unfolding scoreOver
   right-view e = rw e
 
@@ -27,7 +27,7 @@ module _ (start end : ℕ) (t licence : List ℕ) where
   unfolding scoreFor
   no-licence e = rw e
 
-  pub right-licence : compiles licence ≡ true → scoreFor start end t licence ≡ scoreOver start end t (viewTable (lines licence))
+  pub right-licence : compiles licence ≡ true → scoreFor start end t licence ≡ scoreOver start end t (viewTable (lines 1 licence))
   unfolding scoreFor
   right-licence e = rw e
 

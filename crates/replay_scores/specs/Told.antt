@@ -21,10 +21,10 @@ bitsTold x = hexPairs (fourBytes (toBits binary32 x)) ++ 10 ∷ []
 -- a view outside its text gets no answer, nor does a licence that compile refuses
 unfoldable pub scoreOver : ℕ → ℕ → List ℕ → Table → List ℕ
 scoreOver start end t u =
-    cond (viewFits start end t) (bitsTold (valueOf (viewTable (viewed (lines t) (view start end))) u .score)) []
+    cond (viewFits start end t) (bitsTold (valueOf (viewTable (viewed (lines 1 t) (view start end))) u .score)) []
 
 unfoldable pub scoreFor : ℕ → ℕ → List ℕ → List ℕ → List ℕ
-scoreFor start end t licence = cond (compiles licence) (scoreOver start end t (viewTable (lines licence))) []
+scoreFor start end t licence = cond (compiles licence) (scoreOver start end t (viewTable (lines 1 licence))) []
 
 -- ---- the question; of a text 2,048 bytes are read, and another question gets no answer
 unfoldable pub scoreAsked : List ℕ → List ℕ

@@ -13,6 +13,7 @@ use crate::scores::answer_view;
 use compile::compile;
 use questions::fields::number_at;
 use questions::fields::text_at;
+use rules::EDITION_FIRST;
 use slices_order::starts_with;
 
 // The score of a view of the text against the licence, written from the front; answers where it ends.
@@ -27,10 +28,10 @@ fn answer_score(
     body: &mut [u8],
     out: &mut [u8; 98305],
 ) -> usize
-    requires { ⌜ (now class ≡ classTable) × (length (now text) ≤ 2048) × (length (now body) ≡ 49152) ⌝ }
+    requires { ⌜ (now class ≡ classTable 1) × (length (now text) ≤ 2048) × (length (now body) ≡ 49152) ⌝ }
     ensures { λ r. ⌜ InFront (scoreFor start end (now (text .entry)) (now (licence .entry))) r (now (out .exit)) ⌝ }
 {
-    let made = compile(licence, area, words, body);
+    let made = compile(licence, EDITION_FIRST, area, words, body);
     if made.refusal != 0 {
         return 0;
     }
@@ -49,7 +50,7 @@ fn asked_score(
     body: &mut [u8; 49152],
     out: &mut [u8; 98305],
 ) -> usize
-    requires { ⌜ (now class ≡ classTable) × (length (now text) ≡ 2048) × (length (now licence) ≡ 2048) ⌝ }
+    requires { ⌜ (now class ≡ classTable 1) × (length (now text) ≡ 2048) × (length (now licence) ≡ 2048) ⌝ }
     ensures { λ r. ⌜ InFront (scoreAsked (now (line .entry))) r (now (out .exit)) ⌝ }
 {
     let start = number_at(line, 1) as usize;
@@ -80,7 +81,7 @@ pub fn answer(
     body: &mut [u8; 49152],
     out: &mut [u8; 98305],
 ) -> usize
-    requires { ⌜ now class ≡ classTable ⌝ }
+    requires { ⌜ now class ≡ classTable 1 ⌝ }
     ensures { λ r. ⌜ InFront (answerOf (now (line .entry))) r (now (out .exit)) ⌝ }
 {
     if !starts_with(line, 0, b"score ") {

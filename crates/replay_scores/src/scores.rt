@@ -40,7 +40,7 @@ pub fn answer_view(
     body: &[u8],
     out: &mut [u8],
 ) -> usize
-    requires { ⌜ (now class ≡ classTable) × (length (now text) ≤ 2048) × (soundTable (now body) (entriesOf (now body)) ≡ true) × (9 ≤ length (now out)) ⌝ }
+    requires { ⌜ (now class ≡ classTable 1) × (length (now text) ≤ 2048) × (soundTable (now body) (entriesOf (now body)) ≡ true) × (9 ≤ length (now out)) ⌝ }
     ensures { λ r. ⌜ InFront (scoreOver start end (now (text .entry)) (tableOfBody (now (body .entry)))) r (now (out .exit)) ⌝ }
 {
     if !view_fits(text, start, end) {

@@ -26,10 +26,10 @@ tableTold t = (decimal (t .total) ++ entriesTold (t .entries)) ++ 10 ∷ []
 
 -- a text that compile refuses, with the areas of a text of 2,048 bytes and an output of 49,152, gets no answer
 unfoldable pub compiles : List ℕ → Bool
-compiles t = eqb (refusal (ofCompile t (record { bytes = 16448; words = 24640 }) 49152)) 0
+compiles t = eqb (refusal (ofCompile 1 t (record { bytes = 16448; words = 24640 }) 49152)) 0
 
 unfoldable pub tableFor : List ℕ → List ℕ
-tableFor t = cond (compiles t) (tableTold (viewTable (lines t))) []
+tableFor t = cond (compiles t) (tableTold (viewTable (lines 1 t))) []
 
 -- ---- the question; of a text 2,048 bytes are read, and another question gets no answer
 unfoldable pub tableAsked : List ℕ → List ℕ

@@ -10,6 +10,7 @@ mod tables;
 use crate::tables::put_table;
 use compile::compile;
 use questions::fields::text_at;
+use rules::EDITION_FIRST;
 use slices_order::starts_with;
 
 // The table of a text, written from the front; answers where it ends.
@@ -23,7 +24,7 @@ fn answer_table(
     requires { ⌜ length (now body) ≡ 49152 ⌝ }
     ensures { λ r. ⌜ InFront (tableFor (now (text .entry))) r (now (out .exit)) ⌝ }
 {
-    let made = compile(text, area, words, body);
+    let made = compile(text, EDITION_FIRST, area, words, body);
     if made.refusal != 0 {
         return 0;
     }

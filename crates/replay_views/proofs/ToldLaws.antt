@@ -17,7 +17,7 @@ module _ (start end : ℕ) (t : List ℕ) where
   unfolding answerTo
   no-view e = rw e
 
-  pub right-view : viewFits start end t ≡ true → answerTo start end t ≡ told (aggressive (viewed (lines t) (view start end)))
+  pub right-view : viewFits start end t ≡ true → answerTo start end t ≡ told (aggressive (viewed (lines 1 t) (view start end)))
   unfolding answerTo
   right-view e = rw e
 

@@ -16,7 +16,7 @@ told s = hexed s ++ 10 ∷ []
 
 -- a text that is refused gets none, nor does a view outside the text
 unfoldable pub answerTo : ℕ → ℕ → List ℕ → List ℕ
-answerTo start end t = cond (viewFits start end t) (told (aggressive (viewed (lines t) (view start end)))) []
+answerTo start end t = cond (viewFits start end t) (told (aggressive (viewed (lines 1 t) (view start end)))) []
 
 -- what the words of a question ask; of a text 2,048 bytes are read
 unfoldable pub answerIn : List ℕ → List ℕ

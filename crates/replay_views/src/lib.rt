@@ -6,7 +6,7 @@ ghost use lib.ListN.{length};
 ghost use Rattle.lists.specs.Wrote.{InFront};
 ghost use Rattle.rules.specs.Passes.{aggressive};
 ghost use Rattle.rules.specs.Search.{viewed};
-ghost use Rattle.slices.specs.Classes.{classTable};
+ghost use Rattle.slices.specs.Classes.{Classes, classTable};
 ghost use Rattle.preproc_table.specs.Entries.{linesAt};
 ghost use Rattle.license_notes.specs.Laid.{Laid};
 ghost use Rattle.replay_views.specs.Told.{told, answerTo, answerIn, answerOf};
@@ -30,7 +30,7 @@ fn put_view(
     v: View,
     out: &mut [u8],
 ) -> usize
-    requires { ⌜ (now class ≡ classTable) × Laid n lines (now area) (now words) × (2 * length (now area) + 2 ≤ length (now out)) ⌝ }
+    requires { ⌜ Classes (now class) × Laid n lines (now area) (now words) × (2 * length (now area) + 2 ≤ length (now out)) ⌝ }
     requires { ⌜ (v .start ≤ v .end) × (v .end ≤ lines) ⌝ }
     ensures { λ r. ⌜ InFront (told (aggressive (viewed (linesAt (now (area .entry)) (now (words .entry)) lines) v))) r (now (out .exit)) ⌝ }
 {
@@ -51,7 +51,7 @@ fn answer_view(
     words: &mut [u32; 24640],
     out: &mut [u8; 98305],
 ) -> usize
-    requires { ⌜ (now class ≡ classTable) × (length (now text) ≤ 2048) ⌝ }
+    requires { ⌜ (now class ≡ classTable 1) × (length (now text) ≤ 2048) ⌝ }
     ensures { λ r. ⌜ InFront (answerTo start end (now (text .entry))) r (now (out .exit)) ⌝ }
 {
     if !view_fits(text, start, end) {
@@ -78,7 +78,7 @@ fn answer_words(
     words: &mut [u32; 24640],
     out: &mut [u8; 98305],
 ) -> usize
-    requires { ⌜ (now class ≡ classTable) × (length (now text) ≡ 2048) ⌝ }
+    requires { ⌜ (now class ≡ classTable 1) × (length (now text) ≡ 2048) ⌝ }
     ensures { λ r. ⌜ InFront (answerIn (now (line .entry))) r (now (out .exit)) ⌝ }
 {
     let start = number_at(line, 1) as usize;
@@ -96,7 +96,7 @@ pub fn answer(
     words: &mut [u32; 24640],
     out: &mut [u8; 98305],
 ) -> usize
-    requires { ⌜ now class ≡ classTable ⌝ }
+    requires { ⌜ now class ≡ classTable 1 ⌝ }
     ensures { λ r. ⌜ InFront (answerOf (now (line .entry))) r (now (out .exit)) ⌝ }
 {
     if !starts_with(line, 0, b"view ") {

@@ -56,6 +56,12 @@ order-of-bigrams-requires c κs = search needs
 terms-requires : tie.Need-terms-requires Inv-loop μ-loop
 terms-requires c κs = search needs
 
+edition-numbers-requires : tie.Need-edition-numbers-requires Inv-loop μ-loop
+edition-numbers-requires c κs = search needs
+
+edition-places-requires : tie.Need-edition-places-requires Inv-loop μ-loop
+edition-places-requires c κs = search needs
+
 limit-of-texts-requires : tie.Need-limit-of-texts-requires Inv-loop μ-loop
 limit-of-texts-requires c κs = search needs
 
@@ -83,5 +89,7 @@ main-spec =
     count-books-requires
     order-of-bigrams-requires
     terms-requires
+    edition-numbers-requires
+    edition-places-requires
     limit-of-texts-requires
     returns)

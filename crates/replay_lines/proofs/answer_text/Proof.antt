@@ -4,6 +4,7 @@ use mathlib.Core.Path.{sym, _∙_}
 use native.Mathlib.Omega.{arith}
 use denote.Ref.{now}
 use Rattle.lists.proofs.ChainLaws.{front-of}
+use Rattle.slices.proofs.KindLaws.{edition-classes, edition-lines}
 use Rattle.questions.proofs.PutLaws.{front-none}
 use Rattle.replay_lines.proofs.ToldLaws.{told-length, few-lines, apart-wider, answer-none, answer-some}
 use borrow.Author.Needs.{needs}
@@ -14,6 +15,12 @@ returns : tie.Need-returns
 returns c =
     let t = c .before in
     front-none (answer-none _ (λ e. c .if1 .taken (t .test-text .ensures .number ∙ e)))
+
+normalise-requires : tie.Need-normalise-requires
+normalise-requires c κs =
+    let begin : tie.Start = search in
+    let l = edition-classes 1 (begin .pre .0) in
+    search needs
 
 put-lines-requires : tie.Need-put-lines-requires
 put-lines-requires c κs =
@@ -26,8 +33,10 @@ returns-2 c =
     let n = c .before .before .before .before .before .before in
     let t = n .before .before .before in
     let s = now (t .before .before .before .args .text) in
-    rw (answer-some s (sym (t .before .test-text .ensures .number) ∙ t .if1 .left), ← n .normalise .ensures .lines) (front-of (c .put-lines .ensures))
+    let o = t .before .before .before in
+    let lines = n .normalise .ensures .lines ∙ edition-lines 1 (now (o .args .class)) s (o .pre .0) in
+    rw (answer-some s (sym (t .before .test-text .ensures .number) ∙ t .if1 .left), ← lines) (front-of (c .put-lines .ensures))
 
 pub answer-text-spec : {M : Type 1} → statement M
 answer-text-spec =
-    tie.close (tie.spec (λ c κs. search needs) returns (λ c κs. search needs) put-lines-requires returns-2)
+    tie.close (tie.spec (λ c κs. search needs) returns normalise-requires put-lines-requires returns-2)

@@ -10,12 +10,26 @@ use borrow.Author.Needs.{needs}
 use Rattle.replay_tables.proofs.answer_table.Statement.{statement}
 use Rattle.replay_tables.proofs.answer_table.Tie as tie
 
--- what compile wrote
-written : (k : tie.Else1) → TableMade (now (k .before .before .before .before .before .before .before .before .before .before .args .text)) (k .before .before .before .before .compile .result .len) (k .before .before .before .before .compile .last .1 .1 .1 .0)
-written k = made (k .before .before .before .before .compile .ensures) (omega arith) (omega arith) (k .before .before .before .before .before .before .before .before .before .before .pre) (k .if1 .left)
+-- the places that the answers speak of, each found by its type
+module _ (x : tie.After-compile) where
+  abbrev start : tie.Start
+  start = search
+
+module _ (k : tie.Else1) where
+  abbrev worked : tie.After-compile
+  worked = search
+
+  abbrev begin : tie.Start
+  begin = start worked
+
+  -- what compile wrote
+  written : TableMade (now (begin .args .text)) (worked .compile .result .len) (worked .compile .last .1 .1 .1 .1 .0)
+  written = made (worked .compile .ensures) (omega arith) (omega arith) (begin .pre) (k .if1 .left)
 
 returns : tie.Need-returns
-returns c = front-none (no-table _ (not-made (c .before .before .before .before .compile .ensures) (omega arith) (omega arith) (c .before .before .before .before .before .before .before .before .before .before .pre) (c .if1 .taken)))
+returns c =
+    let done : tie.After-compile = search in
+    front-none (no-table _ (not-made (done .compile .ensures) (omega arith) (omega arith) (start done .pre) (c .if1 .taken)))
 
 slice-reshare-prefix-put-table : tie.Need-slice-reshare-prefix-put-table
 slice-reshare-prefix-put-table c = written c .within
@@ -25,16 +39,16 @@ slice-aggregate-put-table c = sym (length-take-le _ _ (written (c .before) .with
 
 put-table-requires : tie.Need-put-table-requires
 put-table-requires c κs =
-    let k = c .before .before in
+    let k : tie.Else1 = search in
     let w = written k in
-    let m = k .before .before .before .before .compile in
-    (w .sound, omega (arith, length-take-le (m .result .len) (m .last .1 .1 .1 .0) (w .within), w .within, m .kept .1 .1 .1 .0, k .before .before .before .before .before .before .before .before .before .before .pre))
+    let m = worked k .compile in
+    (w .sound, omega (arith, length-take-le (m .result .len) (m .last .1 .1 .1 .1 .0) (w .within), w .within, m .kept .1 .1 .1 .1 .0, begin k .pre))
 
 returns-2 : tie.Need-returns-2
 returns-2 c =
-    let k = c .before .before .before in
+    let k : tie.Else1 = search in
     let w = written k in
-    rw (right-table (now (k .before .before .before .before .before .before .before .before .before .before .args .text)) (w .here), ← w .table) (c .put-table .ensures)
+    rw (right-table (now (begin k .args .text)) (w .here), ← w .table) (c .put-table .ensures)
 
 pub answer-table-spec : {M : Type 1} → statement M
 answer-table-spec =

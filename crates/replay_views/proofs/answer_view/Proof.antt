@@ -1,9 +1,11 @@
 -- `answer_view`: no answer where the text is refused or the view lies outside it, and else the view of its lines.
 -- Assumes nothing.
-use mathlib.Core.Path.{sym, _∙_}
+use mathlib.Core.Path.{refl, sym, _∙_}
 use native.Mathlib.Omega.{arith}
 use denote.Ref.{now}
 use borrow.Author.Tests.{not-true, not-false}
+use Rattle.slices.proofs.KindLaws.{edition-classes}
+use Rattle.license_notes.proofs.LaidLaws.{noted-lines}
 use Rattle.questions.proofs.PutLaws.{front-none}
 use Rattle.questions_fit.proofs.FitLaws.{fits}
 use Rattle.replay_views.proofs.ToldLaws.{no-view, right-view}
@@ -18,21 +20,22 @@ lay-requires : tie.Need-lay-requires
 lay-requires c κs =
     let s = c .before .before .before .before .before in
     let f = fits _ _ _ (sym (c .before .before .before .view-fits .ensures) ∙ not-false _ (c .before .before .if1 .left)) in
-    (s .pre .0, f .passes, omega arith, omega arith)
+    (edition-classes 1 (s .pre .0), f .passes, omega arith, omega arith)
 
 put-view-requires : tie.Need-put-view-requires
 put-view-requires c κs =
     let s = c .before .before .before .before .before .before .before .before .before in
     let f = fits _ _ _ (sym (c .before .before .before .before .before .before .before .view-fits .ensures) ∙ not-false _ (c .before .before .before .before .before .before .if1 .left)) in
     let l = c .before .before .before .lay .ensures in
-    ((s .pre .0, l .0, omega arith), (f .order, omega (arith, f .within, l .1 .1)))
+    ((edition-classes 1 (s .pre .0), l .0, omega arith), (f .order, omega (arith, f .within, l .1 .1)))
 
 returns-2 : tie.Need-returns-2
 returns-2 c =
-    let s = c .before .before .before .before .before .before .before .before .before .before .args in
+    let begin = c .before .before .before .before .before .before .before .before .before .before in
+    let s = begin .args in
     let l = c .before .before .before .before .lay .ensures in
     let e = right-view (s .start) (s .end) (now (s .text)) (sym (c .before .before .before .before .before .before .before .before .view-fits .ensures) ∙ not-false _ (c .before .before .before .before .before .before .before .if1 .left)) in
-    rw (e, ← l .1 .0) (c .put-view .ensures)
+    rw (e, ← noted-lines 1 1 (now (s .class)) (now (s .text)) _ refl (begin .pre .0) (l .1 .0)) (c .put-view .ensures)
 
 pub answer-view-spec : {M : Type 1} → statement M
 answer-view-spec =

@@ -1,12 +1,14 @@
 -- `answer_view`: no answer where the text is refused or the view lies outside it, and else its score.
 -- Assumes nothing.
-use mathlib.Core.Path.{_≡_, sym, _∙_}
+use mathlib.Core.Path.{_≡_, refl, sym, _∙_}
 use mathlib.Core.Bool.{true}
 use native.Mathlib.Omega.{arith}
 use denote.Ref.{now}
 use borrow.Author.Tests.{not-true, not-false}
 use Rattle.detection_shelf.specs.Bodies.{tableOfBody}
 use Rattle.questions_fit.specs.Views.{viewFits}
+use Rattle.slices.proofs.KindLaws.{edition-classes}
+use Rattle.license_notes.proofs.LaidLaws.{noted-lines}
 use Rattle.questions.proofs.PutLaws.{front-none}
 use Rattle.questions_fit.proofs.FitLaws.{fits}
 use Rattle.replay_scores.proofs.ToldLaws.{no-view, right-view}
@@ -41,14 +43,14 @@ lay-requires : tie.Need-lay-requires
 lay-requires c κs =
     let e = c .before .before in
     let s = start e in
-    (s .pre .0, fits _ _ _ (fit e) .passes, omega (arith, s .pre .1), omega (arith, s .pre .1))
+    (edition-classes 1 (s .pre .0), fits _ _ _ (fit e) .passes, omega (arith, s .pre .1), omega (arith, s .pre .1))
 
 view-table-requires : tie.Need-view-table-requires
 view-table-requires c κs =
     let l = c .before .before in
     let e = l .before .before .before in
     let f = fits _ _ _ (fit e) in
-    ((start e .pre .0, l .lay .ensures .0), (f .order, omega (arith, f .within, l .lay .ensures .1 .1)))
+    ((edition-classes 1 (start e .pre .0), l .lay .ensures .0), (f .order, omega (arith, f .within, l .lay .ensures .1 .1)))
 
 charge-exact-requires : tie.Need-charge-exact-requires
 charge-exact-requires c κs =
@@ -65,9 +67,11 @@ returns-2 : tie.Need-returns-2
 returns-2 c =
     let g = c .before .before .before .before in
     let v = tabled g in
-    let s = start (fitted v) .args in
+    let begin = start (fitted v) in
+    let s = begin .args in
+    let lines = noted-lines 1 1 (now (s .class)) (now (s .text)) _ refl (begin .pre .0) (laid v .lay .ensures .1 .0) in
     let e = right-view (s .start) (s .end) (now (s .text)) (tableOfBody (now (s .body))) (fit (fitted v)) in
-    rw (e, ← laid v .lay .ensures .1 .0, ← v .view-table .ensures .1 .0, ← g .charge-exact .ensures .0) (c .before .before .put-score .ensures)
+    rw (e, ← lines, ← v .view-table .ensures .1 .0, ← g .charge-exact .ensures .0) (c .before .before .put-score .ensures)
 
 pub answer-view-spec : {M : Type 1} → statement M
 answer-view-spec =
