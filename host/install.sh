@@ -1,6 +1,6 @@
 #!/bin/sh
 # shellcheck disable=SC1091,SC2086,SC2154
-# Installs the program, header, archive, default book, man page, pkg-config file and CMake config under a prefix: host/install.sh PREFIX. What is
+# Installs the program, header, archive, default books, man page, pkg-config file and CMake config under a prefix: host/install.sh PREFIX. What is
 # missing is built first. Each file is written beside its place and renamed, so that nobody finds half of one; a second run changes nothing.
 set -eu
 umask 022
@@ -16,7 +16,8 @@ Installs Chultarvi under PREFIX, an absolute path such as /usr/local or "$HOME/.
   lib/libchultarvi.a             the archive, for x86-64
   lib/pkgconfig/chultarvi.pc     cc app.c $(pkg-config --cflags --libs chultarvi)
   lib/cmake/chultarvi/           find_package(chultarvi), target chultarvi::chultarvi
-  share/chultarvi/debian.book    the default book
+  share/chultarvi/debian-2.book  the default book, of edition 2
+  share/chultarvi/debian.book    the same of edition 1, in which the digit 4 counts as a space
   share/man/man1/chultarvi.1     man chultarvi
 
 DESTDIR, an absolute path, stands before PREFIX where it is set, as for a package. The tree may be moved: no file in it holds PREFIX.
@@ -110,7 +111,7 @@ put "$archive" lib/libchultarvi.a 644
 put "$work/chultarvi.pc" lib/pkgconfig/chultarvi.pc 644
 put "$work/chultarvi-config.cmake" lib/cmake/chultarvi/chultarvi-config.cmake 644
 put "$work/chultarvi-config-version.cmake" lib/cmake/chultarvi/chultarvi-config-version.cmake 644
-put books/debian.book share/chultarvi/debian.book 644
+for book in books/debian*.book; do put "$book" "share/chultarvi/${book##*/}" 644; done
 put host/chultarvi.1 share/man/man1/chultarvi.1 644
 
 echo "Chultarvi $version is installed. What to do next:"
@@ -119,5 +120,5 @@ case ${RUN-} in
 '') ;;
 *) echo "  (the program is for x86-64, and this machine is $(uname -m): run it by $RUN $prefix/bin/chultarvi)" ;;
 esac
-echo "  chultarvi scan \"$prefix/share/chultarvi/debian.book\" NOTE..."
+echo "  chultarvi scan \"$prefix/share/chultarvi/debian-2.book\" NOTE..."
 echo "  cc app.c \$(PKG_CONFIG_PATH=\"$prefix/lib/pkgconfig\" pkg-config --cflags --libs chultarvi)"

@@ -27,6 +27,12 @@ static inline uint8_t *put_record(uint8_t *p, uint32_t kind, const void *body, s
     return p + len;
 }
 
+/* What a book of this edition begins with: nothing in edition 1. */
+static inline uint8_t *put_edition(uint8_t *p, uint32_t edition) {
+    const uint8_t body[] = {(uint8_t)edition, (uint8_t)(edition >> 8)};
+    return edition > 1 ? put_record(p, CHULTARVI_EDITION, body, sizeof body) : p;
+}
+
 /* A record of a book that is known to be sound. */
 typedef struct { uint32_t kind, len; const uint8_t *body; size_t after; } book_record;
 static inline book_record record_at(const uint8_t *book, size_t at) {
@@ -36,6 +42,10 @@ static inline book_record record_at(const uint8_t *book, size_t at) {
     r.body = book + at + CHULTARVI_RECORD_HEAD;
     r.after = at + CHULTARVI_RECORD_HEAD + (size_t)r.len;
     return r;
+}
+/* Where the first licence of such a book stands, or its end: behind the record of the edition. */
+static inline size_t first_licence(const uint8_t *book, size_t len) {
+    return len > 0 && record_at(book, 0).kind == CHULTARVI_EDITION ? record_at(book, 0).after : 0;
 }
 static inline bool is_stored(uint32_t kind) { return kind >= CHULTARVI_ORIGINAL && kind <= CHULTARVI_HEADER; }
 

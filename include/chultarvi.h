@@ -13,9 +13,9 @@
    books. Texts and books are only read, and may be the same. Calls keep no state, so several threads may call at once, each with areas of its
    own. The time of a call grows with the areas lent, since they are cleared: lend no more than the text needs.
 
-   Answers. `refusal` is 0, or the first number of `enum chultarvi_refusal` that applies, in its order. With a refusal from 1 to 11 all else in the
-   answer is 0. With 12 the answer holds what the scan had until it stopped.
-   After 1 to 10 no lent area has changed. After 0, 11 and 12 every element of area and words is 0, also those beyond what the text needs;
+   Answers. `refusal` is 0, or the first of `enum chultarvi_refusal` that applies, as they stand there: 15 comes behind 5. With 1 to 11 and with 15 all
+   else in the answer is 0. With 12 the answer holds what the scan had until it stopped.
+   After 1 to 10 and after 15 no lent area has changed. After 0, 11 and 12 every element of area and words is 0, also those beyond what the text needs;
    out and results have changed only where the answer says that something was written (with 11: nowhere).
 
    Lines count from 0, and a text has one line more than it has newline bytes, so an empty text has one. A range of lines is its first line
@@ -28,9 +28,13 @@
      kind 3   its alternates, each a table, any number
      kind 4   its headers, each a table, any number
      kind 5   its aliases, each like a name, any number; no scan reads them
+     kind 6   the edition of all its tables, u16: 2. Only as the very first record; a book without it is of edition 1, also an empty one
      table    u32 total, u32 distinct, the entries, which fill it: distinct is how many, total the sum of their counts, at most 8,388,608
      entry    u32 count, from 1 on, u32 length, the bytes: two words of a-z, 0-9 and _ with one space between. Entries strictly rise by their bytes
    Stored texts are the records of kinds 2 to 4, numbered from 0 as they stand. chultarvi_compile makes tables; `chultarvi book` makes books.
+
+   Editions. In edition 1 the digit 4 is a space, so that "version 4" and "version" read alike; from edition 2 on it stays. Nothing else differs. Every
+   call reads its text by the edition of the book that it is lent, so tables of one book are made by one edition, and two books are of the same (15).
 
    What a scoring costs, measured (docs/SPEED.md). Each call checks its books first: some 2 ns for each byte of them. Scoring some lines sorts them, in up
    to 60 ns for each of their bytes; against the next stored texts the same lines take 1 to 80 us each. Elimination scores the whole text against all
@@ -49,9 +53,9 @@
 extern "C" {
 #endif
 
-#define CHULTARVI_VERSION "0.2.0"
+#define CHULTARVI_VERSION "0.3.0"
 #define CHULTARVI_VERSION_MAJOR 0
-#define CHULTARVI_VERSION_MINOR 2
+#define CHULTARVI_VERSION_MINOR 3
 #define CHULTARVI_VERSION_PATCH 0
 
 #define CHULTARVI_TEXT_MOST 1048576u   /* bytes of a text */
@@ -59,6 +63,7 @@ extern "C" {
 #define CHULTARVI_BOOK_MOST 16777216u  /* bytes of a book */
 #define CHULTARVI_STORED_MOST 1024u    /* stored texts of a book */
 #define CHULTARVI_NAME_MOST 64u        /* bytes of a name */
+#define CHULTARVI_EDITION_MOST 2u      /* the last edition; the first is 1 */
 #define CHULTARVI_RECORD_WIDTH 4u      /* numbers of a record in the results */
 #define CHULTARVI_RECORD_HEAD 6u       /* bytes of a book's record before its body */
 
@@ -69,16 +74,19 @@ enum {
     CHULTARVI_ORIGINAL = 2,
     CHULTARVI_ALTERNATE = 3,
     CHULTARVI_HEADER = 4,
-    CHULTARVI_ALIAS = 5
+    CHULTARVI_ALIAS = 5,
+    CHULTARVI_EDITION = 6
 };
 
+/* In the order in which they are tested. 13 and 14 are no refusals. */
 enum chultarvi_refusal {
     CHULTARVI_ANSWERED = 0,
     CHULTARVI_REFUSED_TEXT_LONG = 1,
     CHULTARVI_REFUSED_TEXT_NOT_ASCII = 2, /* a byte of 128 or more */
     CHULTARVI_REFUSED_LINES_MANY = 3,
-    CHULTARVI_REFUSED_BOOK_UNSOUND = 4,
+    CHULTARVI_REFUSED_BOOK_UNSOUND = 4, /* of compile, which is lent no book: no such edition */
     CHULTARVI_REFUSED_BOOK_EMPTY = 5,
+    CHULTARVI_REFUSED_EDITIONS_DIFFER = 15, /* of two books */
     CHULTARVI_REFUSED_LIMIT = 6,
     CHULTARVI_REFUSED_STEP_ZERO = 7,
     CHULTARVI_REFUSED_VIEW = 8,
@@ -105,6 +113,9 @@ static inline const char *chultarvi_refusal_text(uint32_t refusal)
         "a lent area is too small",
         "the output is shorter than the table",
         "stopped by the budget",
+        "unknown",
+        "unknown",
+        "the two books are of differing editions",
     };
     return refusal < sizeof refusal_texts / sizeof *refusal_texts ? refusal_texts[refusal] : "unknown";
 }
@@ -118,16 +129,19 @@ static inline size_t chultarvi_table_bytes(size_t n) { return 24 * n + 64; }
 static inline size_t chultarvi_elimination_results(bool optimize, uint16_t passes) { return optimize ? CHULTARVI_RECORD_WIDTH * (size_t)passes : 0; }
 static inline size_t chultarvi_top_down_results(size_t lines) { return CHULTARVI_RECORD_WIDTH * lines; }
 
-/* Is the book sound? texts: N, the number of its stored texts. An empty book is sound, and N is 0. Refusal 4. The other calls check the book
-   themselves. */
+/* Is the book sound? texts: N, the number of its stored texts. An empty book is sound, and so is the record of an edition alone; N is 0. Refusal 4.
+   The other calls check the book themselves. */
 typedef struct { uint32_t refusal, texts; } chultarvi_book_checked;
 chultarvi_book_checked chultarvi_check_book(const uint8_t *book, size_t book_len);
 
-/* Compiles a text to its table, which is the body of a record of kind 2, 3 or 4 in a book. It is written at the front of out; len: its length in
-   bytes, at most chultarvi_table_bytes. Refusals 1 to 3, 10, 11. */
+/* The edition of a sound book: 1 or 2. Of any other bytes it is 2 where they begin with the whole record of edition 2, else 1; nothing is refused. */
+uint32_t chultarvi_edition(const uint8_t *book, size_t book_len);
+
+/* Compiles a text by an edition, 1 or 2, to its table, which is the body of a record of kind 2, 3 or 4 in a book of this edition. It is written at the
+   front of out; len: its length in bytes, at most chultarvi_table_bytes. Refusals 1 to 3, 4 for any other edition, 10, 11. */
 typedef struct { uint32_t refusal; size_t len; } chultarvi_text_compiled;
-chultarvi_text_compiled chultarvi_compile(const uint8_t *text, size_t text_len, uint8_t *area, size_t area_len, uint32_t *words, size_t words_len,
-                                          uint8_t *out, size_t out_len);
+chultarvi_text_compiled chultarvi_compile(const uint8_t *text, size_t text_len, uint32_t edition, uint8_t *area, size_t area_len, uint32_t *words,
+                                          size_t words_len, uint8_t *out, size_t out_len);
 
 /* Scores a view: the text's lines from `start` up to, and without, `end`, against the stored text `number`, counted from 0 in the book's order.
    score: from 0.0 (nothing in common) to 1.0 (the same words, pair by pair). Refusals 1 to 5, 8 to 10. */
@@ -184,9 +198,10 @@ chultarvi_note_scanned chultarvi_top_down(const uint8_t *text, size_t text_len, 
                                           uint32_t *results, size_t results_len);
 
 /* The same five over two books: their stored texts count on from the first into the second, and N is the sum, also in the budget's "each stored
-   text". Refusal 4 if either is unsound, 5 if neither has a text; an empty book, of length 0, may stand on either side. Each book has its own limits
-   of bytes and texts. Both are only read, and may be the same memory. Names rise in each book for itself, and equal ones may stand in both: among
-   equal scores the lower number wins, so the first book. */
+   text". Refusal 4 if either is unsound, 5 if neither has a text, 15 if their editions differ. An empty book, of length 0, may stand on either side of
+   one of edition 1; beside one of edition 2 it is refused by 15, so where there is no second book take the calls above, which never are. Each book has
+   its own limits of bytes and texts. Both are only read, and may be the same memory. Names rise in each book for itself, and equal ones may stand in
+   both: among equal scores the lower number wins, so the first book. */
 chultarvi_view_scored chultarvi_score_both(const uint8_t *text, size_t text_len, const uint8_t *book, size_t book_len, const uint8_t *second,
                                            size_t second_len, size_t start, size_t end, uint32_t number, uint8_t *area, size_t area_len,
                                            uint32_t *words, size_t words_len);

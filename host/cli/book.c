@@ -10,8 +10,8 @@ enum { LIST_MOST = 4194304 };
 
 /* One line of the list. file: the alias itself where the kind is alias. table, len: a text's table in the book, once it is compiled. */
 typedef struct { const char *name, *file; const uint8_t *table; size_t len, line; uint32_t kind; } entry;
-/* status: the worst that was met so far. ascii: texts that are not ASCII become it. */
-typedef struct { entry *at; size_t count; const char *list; int status; bool ascii; } entries;
+/* status: the worst that was met so far. ascii: texts that are not ASCII become it. edition: by which texts are read. */
+typedef struct { entry *at; size_t count; const char *list; int status; bool ascii; uint32_t edition; } entries;
 
 /* The line is refused. */
 static void refuse(entries *all, const entry *e, const char *why) {
@@ -171,7 +171,7 @@ static void put_word(book *b, uint32_t kind, const char *word, const entry *e, e
 static void put_text(book *b, entry *e, const memory *m, size_t len, entries *all) {
     if (!has_room(b, 0)) no_room(b, e, all);
     uint8_t *body = b->bytes + b->len + RECORD_HEAD;
-    chultarvi_text_compiled c = compile_text(m, len, body, CHULTARVI_BOOK_MOST - b->len - RECORD_HEAD);
+    chultarvi_text_compiled c = compile_text(m, len, all->edition, body, CHULTARVI_BOOK_MOST - b->len - RECORD_HEAD);
     if (c.refusal == CHULTARVI_REFUSED_OUTPUT_SHORT) {
         no_room(b, e, all);
     } else if (c.refusal) {
@@ -208,6 +208,7 @@ static void read_text(book *b, entry *e, const memory *m, uint8_t *raw, entries 
 static void build(book *b, entries *all) {
     memory m = take_memory();
     uint8_t *raw = take(CHULTARVI_TEXT_MOST + 1);
+    b->len = (size_t)(put_edition(b->bytes, all->edition) - b->bytes);
     for (size_t i = 0; i < all->count; i++) {
         entry *e = all->at + i;
         if (i == 0 || !same_name(e - 1, e)) put_word(b, KIND_NAME, e->name, e, all);
@@ -265,7 +266,7 @@ static int stand(const book *b, const char *out, const char *list) {
     }
     if (!write_file(out, b->bytes, b->len)) return TROUBLE;
     put_plain(stdout, out);
-    printf(": %zu bytes, %" PRIu32 " stored text%s\n", b->len, c.texts, plural(c.texts));
+    printf(": %zu bytes, %" PRIu32 " stored text%s, edition %" PRIu32 "\n", b->len, c.texts, plural(c.texts), chultarvi_edition(b->bytes, b->len));
     return DONE;
 }
 
@@ -306,14 +307,17 @@ int run_book(int count, char **words) {
     /* a list may have two million wrong lines: each message is one write, and not one for each letter of a name */
     setvbuf(stderr, 0, _IOLBF, BUFSIZ);
     bool ascii = false;
-    const option_place places[] = {{.name = "ascii", .given = &ascii}};
-    if (!read_options(&count, words, places, 1, &status)) return status;
+    const char *edition_word = 0;
+    uint32_t edition;
+    const option_place places[] = {{.name = "ascii", .given = &ascii}, {.name = "edition", .value = &edition_word}};
+    if (!read_options(&count, words, places, 2, &status)) return status;
+    if (!read_edition("book", edition_word, &edition)) return TROUBLE;
     if (count != 3) return wrong_words("book", "wants OUT and LIST");
     size_t len;
     char *text = read_list(words[2], &len);
     if (!text) return TROUBLE;
     /* a good line has at least nine bytes, as `A alias b`, and its newline */
-    entries all = {take((len / 10 + 1) * sizeof(entry)), 0, words[2], DONE, ascii};
+    entries all = {.at = take((len / 10 + 1) * sizeof(entry)), .list = words[2], .status = DONE, .ascii = ascii, .edition = edition};
     make_book(words[1], &all, text);
     if (all.status != DONE) say_of(words[1], "no new book stands there");
     free(all.at);

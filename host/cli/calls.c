@@ -1,21 +1,20 @@
-/* The calls of the library that the subcommand scan makes, over a whole note or over lines of it, against whole books or parts of them. A part of a
-   sound book that begins and ends between licences is a sound book. Each call is lent only what its text needs, since the library clears it. */
+/* The calls of the library that the subcommand scan makes, over a whole note or over lines of it, against whole books or parts of them. Where the shelf
+   has one book that is the call of one, since an empty second book would be one of edition 1. Each call is lent only what its text needs, since the
+   library clears it. */
 #include "scan.h"
 #include <string.h>
 
-chultarvi_note_scanned eliminate_part(const worker *w, part text, const part books[2], way by) {
-    uint16_t passes = w->from->with.passes;
-    const memory *m = &w->lent;
-    return chultarvi_eliminate_both(text.bytes, text.len, books[0].bytes, books[0].len, books[1].bytes, books[1].len, by.threshold, by.shallow,
-                                    by.optimize, passes, by.budget, m->area, lent_bytes(text.len), m->words, lent_words(text.len), w->results,
-                                    chultarvi_elimination_results(by.optimize, passes));
-}
+#define TEXT text.bytes, text.len
+#define ONE_BOOK books[0].bytes, books[0].len
+#define TWO_BOOKS ONE_BOOK, books[1].bytes, books[1].len
+#define AREAS w->lent.area, lent_bytes(text.len), w->lent.words, lent_words(text.len), w->results
 
-void whole_books(const shelf *s, part books[2], const char *files[2]) {
-    for (int i = 0; i < 2; i++) {
-        books[i] = (part){s->books[i].bytes, s->books[i].len};
-        files[i] = s->books[i].file;
-    }
+static chultarvi_note_scanned eliminate(const worker *w, part text, const part books[2], way by) {
+    uint16_t passes = w->from->with.passes;
+    size_t results = chultarvi_elimination_results(by.optimize, passes);
+    if (!w->from->with.beside)
+        return chultarvi_eliminate(TEXT, ONE_BOOK, by.threshold, by.shallow, by.optimize, passes, by.budget, AREAS, results);
+    return chultarvi_eliminate_both(TEXT, TWO_BOOKS, by.threshold, by.shallow, by.optimize, passes, by.budget, AREAS, results);
 }
 
 static size_t count_lines(part text) {
@@ -24,24 +23,26 @@ static size_t count_lines(part text) {
     return lines < CHULTARVI_LINES_MOST ? lines : CHULTARVI_LINES_MOST;
 }
 
+static chultarvi_note_scanned top_down(const worker *w, part text, const part books[2]) {
+    const settings *s = &w->from->with;
+    size_t results = chultarvi_top_down_results(count_lines(text));
+    if (!s->beside) return chultarvi_top_down(TEXT, ONE_BOOK, s->threshold, s->shallow, s->step, s->budget, AREAS, results);
+    return chultarvi_top_down_both(TEXT, TWO_BOOKS, s->threshold, s->shallow, s->step, s->budget, AREAS, results);
+}
+
 chultarvi_note_scanned scan_whole(const worker *w, part text) {
     const settings *s = &w->from->with;
-    const memory *m = &w->lent;
-    part books[2];
-    const char *files[2];
-    whole_books(w->from, books, files);
-    if (!s->down) return eliminate_part(w, text, books, (way){s->threshold, s->shallow, s->optimize, s->budget});
-    return chultarvi_top_down_both(text.bytes, text.len, books[0].bytes, books[0].len, books[1].bytes, books[1].len, s->threshold, s->shallow,
-                                   s->step, s->budget, m->area, lent_bytes(text.len), m->words, lent_words(text.len), w->results,
-                                   chultarvi_top_down_results(count_lines(text)));
+    const lent_book *b = w->from->books;
+    const part books[2] = {{b[0].bytes, b[0].len}, {b[1].bytes, b[1].len}};
+    return s->down ? top_down(w, text, books) : eliminate(w, text, books, (way){s->threshold, s->shallow, s->optimize, s->budget});
 }
 
 bool is_answered(const chultarvi_note_scanned *a) { return a->refusal == CHULTARVI_ANSWERED || a->refusal == CHULTARVI_STOPPED_BY_BUDGET; }
 
-stored_text named_by(const chultarvi_note_scanned *a, const part books[2], const char *const files[2]) {
+stored_text named_by(const shelf *s, const chultarvi_note_scanned *a) {
     if (!a->kind) return (stored_text){0};
-    const char *name = (const char *)chultarvi_name(books[0].bytes, books[1].bytes, a);
-    return (stored_text){.name = name, .book = files[a->second], .len = a->len, .kind = a->kind};
+    const char *name = (const char *)chultarvi_name(s->books[0].bytes, s->books[1].bytes, a);
+    return (stored_text){.name = name, .book = s->books[a->second].file, .len = a->len, .kind = a->kind};
 }
 
 finding *add_finding(findings *to, finding f) {
@@ -65,7 +66,7 @@ void add_records(const worker *w, const chultarvi_note_scanned *a, uint32_t firs
 
 chultarvi_note_scanned scan_more(const worker *w, report *r, part text, const part books[2], way by) {
     by.budget = r->from->with.budget - r->answer.count - r->more;
-    chultarvi_note_scanned a = eliminate_part(w, text, books, by);
+    chultarvi_note_scanned a = eliminate(w, text, books, by);
     r->more += a.count;
     return a;
 }

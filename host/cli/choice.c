@@ -55,10 +55,10 @@ static void need_slots(worker *w, size_t size) {
     w->slot_room = size;
 }
 
-/* The lines' own pairs into the slots, at most half of which fill. Gives how many pairs there are. */
+/* The lines' own pairs into the slots, at most half of which fill. Gives how many pairs there are. Two books that are scanned are of one edition. */
 static uint32_t fill_slots(worker *w, part text, size_t *mask) {
-    chultarvi_text_compiled c = chultarvi_compile(text.bytes, text.len, w->lent.area, lent_bytes(text.len), w->lent.words, lent_words(text.len),
-                                                  w->table, chultarvi_table_bytes(text.len));
+    chultarvi_text_compiled c = chultarvi_compile(text.bytes, text.len, w->from->books[0].edition, w->lent.area, lent_bytes(text.len),
+                                                  w->lent.words, lent_words(text.len), w->table, chultarvi_table_bytes(text.len));
     uint32_t count = c.refusal ? 0 : get_number(w->table + 4);
     size_t size = 2;
     while (size < 2 * (size_t)count) size *= 2;
@@ -107,9 +107,10 @@ static uint8_t *put_licence(worker *w, uint8_t *p, size_t from, size_t to) {
     return p;
 }
 
-static void put_books(worker *w, part books[2]) {
+/* Each book of its own edition. False where no text is chosen. */
+static bool put_books(worker *w, part books[2]) {
     const shelf *s = w->from;
-    uint8_t *p[2] = {w->few[0], w->few[1]};
+    uint8_t *p[2] = {put_edition(w->few[0], s->books[0].edition), put_edition(w->few[1], s->books[1].edition)};
     w->chosen_count = 0;
     for (size_t from = 0, to; from < s->stored_count; from = to) {
         int book = s->stored[from].book != s->books[0].file;
@@ -117,6 +118,7 @@ static void put_books(worker *w, part books[2]) {
         p[book] = put_licence(w, p[book], from, to);
     }
     for (int i = 0; i < 2; i++) books[i] = (part){w->few[i], (size_t)(p[i] - w->few[i])};
+    return w->chosen_count > 0;
 }
 
 bool choose_texts(worker *w, part text, const stored_text *but, part books[2]) {
@@ -126,8 +128,13 @@ bool choose_texts(worker *w, part text, const stored_text *but, part books[2]) {
     uint32_t total = fill_slots(w, text, &mask);
     for (size_t k = 0; k < s->stored_count; k++)
         w->may[k] = !(but && same_licence(but, s->stored + k)) && may_be_named(w, s->pairs + k, total, mask, share);
-    put_books(w, books);
-    return w->chosen_count > 0;
+    return put_books(w, books);
+}
+
+bool choose_others(worker *w, const stored_text *but, part books[2]) {
+    const shelf *s = w->from;
+    for (size_t k = 0; k < s->stored_count; k++) w->may[k] = !same_licence(but, s->stored + k);
+    return put_books(w, books);
 }
 
 stored_text chosen_by(const worker *w, const chultarvi_note_scanned *a) {

@@ -1,59 +1,16 @@
 /* Doubt about an answer: the best of the other licences on the same lines. For a rival that is a scan against those texts alone that may be named
-   there; for the next one in any case (--second) a scan against the books without the records of the licence that was found. */
+   there; for the next one in any case (--second) a scan against all texts of other licences. */
 #include "scan.h"
-#include "../records.h"
+#include <string.h>
 
-/* Where a licence's records stand in a book: the bytes before them, and those behind. A book without it is all before. */
-static void part_book(const lent_book *book, const stored_text *licence, part *before, part *behind) {
-    size_t from = book->len, to = book->len;
-    book_record r;
-    for (size_t at = 0; at < book->len && to == book->len; at = r.after) {
-        r = record_at(book->bytes, at);
-        if (r.kind != KIND_NAME) continue;
-        if (from < at) to = at;
-        else if (r.len == licence->len && memcmp(r.body, licence->name, r.len) == 0) from = at;
-    }
-    *before = (part){book->bytes, from};
-    *behind = (part){to < book->len ? book->bytes + to : book->bytes, book->len - to};
-}
-
-/* One scan of two parts of books. Keeps its licence where that is better than what is known; false where the budget did not pay. */
-static bool see_parts(worker *w, report *r, part text, const part books[2], const char *file, finding *f) {
-    if (books[0].len + books[1].len == 0) return true;
-    const char *const files[2] = {file, file};
-    chultarvi_note_scanned a = scan_more(w, r, text, books, (way){0});
-    if (a.refusal == CHULTARVI_STOPPED_BY_BUDGET) return false;
-    if (a.refusal == 0 && a.kind && (!f->other.kind || a.score > f->other_score)) {
-        f->other = named_by(&a, books, files);
-        f->other_score = a.score;
-    }
-    return true;
-}
-
-/* The next licence, whatever its score. */
-static void look_for_second(worker *w, report *r, part text, finding *f) {
-    const shelf *s = r->from;
-    f->looked = true;
-    for (int i = 0; i < 2 && f->looked && s->books[i].bytes; i++) {
-        part books[2];
-        part_book(s->books + i, &f->text, books, books + 1);
-        f->looked = see_parts(w, r, text, books, s->books[i].file, f);
-    }
-}
-
-static void look_for_rival(worker *w, report *r, part text, finding *f) {
+static void look_for_other(worker *w, report *r, part text, finding *f) {
     part books[2];
     f->looked = true;
-    if (!choose_texts(w, text, &f->text, books)) return;
+    if (!(r->from->with.second ? choose_others(w, &f->text, books) : choose_texts(w, text, &f->text, books))) return;
     chultarvi_note_scanned a = scan_more(w, r, text, books, (way){0});
     f->looked = a.refusal == 0;
     f->other = chosen_by(w, &a);
     f->other_score = a.score;
-}
-
-static void look_for_other(worker *w, report *r, part text, finding *f) {
-    if (r->from->with.second) look_for_second(w, r, text, f);
-    else look_for_rival(w, r, text, f);
 }
 
 /* Elimination blanks what it has recorded, and a later range may reach over it; so its lines are looked at as they were then. */

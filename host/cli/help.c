@@ -10,7 +10,7 @@ static const char program_help[] =
     "\n"
     "  chultarvi scan [options] BOOK NOTE...   scan notes against a book, or against two\n"
     "  chultarvi list BOOK [--json]            the licences of a book, their texts and aliases\n"
-    "  chultarvi check BOOK...                 are books sound, and how many licences and texts have they?\n"
+    "  chultarvi check BOOK...                 are books sound, how many licences and texts, which edition?\n"
     "  chultarvi book OUT LIST                 make a book from a list of lines NAME KIND FILE\n"
     "  chultarvi compile TEXT [-o OUT]         the table of a text: its size; its bytes into OUT\n"
     "  chultarvi COMMAND --help                the options of a command, and what it prints\n"
@@ -18,6 +18,7 @@ static const char program_help[] =
     "\n"
     "'-' reads standard input, once. A name that begins with '-' stands after '--', or as ./-NAME.\n"
     "Texts are ASCII of at most 1,048,576 bytes and 65,536 lines. Books have at most 16,777,216 bytes and 1,024 texts.\n"
+    "In a book of edition 1 the digit 4 counts as a space, in one of edition 2 as a digit; a note is read by the edition of its book.\n"
     "\n" STATUS;
 
 static const char scan_help[] =
@@ -25,7 +26,8 @@ static const char scan_help[] =
     "\n"
     "Says of each note which licence of the book it holds as a whole, and in which lines it holds which.\n"
     "\n"
-    "  --beside BOOK2    scan against this book too, and say of each licence which book holds it; of equal scores BOOK's wins\n"
+    "  --beside BOOK2    scan against this book too, and say of each licence which book holds it; of equal scores BOOK's wins.\n"
+    "                    Both are of one edition\n"
     "  --threshold X     a licence is named above this score (0.9)\n"
     "  --shallow X       above this score a note is one licence as a whole, and no ranges are looked for (0.99)\n"
     "  --passes N        at most this many ranges, up to 65535 (10)\n"
@@ -47,19 +49,20 @@ static const char list_help[] =
     "chultarvi list BOOK [--json]\n"
     "\n"
     "Prints the licences of a book, a line each: its name; of each stored text the kind, how many bigrams (pairs of words) it has and\n"
-    "how many of them are distinct; its aliases. The last line says how many licences, texts, aliases and bytes.\n"
+    "how many of them are distinct; its aliases. The last line says how many licences, texts, aliases and bytes, and the edition.\n"
     "\n"
-    "  --json   one line of JSON for each licence, with the numbers of its stored texts, and no last line\n"
+    "  --json   one line of JSON for each licence, with the numbers of its stored texts and the edition, and no last line\n"
     "\n" ENDING;
 
 static const char check_help[] =
     "chultarvi check BOOK...\n"
     "\n"
-    "Says of each book whether it is sound, and how many licences and stored texts it has. Of several the worst exit status counts.\n"
+    "Says of each book whether it is sound, how many licences and stored texts it has, and its edition. Of several the worst exit\n"
+    "status counts.\n"
     "\n" ENDING;
 
 static const char book_help[] =
-    "chultarvi book OUT LIST [--ascii]\n"
+    "chultarvi book OUT LIST [--ascii] [--edition N]\n"
     "\n"
     "Makes the book OUT from a list of lines NAME KIND FILE, for example 'MIT original texts/mit.txt'. OUT changes only once all is\n"
     "read and the library finds the book sound.\n"
@@ -69,15 +72,17 @@ static const char book_help[] =
     "with CR LF. A text without bigrams and two names with one text are warned of; an original from /dev/null is empty without a word,\n"
     "for a name that has headers alone.\n"
     "\n"
-    "  --ascii   map or drop what is not ASCII in the texts, as scan does, and say how many characters that were\n"
+    "  --ascii       map or drop what is not ASCII in the texts, as scan does, and say how many characters that were\n"
+    "  --edition N   the book's edition: 1, in which the digit 4 counts as a space, or 2, in which it stays (1)\n"
     "\n" ENDING;
 
 static const char compile_help[] =
-    "chultarvi compile TEXT [-o OUT]\n"
+    "chultarvi compile TEXT [-o OUT] [--edition N]\n"
     "\n"
     "Says how large the table of a text is, which is what a book stores of it.\n"
     "\n"
-    "  -o OUT   write the table into this file; with '-o -' to standard output, and nothing else\n"
+    "  -o OUT        write the table into this file; with '-o -' to standard output, and nothing else\n"
+    "  --edition N   for a book of this edition: 1, in which the digit 4 counts as a space, or 2, in which it stays (1)\n"
     "\n" ENDING;
 
 static const char *help_of(const char *command) {

@@ -40,6 +40,8 @@ void put_plain(FILE *to, const char *name);
 /* A JSON string with its quotes. A byte that is no UTF-8 is written as \udcHH, which says which byte it was. */
 void put_json(FILE *to, const char *bytes, size_t len);
 const char *kind_words(uint32_t kind);
+/* The file name of the default book of an edition, as it is installed. */
+const char *default_book(uint32_t edition);
 bool read_number(const char *word, uint64_t most, uint64_t *number);
 bool read_limit(const char *word, float *limit);
 /* The first byte of 128 or more; len where there is none. */
@@ -68,7 +70,7 @@ memory take_memory(void);
 size_t lent_bytes(size_t text_len);
 size_t lent_words(size_t text_len);
 /* Compiles the text that stands in the memory. */
-chultarvi_text_compiled compile_text(const memory *m, size_t text_len, uint8_t *out, size_t out_len);
+chultarvi_text_compiled compile_text(const memory *m, size_t text_len, uint32_t edition, uint8_t *out, size_t out_len);
 void free_memory(memory *m);
 
 /* The subcommands: each takes its name and what follows it, and gives the exit status. check and list stand in list.c. */
@@ -80,8 +82,10 @@ int run_scan(int count, char **words);
 
 /* stored.c */
 
-/* A book as it was read, and whether the library finds it sound. */
-typedef struct { const char *file; uint8_t *bytes; size_t len; bool sound; } lent_book;
+/* A book as it was read, whether the library finds it sound, and its edition. */
+typedef struct { const char *file; uint8_t *bytes; size_t len; bool sound; uint32_t edition; } lent_book;
+/* Reads the file into the room that the book has, CHULTARVI_BOOK_MOST + 1 bytes. Gives null, or the reason why it cannot be read. */
+const char *read_book(lent_book *b, const char *file);
 
 /* Of each stored text its licence's name, its book's file, its kind and its table's body, by number. The list of a sound book goes to `to`; gives
    its length. */
@@ -102,5 +106,7 @@ typedef struct { char letter; const char *name; const char **value; bool *given;
 /* Reads a command's options wherever they stand before `--`, and -h and --help of each command. The names that are left follow words[0], and *count
    counts them with it. False where all is said, and *status is the exit status; then there is nothing more to do. */
 bool read_options(int *count, char **words, const option_place *places, size_t many, int *status);
+/* The edition behind --edition; 1 where the word is null. False where the library has no such edition, which is said. */
+bool read_edition(const char *command, const char *word, uint32_t *edition);
 
 #endif

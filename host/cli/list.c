@@ -19,15 +19,12 @@ static totals count_book(const lent_book *b) {
     return t;
 }
 
-/* Reads the file into the room that the book has, and looks whether it is sound; else that is said. Gives the exit status. */
+/* A book that cannot be read or is not sound is said to be so. Gives the exit status. */
 static int open_sound(lent_book *b, const char *file) {
-    b->file = file;
-    const char *why = read_file(file, b->bytes, CHULTARVI_BOOK_MOST, &b->len);
+    const char *why = read_book(b, file);
     if (why) return unreadable(file, why);
-    uint32_t refusal = chultarvi_check_book(b->bytes, b->len).refusal;
-    b->sound = refusal == CHULTARVI_ANSWERED;
     if (b->sound) return DONE;
-    say_of(file, "refused (%" PRIu32 "): %s%s" MAKE_ANEW, refusal, chultarvi_refusal_text(refusal),
+    say_of(file, "refused (%d): %s%s" MAKE_ANEW, CHULTARVI_REFUSED_BOOK_UNSOUND, chultarvi_refusal_text(CHULTARVI_REFUSED_BOOK_UNSOUND),
            b->len > CHULTARVI_BOOK_MOST ? ", it is over 16,777,216 bytes" : "");
     return REFUSED;
 }
@@ -37,7 +34,7 @@ static int check_one(lent_book *b, const char *file) {
     if (status != DONE) return status;
     totals t = count_book(b);
     put_plain(stdout, file);
-    printf(": sound, %zu licence%s, %zu stored text%s\n", t.licences, plural(t.licences), t.texts, plural(t.texts));
+    printf(": sound, %zu licence%s, %zu stored text%s, edition %" PRIu32 "\n", t.licences, plural(t.licences), t.texts, plural(t.texts), b->edition);
     return DONE;
 }
 
@@ -97,17 +94,17 @@ static totals put_licence(const lent_book *b, size_t *at, size_t number, put_lic
 /* Once standard output takes nothing, the rest is not worth its time; main says why. */
 static void put_book(const lent_book *b, bool json) {
     totals all = {0};
-    for (size_t at = 0; at < b->len && !ferror(stdout); all.licences++) {
+    for (size_t at = first_licence(b->bytes, b->len); at < b->len && !ferror(stdout); all.licences++) {
         totals t = put_licence(b, &at, all.texts, json ? put_json_record : put_plain_record);
-        if (json) fputs(t.aliases ? "]}" : "],\"aliases\":[]}", stdout);
+        if (json) printf("%s],\"edition\":%" PRIu32 "}", t.aliases ? "" : "],\"aliases\":[", b->edition);
         fputc('\n', stdout);
         all.texts += t.texts;
         all.aliases += t.aliases;
     }
     if (json || ferror(stdout)) return;
     put_plain(stdout, b->file);
-    printf(": %zu licence%s, %zu stored text%s, %zu alias%s, %zu byte%s\n", all.licences, plural(all.licences), all.texts, plural(all.texts),
-           all.aliases, all.aliases == 1 ? "" : "es", b->len, plural(b->len));
+    printf(": %zu licence%s, %zu stored text%s, %zu alias%s, %zu byte%s, edition %" PRIu32 "\n", all.licences, plural(all.licences), all.texts,
+           plural(all.texts), all.aliases, all.aliases == 1 ? "" : "es", b->len, plural(b->len), b->edition);
 }
 
 int run_list(int count, char **words) {

@@ -29,8 +29,8 @@ static size_t bounded(size_t text_len) { return text_len < CHULTARVI_TEXT_MOST ?
 size_t lent_bytes(size_t text_len) { return chultarvi_area_bytes(bounded(text_len)); }
 size_t lent_words(size_t text_len) { return chultarvi_area_words(bounded(text_len)); }
 
-chultarvi_text_compiled compile_text(const memory *m, size_t text_len, uint8_t *out, size_t out_len) {
-    return chultarvi_compile(m->text, text_len, m->area, lent_bytes(text_len), m->words, lent_words(text_len), out, out_len);
+chultarvi_text_compiled compile_text(const memory *m, size_t text_len, uint32_t edition, uint8_t *out, size_t out_len) {
+    return chultarvi_compile(m->text, text_len, edition, m->area, lent_bytes(text_len), m->words, lent_words(text_len), out, out_len);
 }
 
 void free_memory(memory *m) {

@@ -37,14 +37,18 @@ static int wrong_option(const char *command, const char *word, int which) {
     return TROUBLE;
 }
 
+/* As people write it: by its long name, or by its letter where it has none. */
+static int wrong_value(const char *command, const option_place *place, const char *why) {
+    const char letter[] = {place->letter, 0};
+    say("%s%s: %s; chultarvi %s --help tells more", place->name ? "--" : "-", place->name ? place->name : letter, why, command);
+    return TROUBLE;
+}
+
 static int fill_place(const char *command, const option_place *place) {
     if (place->given) *place->given = true;
     if (!place->value) return DONE;
-    if (*place->value || *optarg == 0) {
-        const char letter[] = {'-', place->letter, 0};
-        say_of(letter, "%s; chultarvi %s --help tells more", *optarg ? "stands twice" : "wants a value that is not empty", command);
-        return TROUBLE;
-    }
+    if (*optarg == 0) return wrong_value(command, place, "wants a value that is not empty");
+    if (*place->value) return wrong_value(command, place, "stands twice");
     *place->value = optarg;
     return DONE;
 }
@@ -67,4 +71,12 @@ bool read_options(int *count, char **words, const option_place *places, size_t m
     while (optind < *count) words[names++] = words[optind++];
     *count = names;
     return true;
+}
+
+bool read_edition(const char *command, const char *word, uint32_t *edition) {
+    uint64_t number = 1;
+    bool good = !word || (read_number(word, CHULTARVI_EDITION_MOST, &number) && number > 0);
+    *edition = (uint32_t)number;
+    if (!good) say("--edition wants 1 or 2, not '%s'; chultarvi %s --help tells more", word, command);
+    return good;
 }

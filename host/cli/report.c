@@ -74,11 +74,42 @@ static void json_answer(FILE *to, const report *r) {
     fprintf(to, ",\"unheld\":%zu,\"more\":%" PRIu64, r->unheld, r->more);
 }
 
-/* Refusals 4 and 5 of two books. */
+/* Is it a default book, by its file's name and its edition? */
+static bool is_default(const lent_book *b) {
+    const char *slash = strrchr(b->file, '/');
+    return strcmp(slash ? slash + 1 : b->file, default_book(b->edition)) == 0;
+}
+
+/* How two books come to be of one edition. Beside a default book the other is the reader's own, which the default book of its edition fits. */
+static void put_editions_step(FILE *to, const lent_book *one, const lent_book *two) {
+    const lent_book *own = is_default(one) ? two : one, *other = own == one ? two : one;
+    if (is_default(own)) fputs("both are default books, so scan with one of them", to);
+    else if (is_default(other)) {
+        fprintf(to, "scan with %s, which is of edition %" PRIu32 ", or make ", default_book(own->edition), own->edition);
+        put_plain(to, own->file);
+        fprintf(to, " anew by chultarvi book --edition %" PRIu32, other->edition);
+    } else {
+        fputs("make ", to);
+        put_plain(to, one->edition < two->edition ? one->file : two->file);
+        fputs(" anew by chultarvi book --edition 2; the default book of edition 2 is ", to);
+        fputs(default_book(2), to);
+    }
+}
+
+static void put_editions_message(FILE *to, const lent_book *one, const lent_book *two) {
+    put_plain(to, one->file);
+    fprintf(to, " is of edition %" PRIu32 " and ", one->edition);
+    put_plain(to, two->file);
+    fprintf(to, " of edition %" PRIu32 "; ", two->edition);
+    put_editions_step(to, one, two);
+}
+
+/* Refusals 4, 5 and 15 of two books. */
 static void put_books_message(FILE *to, const report *r) {
     const lent_book *one = r->from->books, *two = one + 1;
     fprintf(to, "refused (%" PRIu32 "): ", r->answer.refusal);
     if (r->answer.refusal == CHULTARVI_REFUSED_BOOK_EMPTY) fputs("neither book has a stored text; make one by chultarvi book", to);
+    else if (r->answer.refusal == CHULTARVI_REFUSED_EDITIONS_DIFFER) put_editions_message(to, one, two);
     else if (!one->sound && !two->sound) fputs("neither book is sound; make them anew by chultarvi book", to);
     else {
         fputs("the book ", to);
@@ -87,14 +118,17 @@ static void put_books_message(FILE *to, const report *r) {
     }
 }
 
+static bool is_of_books(uint32_t refusal) {
+    return refusal == CHULTARVI_REFUSED_BOOK_UNSOUND || refusal == CHULTARVI_REFUSED_BOOK_EMPTY || refusal == CHULTARVI_REFUSED_EDITIONS_DIFFER;
+}
+
 /* What to say of the note's refusal; the caller frees it. */
 static char *message_of(const report *r) {
     uint32_t refusal = r->answer.refusal;
     char *message = 0;
     size_t len;
     FILE *to = open_memstream(&message, &len);
-    bool of_books = refusal == CHULTARVI_REFUSED_BOOK_UNSOUND || refusal == CHULTARVI_REFUSED_BOOK_EMPTY;
-    if (to && r->from->with.beside && of_books) put_books_message(to, r);
+    if (to && r->from->with.beside && is_of_books(refusal)) put_books_message(to, r);
     else if (to) {
         char words[MESSAGE_MOST];
         refusal_message(words, refusal, r->text, r->len, "--ascii scans it with such characters mapped or dropped");

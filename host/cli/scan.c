@@ -138,12 +138,10 @@ static int by_line(const void *a, const void *b) {
 }
 
 static void scan_text(worker *w, report *r) {
-    part text = {r->text, r->len}, books[2];
-    const char *files[2];
+    part text = {r->text, r->len};
     r->answer = scan_whole(w, text);
     if (!is_answered(&r->answer)) return;
-    whole_books(w->from, books, files);
-    r->whole = (finding){.text = named_by(&r->answer, books, files), .score = r->answer.score};
+    r->whole = (finding){.text = named_by(w->from, &r->answer), .score = r->answer.score};
     add_records(w, &r->answer, 0, 0, &r->ranges);
     find_lines(w, text);
     r->whole.after = (uint32_t)w->lines;
@@ -205,15 +203,10 @@ static bool is_watched(void) {
 }
 
 static bool open_book(lent_book *b, const char *file) {
-    b->file = file;
     b->bytes = take(CHULTARVI_BOOK_MOST + 1);
-    const char *why = read_file(file, b->bytes, CHULTARVI_BOOK_MOST, &b->len);
-    if (why) {
-        say_of(file, "cannot be read: %s", why);
-        return false;
-    }
-    b->sound = chultarvi_check_book(b->bytes, b->len).refusal == 0;
-    return true;
+    const char *why = read_book(b, file);
+    if (why) unreadable(file, why);
+    return !why;
 }
 
 static bool open_shelf(shelf *s) {

@@ -79,20 +79,17 @@ typedef struct {
 
 /* calls.c */
 
-/* Scans a text against two books, of which either may be empty; the same as against one alone where it is. */
-typedef struct { float threshold, shallow; bool optimize; uint64_t budget; } way;
-chultarvi_note_scanned eliminate_part(const worker *w, part text, const part books[2], way by);
+/* Scans a text against the books of the shelf. */
 chultarvi_note_scanned scan_whole(const worker *w, part text);
 /* Is there something to say of the note, to its end or until the budget stopped it? */
 bool is_answered(const chultarvi_note_scanned *a);
-/* The licence that an answer names, as if it were stored; `books` are those that were lent, `files` theirs. All is null where none is named. */
-stored_text named_by(const chultarvi_note_scanned *a, const part books[2], const char *const files[2]);
-/* Both books whole, and their files. */
-void whole_books(const shelf *s, part books[2], const char *files[2]);
+/* The licence that the answer of a scan against whole books names, as if it were stored. All is null where none is named. */
+stored_text named_by(const shelf *s, const chultarvi_note_scanned *a);
 /* Adds what the answer recorded, its lines counted on from `first`. `numbers` says which stored text each number of the answer means; null where
    the numbers are the shelf's own. */
 void add_records(const worker *w, const chultarvi_note_scanned *a, uint32_t first, const uint32_t *numbers, findings *to);
-/* One more scan for a note, by what is left of its budget, and charged to it. */
+/* One more scan for a note, against parts of the books, by what is left of its budget, and charged to it. */
+typedef struct { float threshold, shallow; bool optimize; uint64_t budget; } way;
 chultarvi_note_scanned scan_more(const worker *w, report *r, part text, const part books[2], way by);
 /* Where each line starts, and one past the end of the last; the text is no longer than a text may be. */
 void find_lines(worker *w, part text);
@@ -104,6 +101,8 @@ void open_choice(worker *w);
 void close_choice(worker *w);
 /* Books of those stored texts alone that may be named on these lines, without the licence `but`, where it is not null. False where there are none. */
 bool choose_texts(worker *w, part text, const stored_text *but, part books[2]);
+/* The same of all stored texts but that licence's. */
+bool choose_others(worker *w, const stored_text *but, part books[2]);
 /* The licence that an answer over the chosen texts names. */
 stored_text chosen_by(const worker *w, const chultarvi_note_scanned *a);
 bool same_licence(const stored_text *a, const stored_text *b);

@@ -1,6 +1,15 @@
-/* The stored texts of a book, by number, as reports name them. */
+/* A book as it is read for any command, and its stored texts, by number, as reports name them. */
 #include "host.h"
 #include "../records.h"
+
+const char *read_book(lent_book *b, const char *file) {
+    b->file = file;
+    const char *why = read_file(file, b->bytes, CHULTARVI_BOOK_MOST, &b->len);
+    if (why) return why;
+    b->sound = chultarvi_check_book(b->bytes, b->len).refusal == CHULTARVI_ANSWERED;
+    b->edition = chultarvi_edition(b->bytes, b->len);
+    return 0;
+}
 
 size_t list_stored(const lent_book *book, stored_text *to) {
     book_record name = {0}, r;

@@ -84,6 +84,8 @@ const char *kind_words(uint32_t kind) {
     }
 }
 
+const char *default_book(uint32_t edition) { return edition == 1 ? "debian.book" : "debian-2.book"; }
+
 /* Digits only: strtoull alone would take a sign and leading spaces. */
 bool read_number(const char *word, uint64_t most, uint64_t *number) {
     uint64_t n = 0;

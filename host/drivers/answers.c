@@ -1,5 +1,6 @@
 /* Answers the oracle's questions (oracle/README.md) by the archive: table, score, countbounds, clear, add, counteliminate, countdown; behind
-   `border K` by the calls that take two books. Every area is filled with garbage before a call and looked at after it, and so is the name's part.
+   `border K` by the calls that take two books. The edition is the argument, and 1 without it: texts are compiled under it, and every book has it.
+   Every area is filled with garbage before a call and looked at after it, and so is the name's part.
    A question that cannot be held or read stops the program with a message and status 2. Build and run: host/drivers/answers.sh. Nothing here is part
    of the gate. */
 #include "../records.h"
@@ -9,6 +10,7 @@
 #include <stdlib.h>
 
 enum { SPARE = 3, WORDS = 10, LINE_MOST = 16 << 20 };
+static uint32_t edition = 1;
 static uint8_t book[CHULTARVI_BOOK_MOST];
 static size_t book_len;
 /* The name that the next text stands under, if it has the same; with no licence yet it is empty, which is no name. */
@@ -79,11 +81,13 @@ static size_t add_record(uint8_t *to, size_t at, uint32_t kind, const uint8_t *b
     if (CHULTARVI_BOOK_MOST - at < CHULTARVI_RECORD_HEAD + len) stop("a book is over 16,777,216 bytes");
     return (size_t)(put_record(to + at, kind, body, len) - to);
 }
+/* A book begins with its edition, or with nothing where that is 1. */
+static size_t begin_book(uint8_t *to) { return (size_t)(put_edition(to, edition) - to); }
 static size_t add_table(uint8_t *to, size_t at, uint32_t kind, text_t t) {
     areas_t a = lend(t.len, 0);
     size_t room = chultarvi_table_bytes(t.len);
     uint8_t *out = take(room);
-    chultarvi_text_compiled c = chultarvi_compile(t.bytes, t.len, a.area, a.bytes, a.words, a.count, out, room);
+    chultarvi_text_compiled c = chultarvi_compile(t.bytes, t.len, edition, a.area, a.bytes, a.words, a.count, out, room);
     if (c.refusal) stop(chultarvi_refusal_text(c.refusal));
     give_back(a, 0);
     at = add_record(to, at, kind, out, c.len);
@@ -139,7 +143,7 @@ static void print_bounds(text_t t, books_t b, size_t start, size_t end, uint32_t
 static void answer_view(char **w, const char *border, bool whole_bounds) {
     text_t t = unhex(w[3]), licence = unhex(w[4]);
     static uint8_t one[CHULTARVI_BOOK_MOST];
-    size_t n = add_record(one, 0, CHULTARVI_LICENCE_NAME, (const uint8_t *)"A", 1);
+    size_t n = add_record(one, begin_book(one), CHULTARVI_LICENCE_NAME, (const uint8_t *)"A", 1);
     n = add_table(one, n, CHULTARVI_ORIGINAL, licence);
     uint32_t number;
     books_t b = beside_store(one, n, border, &number);
@@ -148,6 +152,10 @@ static void answer_view(char **w, const char *border, bool whole_bounds) {
     else printf("%08" PRIx32 "\n", bits(score_of(t, b, start, end, number)));
     free(t.bytes);
     free(licence.bytes);
+}
+static void clear(void) {
+    book_len = begin_book(book);
+    name_above_len = 0;
 }
 /* A new name is a new licence of the store. */
 static void add(char **w) {
@@ -160,27 +168,31 @@ static void add(char **w) {
     memcpy(name_above, name.bytes, name.len);
     name_above_len = name.len;
     if (chultarvi_check_book(book, book_len).refusal) stop("the book is unsound");
+    if (chultarvi_edition(book, book_len) != edition) stop("the book has another edition");
     printf("ok\n");
     free(name.bytes);
     free(t.bytes);
 }
-/* the store, or its licences before the border and those from it on */
+/* the store, or its licences before the border and, behind an edition of their own, those from it on */
 static books_t parted(const char *border) {
-    uint64_t before = border ? whole(border, UINT64_MAX) : UINT64_MAX;
-    size_t at = 0;
+    static uint8_t second[CHULTARVI_BOOK_MOST];
+    if (!border) return (books_t){.first = book, .first_len = book_len};
+    uint64_t before = whole(border, UINT64_MAX);
+    size_t at = 0, n = begin_book(second);
     for (; at < book_len; at = record_at(book, at).after) if (record_at(book, at).kind == CHULTARVI_LICENCE_NAME && before-- == 0) break;
-    return (books_t){book, book + at, at, book_len - at, border != 0};
+    memcpy(second + n, book + at, book_len - at);
+    return (books_t){book, second, at, n + book_len - at, true};
 }
-/* where the name that stored text k stands under starts in the store */
-static const uint8_t *name_of(uint32_t k) {
+/* where the name that a book's stored text *k stands under starts; null where *k counts on into another book, and is then its number there */
+static const uint8_t *name_in(const uint8_t *lent, size_t len, uint32_t *k) {
     const uint8_t *name = 0;
     book_record r;
-    for (size_t at = 0; at < book_len; at = r.after) {
-        r = record_at(book, at);
+    for (size_t at = 0; at < len; at = r.after) {
+        r = record_at(lent, at);
         if (r.kind == CHULTARVI_LICENCE_NAME) name = r.body;
-        else if (is_stored(r.kind) && k-- == 0) break;
+        else if (is_stored(r.kind) && (*k)-- == 0) return name;
     }
-    return name;
+    return 0;
 }
 static size_t lines_of(text_t t) {
     size_t lines = 1;
@@ -197,13 +209,16 @@ static uint32_t stored_number(const chultarvi_note_scanned *s, text_t t, books_t
 /* writes who is named, whose name must stand where the answer says: with no name that is the first book's start */
 static void print_named(const chultarvi_note_scanned *s, text_t t, books_t b) {
     const uint8_t *name = b.first;
+    bool second = false;
     if (s->kind) {
         uint32_t k = stored_number(s, t, b);
-        name = name_of(k);
         printf("%" PRIu32, k);
+        name = name_in(b.first, b.first_len, &k);
+        second = !name;
+        if (second) name = name_in(b.second, b.second_len, &k);
     } else printf("none");
     if (chultarvi_name(b.first, b.second, s) != name || memcmp(name, s->name, s->len) != 0) stop("the name is not where it stands");
-    if (s->second != (b.two && s->kind && name >= b.second)) stop("the name is not in the book that holds it");
+    if (s->second != second) stop("the name is not in the book that holds it");
 }
 /* What a scan is asked: of elimination optimize and passes count, of top-down the step. */
 typedef struct { float threshold, shallow; bool down, optimize; uint16_t passes; uint64_t step, budget; } scan_t;
@@ -246,7 +261,7 @@ static void answer(char **w, int n, const char *border) {
     else if (!strcmp(w[0], "countdown") && n == 6) answer_scan(w, border, true);
     else if (border) stop("no such question of two books");
     else if (!strcmp(w[0], "table") && n == 2) answer_table(w[1]);
-    else if (!strcmp(w[0], "clear") && n == 1) { book_len = 0; name_above_len = 0; printf("ok\n"); }
+    else if (!strcmp(w[0], "clear") && n == 1) { clear(); printf("ok\n"); }
     else if (!strcmp(w[0], "add") && n == 4) add(w);
     else stop("no such question");
 }
@@ -259,7 +274,9 @@ static int words_of(char *line, char *w[WORDS]) {
     return n;
 }
 
-int main(void) {
+int main(int argc, char **argv) {
+    if (argc > 1) edition = (uint32_t)whole(argv[1], CHULTARVI_EDITION_MOST);
+    clear();
     char *line = take(LINE_MOST);
     while (fgets(line, LINE_MOST, stdin)) {
         if (strlen(line) == LINE_MOST - 1 && line[LINE_MOST - 2] != '\n') stop("a question is over 16,777,214 bytes");

@@ -65,7 +65,7 @@ static double seconds(size_t n) {
     struct timespec s, e;
     clock_gettime(CLOCK_PROCESS_CPUTIME_ID, &s);
     chultarvi_text_compiled c =
-        chultarvi_compile(text, n, area, chultarvi_area_bytes(n), words, chultarvi_area_words(n), out, chultarvi_table_bytes(n));
+        chultarvi_compile(text, n, 1, area, chultarvi_area_bytes(n), words, chultarvi_area_words(n), out, chultarvi_table_bytes(n));
     clock_gettime(CLOCK_PROCESS_CPUTIME_ID, &e);
     if (c.refusal) stop(chultarvi_refusal_text(c.refusal));
     return (double)(e.tv_sec - s.tv_sec) + 1e-9 * (double)(e.tv_nsec - s.tv_nsec);

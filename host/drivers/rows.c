@@ -1,6 +1,6 @@
 /* Calls the archive as it is told: a call on standard input, what came of it on standard output, until the input ends. oracle/rows.py asks.
-   Every number is a u64, little-endian. A call: the eighteen numbers below, then what text, both books, area, words, out and results hold; of the
-   books only the first is lent, or both, or the first twice. The answer: ten numbers, the 64 bytes of the name and where it stands, whether
+   Every number is a u64, little-endian. A call: the nineteen numbers below, then what text, both books, area, words, out and results hold; of the
+   books only the first is lent, or both, or the first twice. The answer: eleven numbers, the 64 bytes of the name and where it stands, whether
    chultarvi_name or chultarvi_stored_name finds it elsewhere, whether the bytes behind a buffer have changed, then what the seven hold now. An empty
    buffer is lent as a null pointer. */
 #include "../../include/chultarvi.h"
@@ -8,13 +8,13 @@
 #include <stdlib.h>
 #include <string.h>
 
-enum { CHECK, COMPILE, SCORE, BOUNDS, ELIMINATE, DOWN, NAME };
+enum { CHECK, COMPILE, SCORE, BOUNDS, ELIMINATE, DOWN, NAME, EDITION };
 enum { TEXT, BOOK, SECOND, AREA, WORDS, OUT, RESULTS, BUFFERS };
 enum { ONE, TWO, SAME };
 enum { FENCE = 64, FENCE_BYTE = 0xd7 };
-typedef struct { uint64_t job, start, end, number, threshold, shallow, optimize, passes, step, budget, books, len[BUFFERS]; } call;
+typedef struct { uint64_t job, edition, start, end, number, threshold, shallow, optimize, passes, step, budget, books, len[BUFFERS]; } call;
 typedef struct {
-    uint64_t refusal, texts, len, first, after, score, count, records, kind, name_len;
+    uint64_t refusal, texts, len, first, after, score, count, records, kind, name_len, edition;
     uint8_t name[64];
     uint64_t second, name_at, misplaced, crossed;
 } reply;
@@ -112,11 +112,12 @@ static void answer(const call *c, reply *r) {
         chultarvi_book_checked b = chultarvi_check_book(lent(c, BOOK), c->len[BOOK]);
         r->refusal = b.refusal, r->texts = b.texts;
     } else if (c->job == COMPILE) {
-        chultarvi_text_compiled t = chultarvi_compile(lent(c, TEXT), c->len[TEXT], WORK, lent(c, OUT), c->len[OUT]);
+        chultarvi_text_compiled t = chultarvi_compile(lent(c, TEXT), c->len[TEXT], (uint32_t)c->edition, WORK, lent(c, OUT), c->len[OUT]);
         r->refusal = t.refusal, r->len = t.len;
     } else if (c->job == SCORE || c->job == BOUNDS) view_job(c, r);
     else if (c->job == ELIMINATE || c->job == DOWN) scan_job(c, r);
     else if (c->job == NAME) name_job(c, r);
+    else if (c->job == EDITION) r->edition = chultarvi_edition(lent(c, BOOK), c->len[BOOK]);
     else stop("no such job");
 }
 

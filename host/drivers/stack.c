@@ -23,7 +23,7 @@ static size_t book_len;
 #define RESULTS c->results, chultarvi_top_down_results(c->text.lines) + chultarvi_elimination_results(true, PASSES)
 static void nothing(call_t *c) { c->refusal = 0; }
 static void check(call_t *c) { c->refusal = chultarvi_check_book(book, book_len).refusal; }
-static void compile(call_t *c) { c->refusal = chultarvi_compile(TEXT, AREAS, c->out, chultarvi_table_bytes(c->text.len)).refusal; }
+static void compile(call_t *c) { c->refusal = chultarvi_compile(TEXT, 1, AREAS, c->out, chultarvi_table_bytes(c->text.len)).refusal; }
 static void score(call_t *c) { c->refusal = chultarvi_score(TEXT, book, book_len, 0, c->text.lines, 0, AREAS).refusal; }
 static void bounds(call_t *c) { c->refusal = chultarvi_bounds(TEXT, book, book_len, 0, c->text.lines, 0, AREAS).refusal; }
 static void eliminate(call_t *c) {
@@ -88,7 +88,7 @@ static void make_book(text_t text) {
     size_t sizes[] = {text.len / 2, text.len / 64};
     book = room(CHULTARVI_BOOK_MOST), book_len = 0;
     for (int i = 0; i < 2; i++) {
-        chultarvi_text_compiled t = chultarvi_compile(text.bytes, sizes[i], area, area_len, words, words_len, out, out_len);
+        chultarvi_text_compiled t = chultarvi_compile(text.bytes, sizes[i], 1, area, area_len, words, words_len, out, out_len);
         if (t.refusal) stop("a licence is refused");
         if (CHULTARVI_BOOK_MOST - book_len < 2 * CHULTARVI_RECORD_HEAD + 1 + t.len) stop("the book is too large");
         uint8_t *p = put_record(book + book_len, CHULTARVI_LICENCE_NAME, i == 0 ? "A" : "B", 1);

@@ -4,8 +4,6 @@
 set -u
 . "$(dirname "$0")/common.sh"
 
-tells() { echo "chultarvi $1 --help tells more"; }
-
 # help, of the program and of each command
 for words in --help -h help; do
     run 0 $words
@@ -43,7 +41,7 @@ err_is 'chultarvi: frob: no such command; chultarvi --help tells more'
 # usage
 run 0 --version
 out_is "chultarvi $(sed -n 's/^#define CHULTARVI_VERSION "\(.*\)"/\1/p' "$root/include/chultarvi.h")"
-out_is 'chultarvi 0.2.0'
+out_is 'chultarvi 0.3.0'
 run 2
 err_is "chultarvi: no command; $help"
 run 2 frob
@@ -74,7 +72,7 @@ cp a.book ./-b
 cp license ./-t
 printf 'A original -t\n' >./-l
 run 0 check -- -b
-out_is '-b: sound, 1 licence, 1 stored text'
+out_is '-b: sound, 1 licence, 1 stored text, edition 1'
 run 0 list --json -- -b
 run 0 list -- -b
 out_has 'A: original'
@@ -98,11 +96,11 @@ done
 
 # check: one book or several, and the worst of them counts
 run 0 check a.book
-out_is 'a.book: sound, 1 licence, 1 stored text'
+out_is 'a.book: sound, 1 licence, 1 stored text, edition 1'
 run 0 check empty
-out_is 'empty: sound, 0 licences, 0 stored texts'
+out_is 'empty: sound, 0 licences, 0 stored texts, edition 1'
 from a.book 0 check -
-out_is '-: sound, 1 licence, 1 stored text'
+out_is '-: sound, 1 licence, 1 stored text, edition 1'
 run 1 check cut.book
 err_is 'chultarvi: cut.book: refused (4): the book is not sound; make it anew by chultarvi book'
 run 1 check /dev/zero
@@ -114,21 +112,21 @@ err_is 'chultarvi: .: cannot be read: Is a directory'
 run 0 check default.book
 out_has 'default.book: sound, '
 run 1 check a.book cut.book empty
-out_is 'a.book: sound, 1 licence, 1 stored text
-empty: sound, 0 licences, 0 stored texts'
+out_is 'a.book: sound, 1 licence, 1 stored text, edition 1
+empty: sound, 0 licences, 0 stored texts, edition 1'
 run 2 check nowhere cut.book . a.book
-out_is 'a.book: sound, 1 licence, 1 stored text'
+out_is 'a.book: sound, 1 licence, 1 stored text, edition 1'
 err_is 'chultarvi: nowhere: cannot be read: No such file or directory
 chultarvi: cut.book: refused (4): the book is not sound; make it anew by chultarvi book
 chultarvi: .: cannot be read: Is a directory'
 from a.book 2 check - -
-out_is '-: sound, 1 licence, 1 stored text'
+out_is '-: sound, 1 licence, 1 stored text, edition 1'
 err_is 'chultarvi: -: cannot be read: standard input is read already'
 
 # list
 run 0 list a.book
 out_is 'A: original 2 bigrams, 2 distinct
-a.book: 1 licence, 1 stored text, 0 aliases, 58 bytes'
+a.book: 1 licence, 1 stored text, 0 aliases, 58 bytes, edition 1'
 printf 'a b a b a b' >pairs
 printf 'B alias x\nB original two\nA header two\nA alias z\nA alternate pairs\nA alias b"\\\nA original license\nC original pairs' >list
 run 0 book mixed.book list
@@ -136,13 +134,13 @@ run 0 list mixed.book
 out_is "A: original 2 bigrams, 2 distinct; alternate 5 bigrams, 2 distinct; header 4 bigrams, 4 distinct; aliases b\"\\, z
 B: original 4 bigrams, 4 distinct; aliases x
 C: original 5 bigrams, 2 distinct
-mixed.book: 3 licences, 5 stored texts, 3 aliases, $(wc -c <mixed.book) bytes"
+mixed.book: 3 licences, 5 stored texts, 3 aliases, $(wc -c <mixed.book) bytes, edition 1"
 run 0 list --json mixed.book
-json 'notes' '[{"licence": "A", "texts": [{"kind": "original", "number": 0, "bigrams": 2, "distinct": 2}, {"kind": "alternate", "number": 1, "bigrams": 5, "distinct": 2}, {"kind": "header", "number": 2, "bigrams": 4, "distinct": 4}], "aliases": ["b\"\\", "z"]}, {"licence": "B", "texts": [{"kind": "original", "number": 3, "bigrams": 4, "distinct": 4}], "aliases": ["x"]}, {"licence": "C", "texts": [{"kind": "original", "number": 4, "bigrams": 5, "distinct": 2}], "aliases": []}]'
+json 'notes' '[{"licence": "A", "texts": [{"kind": "original", "number": 0, "bigrams": 2, "distinct": 2}, {"kind": "alternate", "number": 1, "bigrams": 5, "distinct": 2}, {"kind": "header", "number": 2, "bigrams": 4, "distinct": 4}], "aliases": ["b\"\\", "z"], "edition": 1}, {"licence": "B", "texts": [{"kind": "original", "number": 3, "bigrams": 4, "distinct": 4}], "aliases": ["x"], "edition": 1}, {"licence": "C", "texts": [{"kind": "original", "number": 4, "bigrams": 5, "distinct": 2}], "aliases": [], "edition": 1}]'
 run 0 check mixed.book
-out_is 'mixed.book: sound, 3 licences, 5 stored texts'
+out_is 'mixed.book: sound, 3 licences, 5 stored texts, edition 1'
 run 0 list empty
-out_is 'empty: 0 licences, 0 stored texts, 0 aliases, 0 bytes'
+out_is 'empty: 0 licences, 0 stored texts, 0 aliases, 0 bytes, edition 1'
 run 0 list --json empty
 out_is ''
 from a.book 0 list -
@@ -162,14 +160,14 @@ counted=$(python3 -c 'import json; b = [json.loads(l) for l in open(".out")]; pr
 assert [t["number"] for l in b for t in l["texts"]] == list(range(sum(len(l["texts"]) for l in b)))')
 set -- $counted
 run 0 list default.book
-out_has "default.book: $1 licences, $2 stored texts, $3 aliases, $(wc -c <default.book) bytes"
+out_has "default.book: $1 licences, $2 stored texts, $3 aliases, $(wc -c <default.book) bytes, edition 2"
 [ "$(wc -l <.out)" = $(($1 + 1)) ] && good || bad 'not a line for each licence'
 run 0 check default.book
-out_is "default.book: sound, $1 licences, $2 stored texts"
+out_is "default.book: sound, $1 licences, $2 stored texts, edition 2"
 
 # compile
 run 0 compile license
-out_is 'license: a table of 45 bytes, 2 bigrams, 2 of them distinct'
+out_is 'license: a table of 45 bytes, 2 bigrams, 2 of them distinct, edition 1'
 run 0 compile -o made license
 same made table
 run 0 compile license -o -
@@ -177,7 +175,7 @@ same .out table
 from license 0 compile - -o -
 same .out table
 run 0 compile empty
-out_is 'empty: a table of 8 bytes, 0 bigrams, 0 of them distinct'
+out_is 'empty: a table of 8 bytes, 0 bigrams, 0 of them distinct, edition 1'
 run 0 compile most
 run 1 compile over
 err_is 'chultarvi: over: refused (1): the text is over 1,048,576 bytes; cut it into parts'
@@ -199,7 +197,7 @@ run 0 compile urls
 # book
 printf '# a comment\n\nA original license\n' >list
 run 0 book made.book list
-out_is 'made.book: 58 bytes, 1 stored text'
+out_is 'made.book: 58 bytes, 1 stored text, edition 1'
 same made.book a.book
 from list 0 book made.book -
 same made.book a.book
@@ -262,7 +260,7 @@ run 1 book many.book list
 err_is 'chultarvi: list: line 1025: 1025 texts; a book has at most 1,024, so make two of the list
 chultarvi: many.book: no new book stands there'
 run 0 book empty.book empty
-out_is 'empty.book: 0 bytes, 0 stored texts'
+out_is 'empty.book: 0 bytes, 0 stored texts, edition 1'
 awk 'BEGIN { for (i = 0; i < 149000; i++) printf "%c%05x ", 103 + i % 20, i }' >wide
 for i in 1 2 3 4 5 6; do echo "N$i original wide"; done >list
 run 1 book stands.book list
@@ -458,9 +456,9 @@ ln -s "$root/host/run.sh" chultarvi-link
 ln -s chultarvi-link again-link
 for link in ./chultarvi-link ./again-link "$work/again-link"; do
     so 0 "$link --version"
-    out_is 'chultarvi 0.2.0'
+    out_is 'chultarvi 0.3.0'
 done
 so 0 "$work/chultarvi-link check a.book"
-out_is 'a.book: sound, 1 licence, 1 stored text'
+out_is 'a.book: sound, 1 licence, 1 stored text, edition 1'
 
 the_end

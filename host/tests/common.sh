@@ -109,6 +109,9 @@ printf 'one\ntwo \303\244\n' >umlaut
 cut_book() { head -c 57 a.book; }
 cut_book >cut.book
 help='chultarvi --help tells more'
+tells() { echo "chultarvi $1 --help tells more"; }
+# words WORD COUNT: a text of so many words, each its own, eight on a line
+words() { awk -v word="$1" -v count="$2" 'BEGIN { for (i = 1; i <= count; i++) printf "%s%s", word, i % 8 ? i " " : i "\n" }' | tr 0123456789 abcdefghij; }
 
 the_end() {
     echo "$passed passed, $failed failed"

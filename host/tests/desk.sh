@@ -9,7 +9,6 @@ soon="timeout 60 $program"
 
 # three licences of words of their own, the last of three stanzas; and a long one, of which a note holds every other line: it is the best over the whole
 # note and is nowhere in it, so elimination ends with it
-words() { awk -v word="$1" -v count="$2" 'BEGIN { for (i = 1; i <= count; i++) printf "%s%s", word, i % 8 ? i " " : i "\n" }' | tr 0123456789 abcdefghij; }
 words alpha 40 >alpha
 words beta 40 >beta
 { words gamma 16; echo; words delta 16; echo; words epsilon 16; } >gamma

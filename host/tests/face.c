@@ -1,6 +1,6 @@
-/* Tests of the library as C and C++ see it: this file is compiled as both. Layout of every answer; every export, over one book and over two; every
-   refusal with the neighbour that is not refused; and after each call, what the lent areas hold and where the name stands. Prints what fails, then
-   'N passed, M failed'. */
+/* Tests of the library as C and C++ see it: this file is compiled as both. Layout of every answer; every export, over one book and over two, by
+   either edition; every refusal with the neighbour that is not refused; and after each call, what the lent areas hold and where the name stands. Prints
+   what fails, then 'N passed, M failed'. */
 #include "../records.h"
 #include <assert.h>
 #include <float.h>
@@ -67,6 +67,7 @@ typedef struct {
     const uint8_t *book, *second;
     size_t book_len, second_len;
     bool both;
+    uint32_t edition;
 } lent;
 static uint8_t *area, *out, *big;
 static uint32_t *words, *results;
@@ -93,7 +94,7 @@ static bool all_are(const void *at, size_t from, size_t to, int byte) {
     for (size_t i = from; i < to; i++) if (p[i] != byte) return false;
     return true;
 }
-/* As the header says: zero after 0, 11 and 12, unchanged after 1 to 10; beyond what was lent, and in out and results beyond what was written,
+/* As the header says: zero after 0, 11 and 12, unchanged after 1 to 10 and 15; beyond what was lent, and in out and results beyond what was written,
    unchanged always. */
 static bool areas_right(const lent *l, uint32_t refusal, size_t written, size_t recorded) {
     int now = refusal == 0 || refusal == 11 || refusal == 12 ? 0 : 0xa5;
@@ -101,10 +102,26 @@ static bool areas_right(const lent *l, uint32_t refusal, size_t written, size_t 
            all_are(words, 4 * l->words_len, 4 * (l->words_len + SPARE), 0xa5) && all_are(out, written, l->out_len + SPARE, 0xa5) &&
            all_are(results, 16 * recorded, 4 * (l->results_len + SPARE), 0xa5);
 }
-/* How `lend` lays the book: alone; beside an empty one; or as the second, beside an empty first. Every answer is the same but for `second`, so the
-   tests of one book run in each form. */
+/* How `lend` lays the book: alone; beside an empty one; or as the second, beside an empty first. And by which edition: in edition 2 its record stands
+   before the book, and the empty one is that record alone. Every answer is the same but for `second` and for the place of the name, so the tests of one
+   book run in each form and edition. */
 enum { ALONE, FIRST, SECOND, FORMS };
 static int form = ALONE;
+static uint32_t edition = 1;
+typedef struct { const uint8_t *at; size_t len; } held;
+static held hold(const uint8_t *at, size_t len) {
+    held h;
+    h.at = at;
+    h.len = len;
+    return h;
+}
+/* The bytes with the edition's record in front, in room for them; in edition 1 as they are. */
+static held by_edition(uint8_t *room, const uint8_t *book, size_t len) {
+    uint8_t *p = put_edition(room, edition);
+    if (p == room) return hold(book, len);
+    if (len > 0) memcpy(p, book, len);
+    return hold(room, (size_t)(p - room) + len);
+}
 
 static lent lend_both(const void *text, size_t len, const uint8_t *book, size_t book_len, const uint8_t *second, size_t second_len) {
     lent l;
@@ -119,11 +136,14 @@ static lent lend_both(const void *text, size_t len, const uint8_t *book, size_t 
     l.second = second;
     l.second_len = second_len;
     l.both = true;
+    l.edition = edition;
     return l;
 }
 static lent lend(const void *text, size_t len, const uint8_t *book, size_t book_len) {
-    if (form == SECOND) return lend_both(text, len, 0, 0, book, book_len);
-    lent l = lend_both(text, len, book, book_len, 0, 0);
+    static uint8_t room[256], no_room[8];
+    held one = by_edition(room, book, book_len), none = by_edition(no_room, 0, 0);
+    if (form == SECOND) return lend_both(text, len, none.at, none.len, one.at, one.len);
+    lent l = lend_both(text, len, one.at, one.len, none.at, none.len);
     l.both = form == FIRST;
     return l;
 }
@@ -132,7 +152,7 @@ static lent marked(void) { return lend(text_2, sizeof text_2 - 1, book_a, BOOK_A
 /* Each export, its areas looked at. */
 static chultarvi_text_compiled compile(const lent *l, const char *what) {
     fill(l);
-    chultarvi_text_compiled c = chultarvi_compile(l->text, l->len, area, l->area_len, words, l->words_len, out, l->out_len);
+    chultarvi_text_compiled c = chultarvi_compile(l->text, l->len, l->edition, area, l->area_len, words, l->words_len, out, l->out_len);
     check(areas_right(l, c.refusal, c.len, 0) && (c.refusal == 0 || c.len == 0), what);
     return c;
 }
@@ -225,7 +245,9 @@ static void test_answers(void) {
     s = eliminate(&l, 0.9f, 0.99f, false, 0, 1, "areas of a named licence");
     check(s.refusal == 0 && s.kind == CHULTARVI_ORIGINAL && s.len == 1 && s.name[0] == 'A' && all_are(s.name, 1, 64, 0) && s.score == 1.0f &&
               s.count == 1, "a named licence: name, kind, score, count");
-    check(s.second == (form == SECOND) && s.name_at == 6 && chultarvi_name(l.book, l.second, &s) == book_a + 6, "and where its name stands");
+    const size_t at = edition == 1 ? 6 : 14;
+    check(s.second == (form == SECOND) && s.name_at == at && chultarvi_name(l.book, l.second, &s) == (form == SECOND ? l.second : l.book) + at,
+          "and where its name stands");
     check(eliminate(&l, 1.0f, 0.99f, false, 0, 1, "areas at threshold 1").kind == 0, "nothing is named at a score equal to the threshold");
 }
 
@@ -400,7 +422,7 @@ static void test_output(void) {
         l.out_len = room;
         check(compile(&l, "areas, output").refusal == (room < 45 ? 11 : 0), "an output of 45 bytes, and less");
     }
-    chultarvi_text_compiled c = chultarvi_compile(0, 0, area, 64, words, 64, 0, 0);
+    chultarvi_text_compiled c = chultarvi_compile(0, 0, 1, area, 64, words, 64, 0, 0);
     check(c.refusal == 11 && c.len == 0, "a null output of length 0");
     l.out_len = 44;
     l.area_len--;
@@ -431,12 +453,13 @@ static void test_refusal_texts(void) {
                                        "step", "view",      "number", "area",  "output", "budget"};
     static_assert(CHULTARVI_ANSWERED == 0 && CHULTARVI_REFUSED_BOOK_UNSOUND == 4 && CHULTARVI_STOPPED_BY_BUDGET == 12, "numbers of refusals");
     for (uint32_t n = 0; n < 13; n++) check(strstr(chultarvi_refusal_text(n), part[n]) != 0, part[n]);
-    check(strcmp(chultarvi_refusal_text(13), "unknown") == 0, "13 is no refusal");
-    check(strcmp(chultarvi_refusal_text(UINT32_MAX), "unknown") == 0, "the largest number is no refusal");
+    check(strstr(chultarvi_refusal_text(CHULTARVI_REFUSED_EDITIONS_DIFFER), "editions") != 0 && CHULTARVI_REFUSED_EDITIONS_DIFFER == 15, "editions");
+    static const uint32_t none[] = {13, 14, 16, UINT32_MAX};
+    for (size_t i = 0; i < sizeof none / sizeof *none; i++) check(strcmp(chultarvi_refusal_text(none[i]), "unknown") == 0, "13, 14 and above 15");
     lent l = lend("\x80", 1, book_a, BOOK_A);
     check(score(&l, 0, 1, 0, "areas").refusal == CHULTARVI_REFUSED_TEXT_NOT_ASCII, "an answer's refusal is one of the enum");
-    enum chultarvi_refusal held = CHULTARVI_REFUSED_AREA_SMALL;
-    check(held == 10 && strstr(chultarvi_refusal_text(held), "area") != 0, "the enum as a type");
+    enum chultarvi_refusal small = CHULTARVI_REFUSED_AREA_SMALL;
+    check(small == 10 && strstr(chultarvi_refusal_text(small), "area") != 0, "the enum as a type");
 }
 
 /* The version as a string says the same as its numbers. */
@@ -465,23 +488,16 @@ static void test_budget(void) {
 
 /* ---- two books */
 
-typedef struct { const uint8_t *at; size_t len; } held;
-static held hold(const uint8_t *at, size_t len) {
-    held h;
-    h.at = at;
-    h.len = len;
-    return h;
-}
 static lent lend_held(const char *text, held first, held second) { return lend_both(text, strlen(text), first.at, first.len, second.at, second.len); }
 
-/* A licence with one text, its original, at `at`. Gives what stands there from `from` on. */
+/* A licence with one text, its original, at `at`, compiled by the edition of the tests. Gives what stands there from `from` on. */
 static held put_licence(uint8_t *from, uint8_t *at, const char *name, const char *text) {
     size_t name_len = strlen(name), len = strlen(text);
     uint8_t *p = put_head(at, name_len, 1);
     memcpy(p, name, name_len);
     p += name_len;
-    chultarvi_text_compiled c = chultarvi_compile((const uint8_t *)text, len, area, chultarvi_area_bytes(len), words, chultarvi_area_words(len),
-                                                  p + 6, chultarvi_table_bytes(len));
+    chultarvi_text_compiled c = chultarvi_compile((const uint8_t *)text, len, edition, area, chultarvi_area_bytes(len), words,
+                                                  chultarvi_area_words(len), p + 6, chultarvi_table_bytes(len));
     return hold(from, (size_t)(put_head(p, c.len, 2) - from) + c.len);
 }
 
@@ -753,8 +769,227 @@ static void test_both_budget(void) {
     check(s.refusal == 12 && s.count == full - 1, "top-down over two books with one less");
 }
 
-int main(void) {
-    take_areas();
+/* ---- editions */
+
+/* The record of edition 2 before the marked book; that record alone; A and B in edition 2. */
+static const uint8_t record_2[] = {2, 0, 0, 0, 6, 0, 2, 0};
+static held just_2, a_2, b_2;
+static void make_editions(void) {
+    static uint8_t a[128], b[256];
+    edition = 2;
+    just_2 = hold(record_2, sizeof record_2);
+    a_2 = by_edition(a, book_a, BOOK_A);
+    b_2 = by_edition(b, only_b.at, only_b.len);
+    edition = 1;
+    check(a_2.len == BOOK_A + 8 && memcmp(a_2.at, record_2, 8) == 0, "records.h writes the record of edition 2");
+    check(put_edition(a + 100, 1) == a + 100, "and none of edition 1");
+}
+
+/* Some bytes as a book: what check answers, and its edition. */
+typedef struct { const char *what; const char *bytes; size_t len; uint32_t refusal, texts, edition; } bytes_row;
+#define RECORD_2 "\x02\0\0\0\x06\0\x02\0"
+#define NAME_A "\x01\0\0\0\x01\0A"
+#define EMPTY_TEXT "\x08\0\0\0\x02\0\0\0\0\0\0\0\0\0"
+#define BYTES(text) text, sizeof(text) - 1
+static const bytes_row edition_rows[] = {
+    {"no bytes", BYTES(""), 0, 0, 1},
+    {"edition 1", BYTES(NAME_A EMPTY_TEXT), 0, 1, 1},
+    {"edition 2 alone", BYTES(RECORD_2), 0, 0, 2},
+    {"edition 2 and a licence", BYTES(RECORD_2 NAME_A EMPTY_TEXT), 0, 1, 2},
+    {"edition 2 and two texts", BYTES(RECORD_2 NAME_A EMPTY_TEXT "\x08\0\0\0\x03\0\0\0\0\0\0\0\0\0"), 0, 2, 2},
+    {"edition 0", BYTES("\x02\0\0\0\x06\0\0\0"), 4, 0, 1},
+    {"edition 1 said", BYTES("\x02\0\0\0\x06\0\x01\0"), 4, 0, 1},
+    {"edition 1 said, and a licence", BYTES("\x02\0\0\0\x06\0\x01\0" NAME_A EMPTY_TEXT), 4, 0, 1},
+    {"edition 3", BYTES("\x02\0\0\0\x06\0\x03\0"), 4, 0, 1},
+    {"edition 512", BYTES("\x02\0\0\0\x06\0\0\x02"), 4, 0, 1},
+    {"edition 258", BYTES("\x02\0\0\0\x06\0\x02\x01"), 4, 0, 1},
+    {"a body of no bytes", BYTES("\0\0\0\0\x06\0"), 4, 0, 1},
+    {"a body of one byte", BYTES("\x01\0\0\0\x06\0\x02"), 4, 0, 1},
+    {"a body of one byte, and another zero", BYTES("\x01\0\0\0\x06\0\x02\0"), 4, 0, 1},
+    {"a body of three bytes", BYTES("\x03\0\0\0\x06\0\x02\0\0"), 4, 0, 1},
+    {"a body of four bytes", BYTES("\x04\0\0\0\x06\0\x02\0\0\0"), 4, 0, 1},
+    {"a body of 258 bytes that are not there", BYTES("\x02\x01\0\0\x06\0\x02\0"), 4, 0, 1},
+    {"kind 7", BYTES("\x02\0\0\0\x07\0\x02\0"), 4, 0, 1},
+    {"kind 262", BYTES("\x02\0\0\0\x06\x01\x02\0"), 4, 0, 1},
+    {"twice", BYTES(RECORD_2 RECORD_2), 4, 0, 2},
+    {"twice, and a licence", BYTES(RECORD_2 RECORD_2 NAME_A EMPTY_TEXT), 4, 0, 2},
+    {"behind a name", BYTES(NAME_A RECORD_2 EMPTY_TEXT), 4, 0, 1},
+    {"behind a text, last", BYTES(NAME_A EMPTY_TEXT RECORD_2), 4, 0, 1},
+    {"first and last", BYTES(RECORD_2 NAME_A EMPTY_TEXT RECORD_2), 4, 0, 2},
+    {"between two licences", BYTES(NAME_A EMPTY_TEXT RECORD_2 "\x01\0\0\0\x01\0B" EMPTY_TEXT), 4, 0, 1},
+    {"and a text", BYTES(RECORD_2 EMPTY_TEXT), 4, 0, 2},
+    {"and an alias", BYTES(RECORD_2 "\x01\0\0\0\x05\0A"), 4, 0, 2},
+    {"and a name alone", BYTES(RECORD_2 NAME_A), 4, 0, 2},
+    {"and one byte", BYTES(RECORD_2 "\x01"), 4, 0, 2},
+};
+static void test_edition_records(void) {
+    for (const bytes_row *r = edition_rows; r < edition_rows + sizeof edition_rows / sizeof *edition_rows; r++) {
+        const uint8_t *bytes = (const uint8_t *)r->bytes;
+        chultarvi_book_checked c = chultarvi_check_book(bytes, r->len);
+        check(c.refusal == r->refusal && c.texts == r->texts, r->what);
+        check(chultarvi_edition(bytes, r->len) == r->edition, r->what);
+    }
+    check(chultarvi_edition(0, 0) == 1, "a null book of length 0 is of edition 1");
+    check(chultarvi_edition(book_a, BOOK_A) == 1 && chultarvi_edition(a_2.at, a_2.len) == 2, "the marked book, and behind the record");
+    check(CHULTARVI_EDITION_MOST == 2 && CHULTARVI_EDITION == 6, "the last edition, and its record's kind");
+}
+static void test_cut_record(void) {
+    for (size_t n = 1; n < sizeof record_2; n++) {
+        check(chultarvi_check_book(record_2, n).refusal == 4, "a record of edition 2 cut short");
+        check(chultarvi_edition(record_2, n) == 1, "a record of edition 2 cut short is none");
+    }
+}
+
+/* The record counts in a book's bytes, and is no text. */
+static void test_edition_limits(void) {
+    memcpy(big, record_2, 8);
+    large_book(big + 8, CHULTARVI_BOOK_MOST - 8);
+    chultarvi_book_checked c = chultarvi_check_book(big, CHULTARVI_BOOK_MOST);
+    check(c.refusal == 0 && c.texts == 1, "a book of edition 2 of 16,777,216 bytes");
+    large_book(big + 8, CHULTARVI_BOOK_MOST - 7);
+    check(chultarvi_check_book(big, CHULTARVI_BOOK_MOST + 1).refusal == 4, "one byte more in edition 2");
+    c = chultarvi_check_book(big, 8 + small_book(big + 8, 1, CHULTARVI_STORED_MOST - 1));
+    check(c.refusal == 0 && c.texts == CHULTARVI_STORED_MOST, "1,024 stored texts in edition 2");
+    check(chultarvi_check_book(big, 8 + small_book(big + 8, 1, CHULTARVI_STORED_MOST)).refusal == 4, "one text more in edition 2");
+}
+
+static void compiles(const char *text, uint32_t by, const char *table, size_t table_len, const char *what) {
+    lent l = lend(text, strlen(text), book_a, BOOK_A);
+    l.out_len = 64;
+    l.edition = by;
+    chultarvi_text_compiled c = compile(&l, what);
+    check(c.refusal == 0 && c.len == table_len && memcmp(out, table, table_len) == 0, what);
+}
+#define NO_PAIRS BYTES("\0\0\0\0\0\0\0\0")
+#define ONE_PAIR(len, pair) BYTES("\x01\0\0\0\x01\0\0\0\x01\0\0\0" len "\0\0\0" pair)
+static void test_compiled_editions(void) {
+    compiles("a 4", 1, NO_PAIRS, "`a 4` in edition 1: 8 bytes");
+    compiles("a 4", 2, ONE_PAIR("\x03", "a 4"), "`a 4` in edition 2: 19 bytes");
+    compiles("GPL 4x", 1, ONE_PAIR("\x05", "gpl x"), "`GPL 4x` in edition 1");
+    compiles("GPL 4x", 2, ONE_PAIR("\x06", "gpl 4x"), "`GPL 4x` in edition 2");
+    compiles("4/4|4", 1, NO_PAIRS, "`4/4|4` in edition 1");
+    compiles("4/4|4", 2, ONE_PAIR("\x04", "4 44"), "`4/4|4` in edition 2");
+    compiles("a 5", 1, ONE_PAIR("\x03", "a 5"), "`a 5` in edition 1");
+    compiles("a 5", 2, ONE_PAIR("\x03", "a 5"), "`a 5` in edition 2");
+}
+
+/* Compile takes 1 and 2, after what is wrong with the text and before what is wrong with the areas. */
+static void test_compile_refuses(void) {
+    static const uint32_t wrong[] = {0, 3, 9, 256, 257, 65537, 65538, 0x80000002u, UINT32_MAX};
+    for (size_t i = 0; i < sizeof wrong / sizeof *wrong; i++) {
+        lent l = lend("a 4", 3, book_a, BOOK_A);
+        l.edition = wrong[i];
+        l.out_len = 64;
+        check(compile(&l, "areas, no such edition").refusal == 4, "no such edition");
+        l.out_len = 0;
+        check(compile(&l, "areas, 4 before 11").refusal == 4, "no such edition comes before a short output");
+        l.area_len = l.words_len = 0;
+        check(compile(&l, "areas, 4 before 10").refusal == 4, "no such edition comes before a small area");
+        l = lend("\x80", 1, book_a, BOOK_A);
+        l.edition = wrong[i];
+        check(compile(&l, "areas, 2 before 4").refusal == 2, "a byte of 128 comes before the edition");
+    }
+    memset(big, '\n', CHULTARVI_TEXT_MOST + 1);
+    lent l = lend(big, CHULTARVI_LINES_MOST, book_a, BOOK_A);
+    l.edition = 0;
+    check(compile(&l, "areas, 3 before 4").refusal == 3, "too many lines come before the edition");
+    l = lend(big, CHULTARVI_TEXT_MOST + 1, book_a, BOOK_A);
+    l.edition = 3;
+    check(compile(&l, "areas, 1 before 4").refusal == 1, "a long text comes before the edition");
+}
+
+/* Two books of which one is of edition 2: each call is refused, whatever else is wrong behind it, and nothing has changed. */
+static void check_differing(held first, held second, const char *what) {
+    lent l = lend_held(note_a, first, second);
+    each_refuses(&l, 15, false, what);
+    chultarvi_text_named n = name_stored(first, second, true, 0);
+    check(n.refusal == 15 && n.kind == 0 && n.len == 0 && !n.second && n.name_at == 0, what);
+    check(name_stored(first, second, true, UINT32_MAX).refusal == 15, "15 comes before a number of N or more");
+    check(score(&l, 5, 5, 9, "areas, 15 before 8").refusal == 15 && bounds(&l, 0, 1, 9, "areas, 15 before 9").refusal == 15, "15 comes before 8 and 9");
+    check(eliminate(&l, NAN, 0.5f, true, 1, 1, "areas, 15 before 6").refusal == 15, "15 comes before a bad limit");
+    check(top_down(&l, 0.5f, NAN, 0, 1, "areas, 15 before 6").refusal == 15, "15 comes before a bad limit and step 0");
+    check(top_down(&l, 0.5f, 0.5f, 0, 1, "areas, 15 before 7").refusal == 15, "15 comes before step 0");
+    check(eliminate(&l, 0.5f, 0.5f, true, 1, 0, "areas, 15 before 12").refusal == 15, "15 comes before small results and the budget");
+    l.area_len = l.words_len = 0;
+    each_refuses(&l, 15, false, "15 comes before a small area");
+    l = lend_held("\x80", first, second);
+    each_refuses(&l, 2, false, "a byte of 128 comes before 15");
+}
+static void test_differing(void) {
+    const held none = hold(0, 0);
+    check_differing(only_a, a_2, "edition 1, edition 2");
+    check_differing(a_2, only_a, "edition 2, edition 1");
+    check_differing(a_2, only_b, "edition 2, another book of edition 1");
+    check_differing(a_2, book_empty, "edition 2, an empty book");
+    check_differing(book_empty, a_2, "an empty book, edition 2");
+    check_differing(a_2, none, "edition 2, a null book");
+    check_differing(none, a_2, "a null book, edition 2");
+    check_differing(only_a, just_2, "edition 1, the record of edition 2 alone");
+    check_differing(just_2, only_a, "the record of edition 2 alone, edition 1");
+    lent l = lend_held(note_a, a_2, cut_a);
+    each_refuses(&l, 4, false, "4 comes before 15");
+    l = lend_held(note_a, hold(a_2.at, a_2.len - 1), only_a);
+    each_refuses(&l, 4, false, "4 comes before 15, edition 2 cut short");
+    const held no_text[][2] = {{just_2, book_empty}, {book_empty, just_2}, {just_2, none}, {just_2, just_2}};
+    for (size_t i = 0; i < sizeof no_text / sizeof *no_text; i++) {
+        l = lend_held(note_a, no_text[i][0], no_text[i][1]);
+        each_refuses(&l, 5, false, "5 comes before 15");
+        check(name_stored(no_text[i][0], no_text[i][1], true, 0).refusal == 5, "name: 5 comes before 15");
+    }
+}
+
+/* Two books of edition 2 answer as two of edition 1 do, with their names eight bytes further on. */
+static void test_both_editions(void) {
+    const uint64_t all = UINT64_MAX;
+    const row rows[] = {
+        {"A, B in edition 2", a_2, b_2, note_a, all, 0, 2, false, 14, 1},
+        {"B, A in edition 2", b_2, a_2, note_a, all, 0, 2, true, 14, 1},
+        {"A, A in edition 2: the same memory", a_2, a_2, note_a, all, 0, 2, false, 14, 1},
+        {"A, no text in edition 2", a_2, just_2, note_a, all, 0, 1, false, 14, 1},
+        {"no text, A in edition 2", just_2, a_2, note_a, all, 0, 1, true, 14, 1},
+        {"B, A in edition 2, a budget of 1", b_2, a_2, note_a, 1, 12, 1, false, 0, 0},
+        {"B, A in edition 2, another note", b_2, a_2, "none of it", all, 0, 2, false, 0, 0},
+    };
+    for (size_t i = 0; i < sizeof rows / sizeof *rows; i++) check_row(rows + i);
+    const held none = hold(0, 0);
+    const stored_row stored[] = {
+        {"stored, edition 2", a_2, none, false, 0, 0, CHULTARVI_ORIGINAL, false, 14, 1},
+        {"stored, edition 2: N", a_2, none, false, 1, 9, 0, false, 0, 0},
+        {"stored, edition 2: no text", just_2, none, false, 0, 5, 0, false, 0, 0},
+        {"stored, edition 2, both: the first of the second", a_2, b_2, true, 1, 0, CHULTARVI_ORIGINAL, true, 14, 1},
+        {"stored, edition 2, both: N", a_2, b_2, true, 2, 9, 0, false, 0, 0},
+        {"stored, edition 2, both: a first without a text", just_2, b_2, true, 0, 0, CHULTARVI_ORIGINAL, true, 14, 1},
+    };
+    for (size_t i = 0; i < sizeof stored / sizeof *stored; i++) check_stored(stored + i);
+}
+
+/* G4 has `version 4`, G5 has no number: which is named, and by which score? */
+static void check_gpl(held book, const char *note, const char *name, const char *what) {
+    lent l = lend_both(note, strlen(note), book.at, book.len, 0, 0);
+    l.both = false;
+    chultarvi_note_scanned s = eliminate(&l, 0.9f, 0.99f, false, 0, 2, what);
+    check(s.refusal == 0 && s.score == 1.0f && s.count == 2 && s.len == 2 && memcmp(s.name, name, 2) == 0, what);
+}
+static held put_gpl(uint8_t *room) {
+    uint8_t *p = put_edition(room, edition);
+    held first = put_licence(room, p, "G4", "use the GPL version 4 now");
+    return put_licence(room, room + first.len, "G5", "use the GPL version now");
+}
+static void test_four(void) {
+    static uint8_t one[512], two[512];
+    held in_1 = put_gpl(one);
+    edition = 2;
+    held in_2 = put_gpl(two);
+    edition = 1;
+    check(chultarvi_edition(in_1.at, in_1.len) == 1 && chultarvi_edition(in_2.at, in_2.len) == 2, "a book of each edition");
+    check_gpl(in_1, "use the GPL version now", "G4", "no number, edition 1: both score 1.0, the earlier wins");
+    check_gpl(in_2, "use the GPL version now", "G5", "no number, edition 2: its own text");
+    check_gpl(in_1, "use the GPL version 4 now", "G4", "version 4, edition 1");
+    check_gpl(in_2, "use the GPL version 4 now", "G4", "version 4, edition 2");
+    check_gpl(in_1, "use the GPL version 4 now 4", "G4", "every 4 goes, edition 1");
+}
+
+static void test_one_book(void) {
     for (form = ALONE; form < FORMS; form++) {
         test_answers();
         test_texts();
@@ -766,6 +1001,12 @@ int main(void) {
         test_budget();
     }
     form = ALONE;
+}
+
+int main(void) {
+    take_areas();
+    for (edition = 1; edition <= CHULTARVI_EDITION_MOST; edition++) test_one_book();
+    edition = 1;
     test_output();
     test_table_bytes();
     test_refusal_texts();
@@ -779,6 +1020,15 @@ int main(void) {
     test_largest();
     test_large_books();
     test_both_budget();
+    make_editions();
+    test_edition_records();
+    test_cut_record();
+    test_edition_limits();
+    test_compiled_editions();
+    test_compile_refuses();
+    test_differing();
+    test_both_editions();
+    test_four();
     printf("%d passed, %d failed\n", passed, failed);
     return failed != 0;
 }

@@ -30,13 +30,14 @@ err_has() { case $err in *"$1"*) good ;; *) bad "standard error has no: $1" ;; e
 nothing_beside() { [ -z "$(find "$work" -name '.chultarvi.*')" ] && good || bad 'a file beside is left'; }
 # in_place TREE: every file, and its mode
 in_place() {
-    found=$(cd "$1" && find . -type f -exec stat -c '%a %n' {} + | sort -k 2)
+    found=$(cd "$1" && find . -type f -exec stat -c '%a %n' {} + | LC_ALL=C sort -k 2)
     [ "$found" = '755 ./bin/chultarvi
 644 ./include/chultarvi.h
 644 ./lib/cmake/chultarvi/chultarvi-config-version.cmake
 644 ./lib/cmake/chultarvi/chultarvi-config.cmake
 644 ./lib/libchultarvi.a
 644 ./lib/pkgconfig/chultarvi.pc
+644 ./share/chultarvi/debian-2.book
 644 ./share/chultarvi/debian.book
 644 ./share/man/man1/chultarvi.1' ] && good || bad "not in place: $found"
 }
@@ -66,10 +67,10 @@ ln -s "$root/host/install.sh" "$work/link"
 run 0 sh -c 'umask 077; exec sh host/install.sh "$1"' sh "$work/first/"
 in_place "$work/first"
 for file in bin/chultarvi include/chultarvi.h lib/libchultarvi.a lib/pkgconfig/chultarvi.pc lib/cmake/chultarvi/chultarvi-config.cmake \
-    share/chultarvi/debian.book share/man/man1/chultarvi.1; do
+    share/chultarvi/debian.book share/chultarvi/debian-2.book share/man/man1/chultarvi.1; do
     out_has "installed $work/first/$file"
 done
-out_has "chultarvi scan \"$work/first/share/chultarvi/debian.book\" NOTE..."
+out_has "chultarvi scan \"$work/first/share/chultarvi/debian-2.book\" NOTE..."
 out_has "PATH=\"$work/first/bin:\$PATH\""
 [ -z "$RUN" ] || out_has "run it by $RUN $work/first/bin/chultarvi"
 before=$(cd "$work/first" && find . -type f -exec cksum {} + | sort)
@@ -85,14 +86,20 @@ case $out in *' PATH="'*) bad 'a PATH that is right is said' ;; *) good ;; esac
 run 0 env "DESTDIR=$work/a package" sh host/install.sh /usr/local
 in_place "$work/a package/usr/local"
 out_has "installed $work/a package/usr/local/bin/chultarvi"
-out_has 'chultarvi scan "/usr/local/share/chultarvi/debian.book"'
+out_has 'chultarvi scan "/usr/local/share/chultarvi/debian-2.book"'
 for file in lib/pkgconfig/chultarvi.pc lib/cmake/chultarvi/chultarvi-config.cmake lib/cmake/chultarvi/chultarvi-config-version.cmake; do
     grep -q "$work\|/usr/local" "$work/a package/usr/local/$file" && bad "$file holds the prefix" || good
 done
 
-# the program and the book, from there
-run 0 $RUN "$work/first/bin/chultarvi" check "$work/first/share/chultarvi/debian.book"
-out_has ': sound, '
+# the program and the books, from there: the same licences in both editions
+cd "$work/first/share/chultarvi" || exit 2
+run 0 $RUN "$work/first/bin/chultarvi" check debian.book debian-2.book
+counted=$(printf '%s\n' "$out" | sed -n 's/^debian.book: \(sound, .*\), edition 1$/\1/p')
+out_is "debian.book: $counted, edition 1
+debian-2.book: $counted, edition 2"
+run 1 $RUN "$work/first/bin/chultarvi" scan debian-2.book --beside debian.book "$root/examples/note.txt"
+err_has 'refused (15): debian-2.book is of edition 2 and debian.book of edition 1; both are default books, so scan with one of them'
+cd "$root" || exit 2
 run 0 $RUN "$work/first/bin/chultarvi" --version
 out_is "chultarvi $version"
 
@@ -133,12 +140,15 @@ printf 'caf\303\251' >"$work/umlaut"
 head -c 1048577 /dev/zero | tr '\0' ' ' >"$work/over"
 printf 'A original %s\n' "$work/license" >"$work/list"
 $RUN target/chultarvi book "$work/a.book" "$work/list" >/dev/null
+$RUN target/chultarvi book --edition 2 "$work/a-2.book" "$work/list" >/dev/null
 head -c 57 "$work/a.book" >"$work/cut.book"
 try_example() {
-    run 0 $RUN "$embed" "$work/a.book" "$work/two"
-    out_is 'no licence as a whole, score 0.6667
+    for book in a.book a-2.book; do
+        run 0 $RUN "$embed" "$work/$book" "$work/two"
+        out_is 'no licence as a whole, score 0.6667
   lines 2 to 2: A, score 1.0000
   20 scorings'
+    done
     run 0 $RUN "$embed" "$work/a.book" "$work/license" 5
     out_is 'A, score 1.0000
   1 scorings'
@@ -192,9 +202,9 @@ if command -v cmake >/dev/null; then
     try_example
     run 1 cmake "$@" -B "$work/arm" -DCMAKE_SYSTEM_PROCESSOR=aarch64
     err_has 'libchultarvi.a is for x86-64, and this build is for aarch64'
-    for other in 0.1 0.3 1.0; do
+    for other in 0.2 0.4 1.0; do
         mkdir "$work/other-$other"
-        sed "s/find_package(chultarvi 0.2/find_package(chultarvi $other/" examples/CMakeLists.txt >"$work/other-$other/CMakeLists.txt"
+        sed "s/find_package(chultarvi 0.3/find_package(chultarvi $other/" examples/CMakeLists.txt >"$work/other-$other/CMakeLists.txt"
         cp examples/embed.c "$work/other-$other"
         shift 2
         set -- -S "$work/other-$other" "$@"

@@ -39,7 +39,8 @@ pub struct Scanned {
 #[rustfmt::skip]
 unsafe extern "C" {
     fn chultarvi_check_book(book: *const u8, book_len: usize) -> Checked;
-    fn chultarvi_compile(text: *const u8, text_len: usize, area: *mut u8, area_len: usize, words: *mut u32, words_len: usize, out: *mut u8, out_len: usize) -> Compiled;
+    fn chultarvi_compile(text: *const u8, text_len: usize, edition: u32, area: *mut u8, area_len: usize, words: *mut u32, words_len: usize,
+        out: *mut u8, out_len: usize) -> Compiled;
     fn chultarvi_score(text: *const u8, text_len: usize, book: *const u8, book_len: usize, start: usize, end: usize, number: u32,
         area: *mut u8, area_len: usize, words: *mut u32, words_len: usize) -> Scored;
     fn chultarvi_bounds(text: *const u8, text_len: usize, book: *const u8, book_len: usize, start: usize, end: usize, number: u32,
@@ -79,8 +80,8 @@ impl<'a> Lent<'a> {
 
     pub fn compile(&mut self) -> Compiled {
         let Self { text: t, area: a, words: w, out: o, .. } = self;
-        // SAFETY: four slices that do not overlap
-        unsafe { chultarvi_compile(t.as_ptr(), t.len(), a.as_mut_ptr(), a.len(), w.as_mut_ptr(), w.len(), o.as_mut_ptr(), o.len()) }
+        // SAFETY: four slices that do not overlap. Edition 1 is the original's
+        unsafe { chultarvi_compile(t.as_ptr(), t.len(), 1, a.as_mut_ptr(), a.len(), w.as_mut_ptr(), w.len(), o.as_mut_ptr(), o.len()) }
     }
 
     pub fn score(&mut self, book: &[u8], number: u32) -> Scored {
