@@ -1,8 +1,9 @@
-"""Makes questions for hold.py and rows.py: calls of the six jobs, sound and with faults, each area filled with garbage.
+"""Makes questions for hold.py and rows.py: calls of the jobs, sound and with faults, each area filled with garbage.
 
 A plan is a question without its areas. For each area it holds by how much it is longer than needed (below 0: shorter), so that a fault of the text
 keeps the others right. `filled` makes the question. A fault is named by the refusal that it should bring; whether it does, the model says. Plans of
-the jobs that scan, look at a view or name a stored text have one book or, where `two` is said, two.
+the jobs that scan, look at a view or name a stored text have one book or, where `two` is said, two. A plan has an edition, which is that of its books
+and of compile.
 """
 
 import copy
@@ -42,7 +43,11 @@ def table_body(total, distinct, entries):
 MARKED_BOOK = record(1, b"A") + record(2, model.compiled(b"My First License"))
 
 
-def book_records(rng, texts):
+# what stands before the licences, by edition
+EDITION_RECORDS = {edition: [(kind, body) for kind, _, body in model.records_in(front)] for edition, front in model.FRONT.items()}
+
+
+def book_records(rng, texts, edition):
     """The records of a shelf as compare.py makes it, with aliases."""
     out, name = [], None
     for stored in texts:
@@ -50,8 +55,8 @@ def book_records(rng, texts):
             out += aliases(rng) if name else []
             name = stored.name
             out.append((1, name.encode("ascii")))
-        out.append((stored.kind, model.compiled(stored.text.encode("ascii"))))
-    return out + (aliases(rng) if out else [])
+        out.append((stored.kind, model.compiled(stored.text.encode("ascii"), edition)))
+    return EDITION_RECORDS[edition] + out + (aliases(rng) if out else [])
 
 
 def aliases(rng):
@@ -73,15 +78,16 @@ BODIES = [
     lambda rng: table_body(1, 1, [(1, b"a b")])[: rng.randint(0, 18)],
     lambda rng: table_body(1, 1, [(1, b"a b")]) + rng.randbytes(rng.randint(1, 9)),
 ]
+SAID = [b"\2\0", b"\2\0", b"\0\0", b"\1\0", b"\3\0", b"\0\2", b"\2\2", b"", b"\2", b"\2\0\0", b"\2\0\0\0"]  # by a record of kind 6
 NAMES = [b"", b"A", b"B", b"n" * 63, b"n" * 64, b"n" * 65, b"a b", b"!", b"~", b"\x7f", b" ", b"\x80", b"a\n", b"A\0"]
 
 
 def other_records(rng, records):
-    """A book's records with one changed: dropped, doubled, exchanged, of another kind, of another body."""
+    """A book's records with one changed: dropped, doubled, exchanged, of another kind, of another body; or an edition said, first or elsewhere."""
     records = list(records)
     i, k = rng.randrange(len(records)), rng.randrange(len(records))
     kind, body = records[i]
-    how = rng.randrange(6)
+    how = rng.randrange(7)
     if how == 0:
         del records[i]
     elif how == 1:
@@ -89,16 +95,18 @@ def other_records(rng, records):
     elif how == 2:
         records[i], records[k] = records[k], records[i]
     elif how == 3:
-        records[i] = rng.choice([0, 1, 2, 3, 4, 5, 6, 7, 256, 257, 258, 65535]), body
+        records[i] = rng.choice([0, 1, 2, 3, 4, 5, 6, 7, 256, 257, 258, 262, 65535]), body
+    elif how == 4:
+        records.insert(rng.choice([0, 0, i]), (6, rng.choice(SAID)))
     else:
-        records[i] = kind, rng.choice(NAMES) if kind in (1, 5) else rng.choice(BODIES)(rng)
+        records[i] = kind, rng.choice(SAID if kind == 6 else NAMES) if kind in (1, 5, 6) else rng.choice(BODIES)(rng)
     return records
 
 
 def other_bytes(rng, book):
     """A book with some bytes changed, cut off, added, or with a length near 2^32."""
     book = bytearray(book or b"\0")
-    i = rng.randrange(len(book))
+    i = rng.randrange(min(len(book), rng.choice([8, 10**9, 10**9])))  # often in what says the edition
     how = rng.randrange(6)
     if how == 0:
         book[i] = rng.randrange(256)
@@ -162,13 +170,21 @@ def two_shelves(rng):
     return first, [s._replace(text=rng.choice(first).text) if rng.random() < 0.3 else s for s in second]
 
 
+def with_fours(rng):
+    """Puts 4s into the texts of a plan, or leaves them as they are."""
+    salt = rng.random()
+    return (lambda text: compare.fours(salt, text)) if salt < 0.6 else (lambda text: text)
+
+
 def sound_plan(rng, job, lines=9, two=False):
     """A plan that is not refused; its book has 2 to 5 stored texts, and two books together up to 10."""
+    edition, put = rng.choice(model.EDITIONS), with_fours(rng)
     shelves = two_shelves(rng) if two else (compare.shelf(rng),)
     texts = [s for shelf in shelves for s in shelf]
-    plan = types.SimpleNamespace(job=job, records=[book_records(rng, shelf) for shelf in shelves], start=0, end=0, number=0, threshold=0, shallow=0)
-    plan.text = compare.note(rng, texts, lines).encode("ascii") if rng.random() < 0.75 else compare.text(rng).encode("ascii")
-    plan.same = two and rng.random() < 0.1 and bool(plan.records[0])
+    plan = types.SimpleNamespace(job=job, edition=edition, start=0, end=0, number=0, threshold=0, shallow=0)
+    plan.records = [book_records(rng, [s._replace(text=put(s.text)) for s in shelf], edition) for shelf in shelves]
+    plan.text = put(compare.note(rng, texts, lines) if rng.random() < 0.75 else compare.text(rng)).encode("ascii")
+    plan.same = two and rng.random() < 0.1 and bool(shelves[0])
     if plan.same:
         plan.records[1] = plan.records[0]
     plan.books = [book_of(records) for records in plan.records]
@@ -191,8 +207,8 @@ def slack(rng):
 def question(plan, job=None):
     """The question with areas just as long as needed, of zeros, and without an output."""
     q = model.Question(
-        job or plan.job, plan.text, tuple(plan.books), plan.same, start=plan.start, end=plan.end, number=plan.number, threshold=plan.threshold,
-        shallow=plan.shallow, optimize=plan.optimize, passes=plan.passes, step=plan.step, budget=plan.budget,
+        job or plan.job, plan.edition, plan.text, tuple(plan.books), plan.same, start=plan.start, end=plan.end, number=plan.number,
+        threshold=plan.threshold, shallow=plan.shallow, optimize=plan.optimize, passes=plan.passes, step=plan.step, budget=plan.budget,
     )  # fmt: skip
     n = len(q.text)
     return dataclasses.replace(q, area=bytes(8 * n + 64), words=bytes(4 * (12 * n + 64)), results=bytes(4 * model.results_need(q)))
@@ -206,7 +222,7 @@ def filled(rng, plan, garbage=random_elements):
     """The question, every area garbage and as long as the plan says."""
     need = plan.sizes or needs(plan)
     size = {area: max(0, need[area] + more) for area, more in plan.slack.items()}
-    takes = {"check": (), "name": (), "compile": ("area", "words", "out"), "score": ("area", "words"), "bounds": ("area", "words")}
+    takes = {"check": (), "name": (), "edition": (), "compile": ("area", "words", "out"), "score": ("area", "words"), "bounds": ("area", "words")}
     lent = takes.get(plan.job, ("area", "words", "results"))
     width = {"area": 1, "words": 4, "out": 1, "results": 4}
     areas = {area: garbage(rng, size[area], width[area]) if area in lent else b"" for area in size}
@@ -217,8 +233,9 @@ def filled(rng, plan, garbage=random_elements):
 def needs(plan):
     """What each area needs, in elements."""
     n = len(plan.text)
-    bare = model.Question(plan.job, plan.text, optimize=plan.optimize, passes=plan.passes)
-    out = len(model.compiled(plan.text)) if plan.job == "compile" and plan.text.isascii() and n <= model.TEXT_MOST else 99
+    bare = model.Question(plan.job, text=plan.text, optimize=plan.optimize, passes=plan.passes)
+    compiles = plan.job == "compile" and plan.edition in model.EDITIONS and plan.text.isascii() and n <= model.TEXT_MOST
+    out = len(model.compiled(plan.text, plan.edition)) if compiles else 99
     return {"area": 8 * n + 64, "words": 12 * n + 64, "out": out, "results": model.results_need(bare)}
 
 
@@ -255,13 +272,32 @@ def other_books(rng, plan, make):
         plan.books[i], plan.same = make(rng, plan.records[i]), False
 
 
+NO_EDITIONS = [0, 3, 4, 255, 256, 257, 258, 65535, 65536, 65537, 65538, 2**31 + 1, 2**31 + 2, 2**32 - 1]
+
+
 def bad_book(rng, plan):
-    other_books(rng, plan, unsound_book)
+    """Compile has no book, but an edition."""
+    if plan.job == "compile":
+        plan.edition = rng.choice(NO_EDITIONS)
+    else:
+        other_books(rng, plan, unsound_book)
+
+
+def sound_ones(plan):
+    return [i for i, book in enumerate(plan.books) if model.shelf_or_none(book) is not None]
 
 
 def no_book(rng, plan):
-    """Of each that is sound, so that beside an unsound one 4 is still due."""
-    plan.books = [b"" if model.shelf_or_none(book) is not None else book for book in plan.books]
+    """In the place of each that is sound, so that beside an unsound one 4 is still due; with or without an edition."""
+    for i in sound_ones(plan):
+        plan.books[i], plan.same = model.FRONT[rng.choice(model.EDITIONS)], False
+
+
+def other_edition(rng, plan):
+    """One book of two, which is sound and stays so, gets the other edition."""
+    i, front = rng.choice(sound_ones(plan) or [0]), model.FRONT[2]
+    book, plan.same = plan.books[i], False
+    plan.books[i] = book.removeprefix(front) if book.startswith(front) else front + book
 
 
 OUTSIDE = [0x80000001, 0xBF800000, 0x3F800001, 0x40000000, 0x7F800000, 0xFF800000, 0x7FC00000, 0xFFC00001, 0x7F800001, 0xFFFFFFFF]
@@ -306,15 +342,16 @@ def low_budget(rng, plan):
 
 FAULT = {
     1: long_text, 2: odd_byte, 3: many_lines, 4: bad_book, 5: no_book, 6: bad_limit, 7: no_step, 8: bad_view, 9: bad_number, 10: small_area,
-    11: short_output, 12: low_budget,
+    11: short_output, 12: low_budget, 15: other_edition,
 }  # fmt: skip
 
 
 def faulty(rng, job, refusal, more=0.3, lines=9, largest=True, two=False):
     """A plan that should be refused so, and often has faults that come later. Without `largest` none that makes a text long."""
-    plan = sound_plan(rng, job, lines, two)
-    for n in model.REFUSALS[job]:
-        if n == refusal or (n > refusal and rng.random() < more and (largest or n not in (1, 3))):
+    plan, order = sound_plan(rng, job, lines, two), model.refusals(job, two)
+    FAULT[refusal](rng, plan)
+    for n in order[order.index(refusal) + 1 :]:
+        if rng.random() < more and (largest or n not in (1, 3)):
             FAULT[n](rng, plan)
     return plan
 

@@ -1,17 +1,18 @@
 #!/usr/bin/env python3
 """Compares the definitions of the crate `rules` with the original Rust, on generated inputs.
 
-    oracle/compare.py [--seed N] [--scale X] [--only KIND,KIND] [--keep]
+    oracle/compare.py [--edition E] [--seed N] [--scale X] [--only KIND,KIND] [--keep]
 
-The oracle beside this file (README.md) answers each question with the original's own code. Each answer becomes a row, what the definitions
-compute and what the oracle says, of a trial crate in a temporary folder; antt computes the rows there, a batch of them in one statement by
-`refl`. A batch that fails is taken apart, row by row, and each row that differs is printed with its input. The oracle has one store; the definitions
-are lent its licences in one book, or in two that part them anywhere. Exit status: 0 no row differs, 1 some do, 2 the comparison could not be made.
+The oracle beside this file (README.md) answers each question with the original's own code, in edition 2 mended. Each answer becomes a row, what
+the definitions compute and what the oracle says, of a trial crate in a temporary folder; antt computes the rows there, a batch of them in one
+statement by `refl`. A batch that fails is taken apart, row by row, and each row that differs is printed with its input. The oracle has one store; the
+definitions are lent its licences in one book, or in two that part them anywhere. Texts of edition 2 are those of edition 1 with 4s put into them, and
+it is told how many rows edition 1 answers otherwise. Exit status: 0 no row differs, 1 some do, 2 the comparison could not be made.
 """
 
 import argparse
 import collections
-import hashlib
+import functools
 import itertools
 import os
 import random
@@ -24,8 +25,9 @@ import tempfile
 import time
 
 import model
+import original
+from original import HERE, Trouble
 
-HERE = os.path.dirname(os.path.abspath(__file__))
 REPOSITORY = os.path.dirname(HERE)
 
 # ---- every name of the definitions that is used ------------------------------------------------------------------------------------------
@@ -47,7 +49,7 @@ use Rattle.rules.specs.Lines.{lines}
 use Rattle.rules.specs.Passes.{aggressive}
 use Rattle.rules.specs.Search.{view, viewed}
 use Rattle.rules.specs.Scan.{events, scorings, records, verdict, numbers}
-use Rattle.rules.specs.Book.{shelved, compiled}
+use Rattle.rules.specs.Book.{shelved, editionOf, compiled}
 use Rattle.rules.specs.Refusal.{Areas}
 use Rattle.rules.specs.Jobs.{scoreJob, boundsJob, named, scan, resultsAfter}
 use Rattle.rules.specs.declared.Limits.{Limits}
@@ -61,17 +63,17 @@ pub record Row : Type 0 where
   pub got : List ℕ
   pub want : List ℕ
 
--- the normalised lines, joined by newlines
-pub linesRow : String → String → Row
-linesRow t w = record { got = join (lines (text t)); want = text w }
+-- of edition n: the normalised lines, joined by newlines
+pub linesRow : ℕ → String → String → Row
+linesRow n t w = record { got = join (lines n (text t)); want = text w }
 
--- the lines from a up to e, after the aggressive passes
-pub viewRow : String → ℕ → ℕ → String → Row
-viewRow t a e w = record { got = aggressive (viewed (lines (text t)) (view a e)); want = text w }
+-- of edition n: the lines from a up to e, after the aggressive passes
+pub viewRow : ℕ → String → ℕ → ℕ → String → Row
+viewRow n t a e w = record { got = aggressive (viewed (lines n (text t)) (view a e)); want = text w }
 
--- the table body
-pub tableRow : String → String → Row
-tableRow t w = record { got = compiled (text t); want = text w }
+-- of edition n: the table body
+pub tableRow : ℕ → String → String → Row
+tableRow n t w = record { got = compiled n (text t); want = text w }
 
 pub room : Areas
 room = record { bytes = 100_000; words = 100_000 }
@@ -97,10 +99,10 @@ boundsRow t a e books k w =
 pub limits : ℕ → ℕ → Limits
 limits threshold shallow = record { threshold = ofBits binary32 threshold; shallow = ofBits binary32 shallow }
 
--- a whole scan: count, overall score bits, kind, records, the name's length, the name, then each record's four numbers
+-- a whole scan, of the books' edition: count, overall score bits, kind, records, the name's length, the name, then each record's four numbers
 pub scanRow : String → List (List ℕ) → Limits → Mode → List ℕ → Row
 scanRow t books lim mode w =
-    let es = events lim mode (shelved 0 books) (lines (text t)) in
+    let es = events lim mode (shelved 0 books) (lines (editionOf books) (text t)) in
     let who = named lim (verdict es) in
     record {
       got =
@@ -128,28 +130,12 @@ UNFOLDING = "linesRow viewRow tableRow room bits bit scoreRow boundsRow limits s
 # ---- the oracle --------------------------------------------------------------------------------------------------------------------------
 
 
-class Trouble(Exception):
-    """The comparison could not be made."""
-
-
-def unchanged():
-    """The original's files are as published."""
-    with open(os.path.join(HERE, "original.sha256")) as sums:
-        for line in sums:
-            digest, name = line.split()
-            with open(os.path.join(HERE, name), "rb") as source:
-                if hashlib.sha256(source.read()).hexdigest() != digest:
-                    raise Trouble(f"{name} is not the original's")
-
-
 class Oracle:
-    def __init__(self):
-        unchanged()
-        build = subprocess.run(["cargo", "build", "--release", "--quiet"], cwd=HERE)
-        if build.returncode != 0:
-            raise Trouble("the oracle does not build")
-        program = os.path.join(HERE, "target", "release", "oracle")
-        self.process = subprocess.Popen([program], stdin=subprocess.PIPE, stdout=subprocess.PIPE, text=True)
+    """The original of an edition."""
+
+    def __init__(self, edition):
+        self.edition = edition
+        self.process = subprocess.Popen([original.program(edition)], stdin=subprocess.PIPE, stdout=subprocess.PIPE, text=True)
 
     def ask(self, *words):
         question = " ".join(map(str, words))
@@ -165,6 +151,19 @@ class Oracle:
 
     def view(self, text, start, end):
         return unhexed(self.ask("view", start, end, hexed(text)))
+
+    def stock(self, texts):
+        """Fills the store anew."""
+        self.ask("clear")
+        for s in texts:
+            self.ask("add", hexed(s.name), s.kind, hexed(s.text))
+
+    def counted(self, question):
+        """A scan by the counted copy."""
+        head, *records = self.ask(question).split(" ; ")
+        refusal, count, score, named = head.split(" ")
+        records = [(int(k), int(a), int(e), int(x, 16)) for k, a, e, x in (r.split(" ") for r in records)]
+        return Counted(int(refusal), int(count), int(score, 16), None if named == "none" else int(named), records)
 
     def body(self, text):
         """The compiled body of a text, from its table."""
@@ -497,6 +496,44 @@ def note(rng, texts, most):
     return "\n".join(lines)
 
 
+# ---- texts of edition 2 ------------------------------------------------------------------------------------------------------------------
+
+FOUR_TEXTS = [
+    "4", "44", "4/4|4", "4 4", "a 4", "a4b", "4. a\n4. b\n4. c", "4444 a\n4444 b\n4444 c", "x4x4 a\nx4x4 b", "4  use x\n4 use y", "GPL4", "version 4",
+    "copyright 2004 me\n4 b", "a license version 4\n\nb 4", "copyright\n4 x", "copyright 4", "copyright c 4 4\n\n4", "http://4.4/4 4", "http://4\t4",
+    "\t4\\4/", "4-4_4'4(4)", "$4$", "|4|", "4\v4\f4", "\n4\n\n4\n\n\n4",
+]  # fmt: skip
+FOUR_WORDS = ["{}"] * 6 + ["{}4", "4{}", "4", "{} 4", "{}/4", "44", "{}|4", "{}4{}", "200{}4"]
+FOUR_STARTS = ["4. ", "4444 ", "v4.4 ", "copyright 2004 ", "4/4|4 ", "GPL4 ", "http://4.a/4 ", "\t4\\"]
+FOUR_ENDS = [" 4", "4", " version 4", "/4", " 44.", "|4"]
+
+
+def fours(salt, text):
+    """The text with 4s in it. Under one salt a word always has one form, so that what was alike mostly is so still; some lines lose their 4s or get
+    others, and some texts start all their lines alike."""
+    rng = random.Random(f"{salt} {text}")
+    start = rng.choice(FOUR_STARTS) if rng.random() < 0.1 else ""
+    lines = (" ".join(word and four_form(salt, word.lower()).replace("{}", word) for word in line.split(" ")) for line in text.split("\n"))
+    return "\n".join(start + four_line(rng, line) for line in lines)
+
+
+@functools.lru_cache(maxsize=2**16)
+def four_form(salt, word):
+    return random.Random(f"{salt} {word}").choice(FOUR_WORDS)
+
+
+def four_line(rng, line):
+    lot = rng.random()
+    if lot < 0.1:
+        return line.replace("4", "")
+    return (rng.choice(FOUR_STARTS) if lot > 0.9 else "") + line + (rng.choice(FOUR_ENDS) if 0.8 < lot < 0.95 else "")
+
+
+def drawn(edition, salt, text):
+    """A text that was drawn, as it is asked in this edition."""
+    return text if edition == 1 else fours(salt, text)
+
+
 def any_view(rng, lines):
     start = rng.randint(0, lines)
     return start, rng.randint(start, lines)
@@ -513,7 +550,9 @@ class Maker:
     """Makes rows. What it counts on the way is told at the end."""
 
     def __init__(self, oracle, seed):
-        self.oracle = oracle
+        self.oracle, self.edition = oracle, oracle.edition
+        self.first = None if oracle.edition == 1 else Oracle(1)  # asked beside it
+        self.fixed = FIXED_TEXTS if oracle.edition == 1 else FIXED_TEXTS + FOUR_TEXTS
         self.seed = seed
         self.told = collections.Counter()
         self.lost = []
@@ -521,48 +560,62 @@ class Maker:
     def rows(self, kind, how_many):
         stream = "texts" if kind in ("lines", "whole") else kind
         rng, self.borders = random.Random(f"{self.seed} {stream}"), random.Random(f"{self.seed} {stream} borders")
-        return [getattr(self, kind)(rng, i) for i in range(how_many)]
+        return [self.row(kind, stream, rng, i) for i in range(how_many)]
+
+    def row(self, kind, stream, rng, i):
+        self.kind, self.salt = kind, f"{self.seed} {stream} {i}"
+        return getattr(self, kind)(rng, i)
+
+    def said(self, ask):
+        """What the row wants: what `ask` gets of the oracle. It is counted where edition 1 says otherwise."""
+        said = ask(self.oracle)
+        if self.first:
+            self.told[f"{self.kind}: rows that edition 1 answers otherwise"] += ask(self.first) != said
+        return said
+
+    def drawn(self, text):
+        return drawn(self.edition, self.salt, text)
 
     # passes and tables
     def text(self, rng, i):
-        return FIXED_TEXTS[i] if i < len(FIXED_TEXTS) else text(rng)
+        return self.fixed[i] if i < len(self.fixed) else self.drawn(text(rng))
 
     def lines(self, rng, i):
         t = self.text(rng, i)
-        return Row(f"linesRow {quoted(t)}", quoted("\n".join(self.oracle.lines(t))), f"lines of {t!r}")
+        want = self.said(lambda oracle: oracle.lines(t))
+        return Row(f"linesRow {self.edition} {quoted(t)}", quoted("\n".join(want)), f"lines of {t!r}")
 
     def whole(self, rng, i):
         t = self.text(rng, i)
         return self.view_row(t, 0, len(self.oracle.lines(t)))
 
     def part(self, rng, i):
-        t = text(rng)
+        t = self.drawn(text(rng))
         return self.view_row(t, *any_view(rng, len(self.oracle.lines(t))))
 
     def view_row(self, t, start, end):
-        want = self.oracle.view(t, start, end)
+        want = self.said(lambda oracle: oracle.view(t, start, end))
         joined = "\n".join(self.oracle.lines(t)[start:end])
         drawn = {self.oracle.ask("passes", hexed(joined)) for _ in range(6)}
         self.told["views whose common prefix is an unordered tie"] += len(drawn) > 1
-        return Row(f"viewRow {quoted(t)} {start} {end}", quoted(want), f"view {start} to {end} of {t!r}")
+        return Row(f"viewRow {self.edition} {quoted(t)} {start} {end}", quoted(want), f"view {start} to {end} of {t!r}")
 
     def table(self, rng, i):
-        t = stored_text(rng) if rng.random() < 0.3 else self.text(rng, i)
-        return Row(f"tableRow {quoted(t)}", quoted(self.oracle.body(t)), f"table of {t!r}")
+        t = self.drawn(stored_text(rng)) if rng.random() < 0.3 else self.text(rng, i)
+        want = self.said(lambda oracle: oracle.body(t))
+        return Row(f"tableRow {self.edition} {quoted(t)}", quoted(want), f"table of {t!r}")
 
     # stored texts
-    def books(self, rng):
-        """Fills the oracle's store; gives the stored texts and their book, or two books that part them."""
-        texts = shelf(rng)
-        self.oracle.ask("clear")
-        for s in texts:
-            self.oracle.ask("add", hexed(s.name), s.kind, hexed(s.text))
+    def books(self, rng, texts):
+        """Fills the oracle's store with these; gives their book, or two books that part them."""
+        for oracle in filter(None, (self.oracle, self.first)):
+            oracle.stock(texts)
         sides = parted(texts, self.borders.randint(0, licences(texts))) if self.borders.random() < 0.5 else (texts,)
         self.told["books: lent two at once"] += len(sides) == 2
-        return texts, [self.book(rng, side) for side in sides]
+        return [self.book(rng, side) for side in sides]
 
     def book(self, rng, texts):
-        out = b""
+        out = model.FRONT[self.edition]
         for i, s in enumerate(texts):
             if s.kind == 2:
                 out += piece(1, s.name.encode("ascii"))
@@ -573,8 +626,10 @@ class Maker:
         return out
 
     def setting(self, rng, most):
-        texts, books = self.books(rng)
-        t = note(rng, texts, most)
+        plain = shelf(rng)
+        texts = [s._replace(text=self.drawn(s.text)) for s in plain]
+        books = self.books(rng, texts)
+        t = self.drawn(note(rng, plain, most))
         return texts, books, t, len(self.oracle.lines(t))
 
     # scores and bounds
@@ -582,7 +637,7 @@ class Maker:
         texts, books, t, n = self.setting(rng, 6)
         k = rng.randrange(len(texts))
         start, end = any_view(rng, n) if rng.random() < 0.5 else (0, n)
-        want = self.oracle.ask("scores", start, end, hexed(t)).split(" ")[k]
+        want = self.said(lambda oracle: oracle.ask("scores", start, end, hexed(t)).split(" ")[k])
         told = f"score of view {start} to {end} of {t!r} against {texts[k].text!r}"
         return Row(f"scoreRow {quoted(t)} {start} {end} {lent(books)} {k}", [0, int(want, 16)], told, ["refusal", "score bits"])
 
@@ -591,7 +646,7 @@ class Maker:
         k = rng.randrange(len(texts))
         start, end = any_view(rng, n) if rng.random() < 0.4 else (0, n)
         asked = (start, end, hexed(t), hexed(texts[k].text))
-        count, *found = self.oracle.ask("countbounds", *asked).split(" ")
+        count, *found = self.said(lambda oracle: oracle.ask("countbounds", *asked)).split(" ")
         told = f"bounds of view {start} to {end} of {t!r} against {texts[k].text!r}"
         self.agree(told, " ".join(found), lambda: self.oracle.ask("bounds", *asked))
         want = [0, int(count), int(found[0]), int(found[1]), int(found[2], 16)]
@@ -617,7 +672,7 @@ class Maker:
 
     def eliminate_setting(self, rng):
         texts, books, t, n = self.setting(rng, 12)
-        everything = self.counted(f"counteliminate {ZERO:08x} {ONE:08x} 1 4 {WHOLE} {hexed(t)}")
+        everything = self.oracle.counted(f"counteliminate {ZERO:08x} {ONE:08x} 1 4 {WHOLE} {hexed(t)}")
         threshold, shallow = self.limits(rng, [everything.score] + [r[3] for r in everything.records])
         optimize, passes = int(rng.random() < 0.85), rng.choice([0, 1, 2, 2, 3, 3, 4])
         mode = ELIMINATION.format(optimize="true" if optimize else "false", passes=passes)
@@ -633,12 +688,6 @@ class Maker:
         before = f"{threshold:08x} {shallow:08x} {step}"
         return Setting(texts, books, t, threshold, shallow, TOP_DOWN.format(step=step), "down", before, 4 * n)
 
-    def counted(self, question):
-        head, *records = self.oracle.ask(question).split(" ; ")
-        refusal, count, score, named = head.split(" ")
-        records = [(int(k), int(a), int(e), int(x, 16)) for k, a, e, x in (r.split(" ") for r in records)]
-        return Counted(int(refusal), int(count), int(score, 16), None if named == "none" else int(named), records)
-
     def eliminate(self, rng, i):
         return self.scan_row(self.eliminate_setting(rng))
 
@@ -646,7 +695,7 @@ class Maker:
         return self.scan_row(self.down_setting(rng))
 
     def scan_row(self, s):
-        a = self.counted(s.question(WHOLE))
+        a = self.said(lambda oracle: oracle.counted(s.question(WHOLE)))
         own = f"{a.score:08x} {'none' if a.named is None else a.named}"
         own += "".join(f" ; {k} {first} {after} {x:08x}" for k, first, after, x in a.records)
         self.agree(s.told(), own, lambda: self.oracle.ask(s.word, s.before, hexed(s.text)))
@@ -659,9 +708,9 @@ class Maker:
     def job(self, rng, i):
         """The public scan: budgets that do not pay all, and those that just do."""
         s = self.eliminate_setting(rng) if i % 2 else self.down_setting(rng)
-        count, n = self.counted(s.question(WHOLE)).count, len(s.texts)
+        count, n = self.oracle.counted(s.question(WHOLE)).count, len(s.texts)
         budget = max(0, rng.choice([0, n - 1, n, n + 1, count - 1, count - 1, count, count + 1, rng.randint(0, count), rng.randint(0, count), WHOLE]))
-        a = self.counted(s.question(budget))
+        a = self.said(lambda oracle: oracle.counted(s.question(budget)))
         self.told["scans that their budget stopped"] += a.refusal == 12
         name, licence = a.licence(s.texts)
         room = s.need + rng.randint(0, 3)
@@ -729,7 +778,7 @@ KINDS = {
     "job": (60, 1, "public scans with a budget and a results area"),
 }
 # a row that must be refused
-CONTROL = Row('linesRow "a"', quoted("b"), "control")
+CONTROL = Row('linesRow 1 "a"', quoted("b"), "control")
 ROWS_A_RUN = 600
 SHOWN = 10
 TAKEN_APART = 3
@@ -762,6 +811,7 @@ def compared(trial, rows, size):
 
 def main():
     options = argparse.ArgumentParser(description="Compares the definitions with the original Rust.")
+    options.add_argument("--edition", type=int, choices=model.EDITIONS, default=1, help="the edition that is compared (default 1)")
     options.add_argument("--seed", default="1", help="another seed gives other inputs (default 1)")
     options.add_argument("--scale", type=float, default=1.0, help="so many times the rows (default 1)")
     options.add_argument("--only", default=",".join(KINDS), help="kinds of rows, with commas between: " + " ".join(KINDS))
@@ -769,7 +819,7 @@ def main():
     options = options.parse_args()
 
     began = time.monotonic()
-    oracle = Oracle()
+    oracle = Oracle(options.edition)
     trial = Trial(options.keep)
     total = 0
     table = []
@@ -789,7 +839,7 @@ def main():
     finally:
         trial.close()
 
-    print(f"\nseed {options.seed}, {time.monotonic() - began:.0f} s (oracle + antt for each kind)")
+    print(f"\nedition {options.edition}, seed {options.seed}, {time.monotonic() - began:.0f} s (oracle + antt for each kind)")
     print("\n".join(table))
     for what, count in sorted(maker.told.items()):
         print(f"{count:6} {what}")

@@ -21,7 +21,7 @@ HALF, NINETY, ALMOST = model.bits_of(0.5), model.bits_of(0.9), model.bits_of(0.9
 def marked(job, slack=None, **fields):
     """The marked text 2 and the marked book: the whole text in view, areas as long as needed."""
     plan = types.SimpleNamespace(job=job, text=MARKED_TEXT, books=(MARKED_BOOK,), start=0, end=None, number=0, threshold=NINETY, shallow=ALMOST)
-    plan.same, plan.optimize, plan.passes, plan.step, plan.budget, plan.sizes = False, True, 10, 1, WHOLE, None
+    plan.edition, plan.same, plan.optimize, plan.passes, plan.step, plan.budget, plan.sizes = 1, False, True, 10, 1, WHOLE, None
     plan.slack = {"area": 0, "words": 0, "out": 0, "results": 0, **(slack or {})}
     vars(plan).update(fields)
     if plan.end is None:
@@ -33,8 +33,8 @@ def due(bad, refusal):
     return refusal if bad else 0
 
 
-def licence(name, text):
-    return record(1, name) + record(2, model.compiled(text))
+def licence(name, text, edition=1):
+    return record(1, name) + record(2, model.compiled(text, edition))
 
 
 # ---- lent areas --------------------------------------------------------------------------------------------------------------------------

@@ -22,6 +22,7 @@ import time
 import asking
 import compare
 import edges
+import editions
 import model
 from compare import Row, Trial, Trouble
 
@@ -35,6 +36,7 @@ use lib.ListN.{length, replicate}
 use lib.Ieee.{Float, toBits, ofBits, binary32}
 use Rattle.rules.specs.Bytes.{text}
 use Rattle.rules.specs.Search.{view}
+use Rattle.rules.specs.Book.{edition}
 use Rattle.rules.specs.Jobs.{lent, areaAfter, check, compile, outputAfter, scoreJob, boundsJob, happened, answered, scan, resultsAfter, nameJob}
 use Rattle.rules.specs.declared.Limits.{Limits}
 use Rattle.rules.specs.declared.Mode.{Mode}
@@ -47,9 +49,9 @@ use Rattle.rules.specs.declared.View.{View}
 use Rattle.rules.specs.Refusal.{Areas, refusal, ofText, ofCompile, beforeCompile, ofView, ofScan, beforeScan}
 
 -- refusal 1, over every text that is too long
-pub long-compile : (t : List ℕ) (a : Areas) (o : ℕ) → textMost < length t → compile t a o ≡ record { refusal = 1; len = 0 }
+pub long-compile : (e : ℕ) (t : List ℕ) (a : Areas) (o : ℕ) → textMost < length t → compile e t a o ≡ record { refusal = 1; len = 0 }
 unfolding compile refusal ofCompile beforeCompile ofText
-long-compile t a o h = simp (lt-ltb textMost (length t) h)
+long-compile e t a o h = simp (lt-ltb textMost (length t) h)
 
 pub long-score : (t : List ℕ) (bs : List (List ℕ)) (v : View) (k : ℕ) (a : Areas) → textMost < length t →
     scoreJob t bs v k a ≡ record { refusal = 1; score = nought }
@@ -94,12 +96,16 @@ limits threshold shallow = record { threshold = ofBits binary32 threshold; shall
 pub checkRow : List ℕ → List ℕ → Row
 checkRow book w = let r = check book in record { got = r .refusal ∷ r .texts ∷ []; want = w }
 
--- refusal, length; the output and both areas at exit
-pub compileRow : List ℕ → List ℕ → List ℕ → List ℕ → List ℕ → Row
-compileRow t b a out w =
-    let r = compile t (lent b a) (length out) in
+-- what the book's edition is
+pub editionRow : List ℕ → List ℕ → Row
+editionRow book w = record { got = edition book ∷ []; want = w }
+
+-- under edition e: refusal, length; the output and both areas at exit
+pub compileRow : ℕ → List ℕ → List ℕ → List ℕ → List ℕ → List ℕ → Row
+compileRow e t b a out w =
+    let r = compile e t (lent b a) (length out) in
     record {
-      got = r .refusal ∷ r .len ∷ outputAfter t (lent b a) out ++ areaAfter (r .refusal) b ++ areaAfter (r .refusal) a;
+      got = r .refusal ∷ r .len ∷ outputAfter e t (lent b a) out ++ areaAfter (r .refusal) b ++ areaAfter (r .refusal) a;
       want = w;
     }
 
@@ -135,7 +141,7 @@ nameRow bs k w =
     let r = nameJob bs k in
     record { got = r .refusal ∷ r .kind ∷ bit (r .part .second) ∷ r .part .at ∷ r .part .len ∷ []; want = w }
 """
-UNFOLDING = "garbage bits bit limits checkRow compileRow scoreRow boundsRow scanRow nameRow opened"
+UNFOLDING = "garbage bits bit limits checkRow editionRow compileRow scoreRow boundsRow scanRow nameRow opened"
 
 # ---- questions and answers as antt writes them ---------------------------------------------------------------------------------------------
 
@@ -180,11 +186,11 @@ def text_term(text):
 
 def called(q):
     """The call of the row, without what is wanted."""
-    if q.job == "check":
-        return f"checkRow {text_term(q.books[0])}"
+    if q.job in ("check", "edition"):
+        return f"{q.job}Row {text_term(q.books[0])}"
     text, areas = text_term(q.text), f"{area_term(q.area, 1)} {area_term(q.words, 4)}"
     if q.job == "compile":
-        return f"compileRow {text} {areas} {area_term(q.out, 1)}"
+        return f"compileRow {q.edition} {text} {areas} {area_term(q.out, 1)}"
     books = compare.listed(map(text_term, q.books))
     if q.job == "name":
         return f"nameRow {books} {q.number}"
@@ -199,6 +205,8 @@ def wanted(q, a):
     both = f"{area_term(a.area, 1)} ++ {area_term(a.words, 4)}"
     if q.job == "check":
         return compare.listed([a.refusal, a.texts])
+    if q.job == "edition":
+        return compare.listed([a.edition])
     if q.job == "name":
         return compare.listed([a.refusal, a.kind, *a.part])
     if q.job == "compile":
@@ -232,6 +240,7 @@ PARTS = {
     "eliminate": SCANNED,
     "down": SCANNED,
     "name": ("refusal", "kind", "second", "at", "len"),
+    "edition": ("edition",),
 }
 
 
@@ -276,7 +285,7 @@ def answers(rng, scale, two):
 def refusals(rng, scale, two):
     """All but 1, whose text is too long to compute on: the laws in the head stand for it. 3 takes long, so there are few, and none of two books."""
     for job in asking.jobs(two):
-        for refusal in model.REFUSALS[job]:
+        for refusal in model.refusals(job, two):
             few = {1: 0, 3: 0 if two else 1}
             for _ in range(few.get(refusal, times(6 if two else 12, scale))):
                 yield asking.faulty(rng, job, refusal, lines=LINES[two], largest=False, two=two)
@@ -289,21 +298,31 @@ def budgets(rng, scale, two):
 
 
 def books(rng, scale, two):
-    for _ in range(times(100 if two else 300, scale)):
-        plan = asking.sound_plan(rng, "score" if two else "check", LINES[two], two)
-        asking.other_books(rng, plan, asking.any_book)
-        yield plan
+    for job, rows in (("score", 100),) if two else (("check", 300), ("edition", 60)):
+        for _ in range(times(rows, scale)):
+            plan = asking.sound_plan(rng, job, LINES[two], two)
+            asking.other_books(rng, plan, asking.any_book)
+            yield plan
 
 
 def limits(rng, scale, two):
+    yield from computable(edges.both() if two else edges.small(), scale)
+
+
+def rulings(rng, scale, two):
+    """The edges of the editions."""
+    yield from computable(editions.both() if two else editions.one(), scale)
+
+
+def computable(found, scale):
     """The edges that antt can compute on: no results of 65,535 passes, and no book of a thousand texts (damaged/proofs/LimitCases.antt has that).
     At a scale below 1 only some of them."""
-    for edge in itertools.islice(edges.both() if two else edges.small(), 0, None, max(1, round(1 / scale))):
+    for edge in itertools.islice(found, 0, None, max(1, round(1 / scale))):
         if edge.plan.passes < 1000 and all(len(book) < 5000 for book in edge.plan.books):
             yield edge.plan
 
 
-MAKERS = {"answers": answers, "refusals": refusals, "budgets": budgets, "books, sound or not": books, "edges": limits}
+MAKERS = {"answers": answers, "refusals": refusals, "budgets": budgets, "books, sound or not": books, "edges": limits, "editions": rulings}
 KINDS = {kind: (make, False) for kind, make in MAKERS.items()} | {f"two books: {kind}": (make, True) for kind, make in MAKERS.items()}
 LINES = {False: 5, True: 3}  # of a text, at most; with two books each view costs more
 MOST_SCORINGS = 120
@@ -350,7 +369,8 @@ def main():
         trial.close()
     for books in (1, 2):
         for job in asking.jobs(books == 2):
-            print(f"{f'{job}, books: {books}':31} by refusal " + ", ".join(f"{n}: {met[job, books, n]}" for n in [0, *model.REFUSALS[job]]))
+            by = ", ".join(f"{n}: {met[job, books, n]}" for n in [0, *model.refusals(job, books == 2)])
+            print(f"{f'{job}, books: {books}':31} by refusal {by}")
     rows, differ, lost = map(sum, zip(*table))
     print(f"seed {options.seed}: {rows} rows, {differ} differ, {lost} not computed")
     return 1 if differ else 2 if lost else 0

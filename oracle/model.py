@@ -1,5 +1,4 @@
-"""A second reading of the rules (docs/RULES.md), in plain Python: what each of the six jobs answers, and what each
-lent area holds at exit.
+"""A second reading of the rules (docs/RULES.md), in plain Python: what each of the jobs answers, and what each lent area holds at exit.
 
 Written from the document, with the definitions known, but by other means: regular expressions for the passes, dictionaries for the tables, exact
 fractions for the scores, generators for the scans. Slow, and no part of the library. hold.py holds it against the definitions, rows.py holds
@@ -45,20 +44,22 @@ def rounded(x):
 
 # ---- line passes -------------------------------------------------------------------------------------------------------------------------
 
+GAPS = {1: rb"[ \t\\/|4]+", 2: rb"[ \t\\/|]+"}  # line pass 4, by edition
+EDITIONS = tuple(GAPS)
 RUNS = [(rb"[\"']+", b"'"), (rb"-+", b"-"), (rb"[(\[{]+", b"("), (rb"[)\]}]+", b")"), (rb"_+", b"_")]
 
 
-def line(piece):
+def line(piece, edition):
     piece = re.sub(rb"[\x00-\x08\x0e-\x1f\x7f$+<=>^|~`]", b"", piece)
     piece = re.sub(rb"https?://[^\t-\r ]+", b"http://blackboxed/url", piece)
-    piece = re.sub(rb"[ \t\\/|4]+", b" ", piece)
+    piece = re.sub(GAPS[edition], b" ", piece)
     for run, one in RUNS:
         piece = re.sub(run, one, piece)
     return piece.strip(SPACES)
 
 
-def lines_of(text):
-    return [line(piece) for piece in text.split(b"\n")]
+def lines_of(text, edition):
+    return [line(piece, edition) for piece in text.split(b"\n")]
 
 
 # ---- aggressive passes -------------------------------------------------------------------------------------------------------------------
@@ -122,8 +123,8 @@ def body_of(counts):
     return out + b"".join(struct.pack("<II", counts[bigram], len(bigram)) + bigram for bigram in sorted(counts))
 
 
-def compiled(text):
-    return body_of(table(lines_of(text)))
+def compiled(text, edition=1):
+    return body_of(table(lines_of(text, edition)))
 
 
 class Note:
@@ -146,6 +147,14 @@ class Note:
 Part = collections.namedtuple("Part", "second at len")  # where a name stands: in the second book or not, from which byte on, how many bytes
 NO_PART = Part(0, 0, 0)
 Stored = collections.namedtuple("Stored", "number name kind table part")
+
+
+FRONT = {1: b"", 2: struct.pack("<IHH", 2, 6, 2)}  # what a book starts with, by edition: nothing, or the whole record of kind 6
+
+
+def edition_of(book):
+    """Of any bytes."""
+    return 2 if book.startswith(FRONT[2]) else 1
 
 
 class Unsound(Exception):
@@ -193,10 +202,12 @@ def shelf_of(book):
     """The stored texts of a sound book, numbered in it."""
     need(len(book) <= BOOK_MOST)
     records = records_in(book)
-    need(all(1 <= kind <= 5 for kind, _, _ in records))
-    need(re.fullmatch("(123*4*5*)*", "".join(str(kind) for kind, _, _ in records)))
+    need(all(1 <= kind <= 6 for kind, _, _ in records))
+    need(re.fullmatch("6?(123*4*5*)*", "".join(str(kind) for kind, _, _ in records)))
     names, shelf = [], []
     for kind, start, body in records:
+        if kind == 6:
+            need(body == b"\2\0")
         if kind in (1, 5):
             need(re.fullmatch(rb"[!-~]{1,64}", body))
         if kind == 1:
@@ -316,11 +327,12 @@ def top_down(note, shelf, q):
 
 @dataclasses.dataclass(frozen=True)
 class Question:
-    """A call of a job: `check`, `compile`, `score`, `bounds`, `eliminate`, `down` or `name`. What a job does not take it does not look at. The last
-    five take one book or two, `check` takes one. Areas are given by what they hold before; words and results as the bytes of their numbers, four
-    each."""
+    """A call of a job: `check`, `compile`, `score`, `bounds`, `eliminate`, `down`, `name` or `edition`. What a job does not take it does not look at.
+    `check` and `edition` take one book, `compile` none, the others one or two. Areas are given by what they hold before; words and results as the
+    bytes of their numbers, four each."""
 
     job: str
+    edition: int = 1  # only of compile; the others have their books'
     text: bytes = b""
     books: tuple = (b"",)
     same: bool = False  # two books are one piece of memory, lent twice
@@ -344,6 +356,7 @@ class Answer:
     """Every field of every job's answer, zero where the job has none or is refused; and the lent areas at exit."""
 
     refusal: int = 0
+    edition: int = 0
     texts: int = 0
     len: int = 0
     first: int = 0
@@ -384,8 +397,9 @@ APPLIES = {
     1: lambda q: len(q.text) > TEXT_MOST,
     2: lambda q: not q.text.isascii(),
     3: lambda q: line_count(q) > LINES_MOST,
-    4: lambda q: any(shelf_or_none(book) is None for book in q.books),
+    4: lambda q: q.edition not in EDITIONS if q.job == "compile" else any(shelf_or_none(book) is None for book in q.books),
     5: lambda q: not shelved(q.books),
+    15: lambda q: len({edition_of(book) for book in q.books}) > 1,
     6: lambda q: not in_unit(q.threshold) or not in_unit(q.shallow),
     7: lambda q: q.step == 0,
     8: lambda q: not 0 <= q.start <= q.end <= line_count(q),
@@ -394,13 +408,23 @@ APPLIES = {
 }
 REFUSALS = {
     "check": [4],
-    "compile": [1, 2, 3, 10, 11],
-    "score": [1, 2, 3, 4, 5, 8, 9, 10],
-    "bounds": [1, 2, 3, 4, 5, 8, 9, 10],
-    "eliminate": [1, 2, 3, 4, 5, 6, 10, 12],
-    "down": [1, 2, 3, 4, 5, 6, 7, 10, 12],
-    "name": [4, 5, 9],
+    "compile": [1, 2, 3, 4, 10, 11],
+    "score": [1, 2, 3, 4, 5, 15, 8, 9, 10],
+    "bounds": [1, 2, 3, 4, 5, 15, 8, 9, 10],
+    "eliminate": [1, 2, 3, 4, 5, 15, 6, 10, 12],
+    "down": [1, 2, 3, 4, 5, 15, 6, 7, 10, 12],
+    "name": [4, 5, 15, 9],
+    "edition": [],
 }
+
+
+def refusals(job, two):
+    """Those that a job may answer, in the order in which they are tried: 15 only with two books."""
+    return [n for n in REFUSALS[job] if two or n != 15]
+
+
+def note_of(q):
+    return Note(lines_of(q.text, edition_of(q.books[0])))
 
 
 def written(new, old):
@@ -408,7 +432,7 @@ def written(new, old):
 
 
 def compile_job(q, a):
-    body = compiled(q.text)
+    body = compiled(q.text, q.edition)
     if len(q.out) < len(body):
         a.refusal = 11
     else:
@@ -416,12 +440,12 @@ def compile_job(q, a):
 
 
 def score_job(q, a):
-    note, text = Note(lines_of(q.text)), shelved(q.books)[q.number]
+    note, text = note_of(q), shelved(q.books)[q.number]
     a.score = bits_of(score(note.table(q.start, q.end), text.table))
 
 
 def bounds_job(q, a):
-    events = bounds(Note(lines_of(q.text)), q.start, q.end, shelved(q.books)[q.number])
+    events = bounds(note_of(q), q.start, q.end, shelved(q.books)[q.number])
     while True:
         try:
             next(events)
@@ -435,7 +459,7 @@ def bounds_job(q, a):
 def scan_job(q, a):
     scan = elimination if q.job == "eliminate" else top_down
     numbers = b""
-    for event in scan(Note(lines_of(q.text)), shelved(q.books), q):
+    for event in scan(note_of(q), shelved(q.books), q):
         if event is SCORING:
             if a.count == q.budget:
                 a.refusal = 12
@@ -464,11 +488,14 @@ WORK = {"compile": compile_job, "score": score_job, "bounds": bounds_job, "elimi
 def answered(q):
     """The answer, and every lent area at exit."""
     a = Answer(area=q.area, words=q.words, out=q.out, results=q.results)
-    a.refusal = next((n for n in REFUSALS[q.job] if n <= 10 and APPLIES[n](q)), 0)
+    a.refusal = next((n for n in REFUSALS[q.job] if n in APPLIES and APPLIES[n](q)), 0)
     if a.refusal:
         return a
     if q.job == "check":
         a.texts = len(shelved(q.books))
+        return a
+    if q.job == "edition":
+        a.edition = edition_of(q.books[0])
         return a
     WORK[q.job](q, a)
     a.area, a.words = bytes(len(q.area)), bytes(len(q.words))

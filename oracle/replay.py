@@ -154,11 +154,15 @@ def all_texts(rng, how_many):
 
 
 class List:
-    """Questions as they are asked, each with its answer; a heading is a line without one."""
+    """Questions as they are asked, each with its answer; a heading is a line without one. In a later edition the texts have 4s in them, by the
+    salt."""
 
-    def __init__(self, oracle):
-        self.oracle = oracle
+    def __init__(self, oracle, salt):
+        self.oracle, self.salt = oracle, salt
         self.questions, self.answers = [], []
+
+    def text(self, text):
+        return hexed(compare.drawn(self.oracle.edition, self.salt, text))
 
     def heading(self, words):
         self.questions.append(f"# {words}")
@@ -178,7 +182,7 @@ def replay_lines(out, rng):
     for source, texts in all_texts(rng, 250):
         out.heading(source)
         for t in texts:
-            out.ask("lines", hexed(t))
+            out.ask("lines", out.text(t))
 
 
 def replay_views(out, rng):
@@ -186,14 +190,14 @@ def replay_views(out, rng):
         out.heading(source)
         for i, t in enumerate(texts):
             n = out.lines(t)
-            out.ask("view", 0, n, hexed(t))
+            out.ask("view", 0, n, out.text(t))
             if source != "traps" and i % 2 == 0:
-                out.ask("view", *compare.any_view(rng, n), hexed(t))
+                out.ask("view", *compare.any_view(rng, n), out.text(t))
     t = "a b\n\ncopyright c\n\nd e"
     out.heading("every view of one text")
     for start in range(6):
         for end in range(start, 6):
-            out.ask("view", start, end, hexed(t))
+            out.ask("view", start, end, out.text(t))
 
 
 def of_made_texts(out, rng, question, times, longest):
@@ -203,7 +207,7 @@ def of_made_texts(out, rng, question, times, longest):
         t = compare.note(rng, stored, longest)
         n = out.lines(t)
         view = compare.any_view(rng, n) if rng.random() < 0.4 else (0, n)
-        out.ask(question, *view, hexed(t), hexed(rng.choice(stored).text))
+        out.ask(question, *view, out.text(t), out.text(rng.choice(stored).text))
 
 
 def replay_tables(out, rng):
@@ -211,38 +215,38 @@ def replay_tables(out, rng):
     out.heading("tables")
     some = texts["cases"] + rng.sample(texts["traps"], 100) + texts["licences"][::2] + texts["random"]
     for t in some:
-        out.ask("table", hexed(t))
+        out.ask("table", out.text(t))
     out.heading("scores")
     for t, licence in [
         (TEXT_2, LICENCE_A), ("copyright 20xx me irl\n\n //  my   first license", LICENCE_A), ("", LICENCE_A), (LICENCE_A, ""), ("", ""),
         ("one", "one"), ("a b", "b a"), ("a b a", "a b a"), ("b a b a", "a b a b"), ("a a a a", "a a"), ("a b c d", "x y z"),
     ]:
-        out.ask("score", 0, out.lines(t), hexed(t), hexed(licence))
+        out.ask("score", 0, out.lines(t), out.text(t), out.text(licence))
     of_made_texts(out, rng, "score", 120, 12)
     for whole in licences():
         lines = whole.split("\n")
         t = piece(rng, lines, 900)
         for licence in (t, piece(rng, lines, 900), rng.choice(texts["licences"])):
-            out.ask("score", 0, out.lines(t), hexed(t), hexed(licence))
+            out.ask("score", 0, out.lines(t), out.text(t), out.text(licence))
 
 
 def stock(out, stored):
     out.ask("clear")
     for s in stored:
-        out.ask("add", hexed(s.name), s.kind, hexed(s.text))
+        out.ask("add", hexed(s.name), s.kind, out.text(s.text))
 
 
 def budgets(out, word, before, text, stored):
     """One scan with every budget that matters."""
-    count = int(out.ask(f"count{word}", before, WHOLE, hexed(text)).split(" ")[1])
+    count = int(out.ask(f"count{word}", before, WHOLE, out.text(text)).split(" ")[1])
     for budget in sorted({0, len(stored), max(0, count - 1), count, count + 1}):
-        out.ask(f"count{word}", before, budget, hexed(text))
+        out.ask(f"count{word}", before, budget, out.text(text))
 
 
 def scans_of(out, rng, stored, text, most_down):
     """The scans of one note: thresholds that are met exactly among them."""
     n = out.lines(text)
-    met = [int(x, 16) for x in out.oracle.ask("scores", 0, n, hexed(text)).split(" ")]
+    met = [int(x, 16) for x in out.oracle.ask("scores", 0, n, out.text(text)).split(" ")]
     threshold = rng.choice([ZERO, HALF, NINETY, ONE, max(met), max(met)])
     shallow = rng.choice([ONE, bits(0.99), HALF, max(met)])
     optimize, passes = int(rng.random() < 0.85), rng.choice([0, 1, 2, 3])
@@ -256,20 +260,20 @@ def replay_scans(out, rng):
     out.heading("the marked cases, and the errors that look right")
     first = [compare.Stored("A", 2, LICENCE_A)]
     stock(out, first)
-    out.ask("countbounds", 0, 4, hexed(TEXT_2), hexed(LICENCE_A))
+    out.ask("countbounds", 0, 4, out.text(TEXT_2), out.text(LICENCE_A))
     for budget in (0, 1, 8, 9, 19, 20, 21, WHOLE):
-        out.ask("counteliminate", f"{NINETY:08x} {bits(0.99):08x} 1 10", budget, hexed(TEXT_2))
+        out.ask("counteliminate", f"{NINETY:08x} {bits(0.99):08x} 1 10", budget, out.text(TEXT_2))
     for threshold in (ONE, bits(2 / 3), ZERO):  # reached and not passed
         for t in (LICENCE_A, TEXT_2, "", "\n\n"):
-            out.ask("counteliminate", f"{threshold:08x} {ONE:08x} 1 3", WHOLE, hexed(t))
+            out.ask("counteliminate", f"{threshold:08x} {ONE:08x} 1 3", WHOLE, out.text(t))
             for step in (1, 2, WHOLE):
-                out.ask("countdown", f"{threshold:08x} {ONE:08x} {step}", WHOLE, hexed(t))
+                out.ask("countdown", f"{threshold:08x} {ONE:08x} {step}", WHOLE, out.text(t))
     for t in ["my first license" + "\n" * k for k in range(1, 9)] + ["\n" * k + "my first license\n\n" for k in range(1, 9)]:
-        out.ask("countbounds", 0, out.lines(t), hexed(t), hexed(LICENCE_A))  # equal scores: the later index
+        out.ask("countbounds", 0, out.lines(t), out.text(t), out.text(LICENCE_A))  # equal scores: the later index
     for between in ("\n", "\n\n", "\nx\n", "\nx y\n\n"):  # where top-down goes on
         t = between.join([LICENCE_A] * 3)
         for step in (1, 2, 3):
-            out.ask("countdown", f"{NINETY:08x} {ONE:08x} {step}", WHOLE, hexed(t))
+            out.ask("countdown", f"{NINETY:08x} {ONE:08x} {step}", WHOLE, out.text(t))
 
     out.heading("bounds")
     of_made_texts(out, rng, "countbounds", 60, 14)
@@ -297,19 +301,26 @@ def replay_scans(out, rng):
         stored = [compare.Stored(f"N{i // 2:02}", 2 + 2 * (i % 2), compare.stored_text(rng)) for i in range(n)]
         stock(out, stored)
         t = compare.note(rng, stored, 8)
-        met = max(int(x, 16) for x in out.oracle.ask("scores", 0, out.lines(t), hexed(t)).split(" "))
+        met = max(int(x, 16) for x in out.oracle.ask("scores", 0, out.lines(t), out.text(t)).split(" "))
         for step in (1, 2, 3, 4, 5, 6, 7, WHOLE):
-            out.ask("countdown", f"{rng.choice([ZERO, HALF, met]):08x} {ONE:08x} {step}", WHOLE, hexed(t))
+            out.ask("countdown", f"{rng.choice([ZERO, HALF, met]):08x} {ONE:08x} {step}", WHOLE, out.text(t))
         budgets(out, "eliminate", f"{rng.choice([HALF, met]):08x} {ONE:08x} 1 3", t, stored)
 
 
 LISTS = (replay_lines, replay_views, replay_tables, replay_scans)
 
 
+def listed(make, oracle, seed):
+    """One list of a seed."""
+    salt = f"{seed} {make.__name__}"
+    out = List(oracle, salt)
+    make(out, random.Random(salt))
+    return out
+
+
 def recorded(make, seed):
     """One list, asked of a store that is empty."""
-    out = List(Oracle())
-    make(out, random.Random(f"{seed} {make.__name__}"))
+    out = listed(make, Oracle(1), seed)
     sizes = [sum(len(row) + 1 for row in rows) for rows in (out.questions, out.answers)]
     print(f"{make.__name__}: {len(out.answers)} questions, {sizes[0]} and {sizes[1]} bytes")
     return out

@@ -6,8 +6,8 @@
 Asks target/rows (built and run by host/drivers/rows.sh) and the model the same questions, and compares everything that the call answers and leaves. Every
 area is filled with garbage first and is often longer than needed; text, books and the bytes behind each buffer must be as they were, and the name's
 part must hold the name. Each refusal of each job, of one book and of two, must be met at least 20 times, and each limit must bring the refusal that
-edges.py says. Prints one line for each kind of row; the last line is 'N passed, M failed'. Exit status: 0 none failed, 1 some did, 2 the comparison
-could not be made.
+edges.py or editions.py says. Prints one line for each kind of row; the last line is 'N passed, M failed'. Exit status: 0 none failed, 1 some did, 2 the
+comparison could not be made.
 """
 
 import argparse
@@ -23,11 +23,12 @@ import time
 import asking
 import compare
 import edges
+import editions
 import model
 from compare import Trouble
 
 AREAS = ("area", "words", "out", "results")
-NUMBERS = ("refusal", "texts", "len", "first", "after", "score", "count", "records", "kind", "name_len")
+NUMBERS = ("refusal", "texts", "len", "first", "after", "score", "count", "records", "kind", "name_len", "edition")
 REPLY = struct.Struct(f"<{len(NUMBERS)}Q{model.NAME_MOST}s4Q")
 ONE, TWO, SAME = range(3)  # books that are lent
 LEAST = 20  # times that each refusal of each job is met
@@ -51,9 +52,9 @@ class Archive:
         """The answer, and what is not as it must be besides."""
         held = {"text": q.text, "book": q.books[0], "second": b"".join(q.books[1:]), **{area: getattr(q, area) for area in AREAS}}
         lengths = [len(b) // (4 if name in ("words", "results") else 1) for name, b in held.items()]
-        settings = (q.start, q.end, q.number, q.threshold, q.shallow, q.optimize, q.passes, q.step, q.budget)
+        settings = (q.edition, q.start, q.end, q.number, q.threshold, q.shallow, q.optimize, q.passes, q.step, q.budget)
         books = SAME if q.same else TWO if len(q.books) == 2 else ONE
-        call = struct.pack("<18Q", asking.JOBS.index(q.job), *settings, books, *lengths) + b"".join(held.values())
+        call = struct.pack("<19Q", asking.JOBS.index(q.job), *settings, books, *lengths) + b"".join(held.values())
         try:
             self.process.stdin.write(call)
             self.process.stdin.flush()
@@ -86,7 +87,7 @@ def told(q):
 def several(q):
     """Do two or more rows of the table of refusals apply?"""
     unsound = 4 in model.REFUSALS[q.job] and model.APPLIES[4](q)  # then it is not known how many texts there are
-    numbers = [n for n in model.REFUSALS[q.job] if n <= 10 and not (n in (5, 9) and unsound)]
+    numbers = [n for n in model.REFUSALS[q.job] if n in model.APPLIES and not (n in (5, 9) and unsound)]
     return sum(bool(model.APPLIES[n](q)) for n in numbers) > 1
 
 
@@ -99,9 +100,14 @@ def apart(want, got):
             yield f"{field}: model {shortened(a)}, archive {shortened(b)}" + (f", from byte {at} on" if at is not None else "")
 
 
+def with_edition(q):
+    """Does compile take another edition than 1, or another job a book with a record of kind 6 at its start, right or wrong?"""
+    return q.edition != 1 if q.job == "compile" else q.job == "edition" or any(book[4:6] == b"\6\0" for book in q.books)
+
+
 class Tally:
     def __init__(self, archive):
-        self.archive, self.several = archive, 0
+        self.archive, self.several, self.editions = archive, 0, 0
         self.rows, self.failed, self.met, self.met_by_kind = collections.Counter(), collections.Counter(), collections.Counter(), {}
 
     def hold(self, kind, q, due):
@@ -109,6 +115,7 @@ class Tally:
         got, faults = self.archive.ask(q)
         self.rows[kind] += 1
         self.several += several(q)
+        self.editions += with_edition(q)
         self.met[q.job, len(q.books), want.refusal] += 1
         self.met_by_kind.setdefault(kind, collections.Counter())[want.refusal] += 1
         faults += apart(want, got)
@@ -121,7 +128,7 @@ class Tally:
     def require(self):
         """Each refusal of each job, and an answer of each, is met so often, with one book and with two."""
         for job, books in FORMS:
-            for refusal in [0, *model.REFUSALS[job]]:
+            for refusal in [0, *model.refusals(job, books == 2)]:
                 met = self.met[job, books, refusal]
                 if met < LEAST:
                     self.failed["refusals"] += 1
@@ -132,7 +139,7 @@ class Tally:
             met = ", ".join(f"{n}: {count}" for n, count in sorted(self.met_by_kind[kind].items()))
             print(f"{kind:34} {rows:6} rows {self.failed[kind]:4} differ   by refusal {met}")
         for job, books in FORMS:
-            met = ", ".join(f"{n}: {self.met[job, books, n]}" for n in [0, *model.REFUSALS[job]])
+            met = ", ".join(f"{n}: {self.met[job, books, n]}" for n in [0, *model.refusals(job, books == 2)])
             print(f"{f'{job}, {BOOKS[books]}':34} {met}")
 
 
@@ -148,14 +155,14 @@ def answers(rng, rows, job, two):
 
 
 def refusals(rng, rows, job, two):
-    for refusal in model.REFUSALS[job]:
+    for refusal in model.refusals(job, two):
         for _ in range(rows):
             yield asking.faulty(rng, job, refusal, two=two), {}
 
 
 def pairs(rng, rows, job, two):
     """Each two refusals of a job at once; the first is due. One empty book is sound, so there 4 and 5 have no such row."""
-    for first, second in itertools.combinations(model.REFUSALS[job], 2):
+    for first, second in itertools.combinations(model.refusals(job, two), 2):
         for _ in range(rows if two or (first, second) != (4, 5) else 0):
             yield asking.two_faults(rng, job, first, second, two=two), {"refusal": first}
 
@@ -167,8 +174,8 @@ def budgets(rng, scans, job, two):
 
 
 def books(rng, rows, job, two):
-    """Of one book most by its check, which does nothing else."""
-    for _ in range(3 * rows if job == "check" else 0 if job == "compile" else rows):
+    """Of one book most by its check and its edition, which do nothing else."""
+    for _ in range(3 * rows if job in ("check", "edition") else 0 if job == "compile" else rows):
         plan = asking.sound_plan(rng, job, two=two)
         asking.other_books(rng, plan, asking.any_book)
         yield plan, {}
@@ -201,7 +208,9 @@ def limits(seed, found):
 def rows(seed, scale, large):
     """All rows: so many times the random ones, and the large edges or not."""
     yield from random_rows(seed, scale)
-    yield from limits(seed, itertools.chain(edges.small(), edges.both(), edges.large() if large else []))
+    yield from limits(seed, itertools.chain(edges.small(), edges.both(), editions.one(), editions.both()))
+    if large:
+        yield from limits(seed, itertools.chain(edges.large(), editions.large()))
 
 
 QUICK = 0.05
@@ -220,7 +229,7 @@ def main():
         tally.require()
         tally.table()
     failed = sum(tally.failed.values())
-    print(f"{tally.several} rows with several faults at once; seed {options.seed}, {time.monotonic() - began:.0f} s")
+    print(f"{tally.several} rows with several faults at once, {tally.editions} with an edition; seed {options.seed}, {time.monotonic() - began:.0f} s")
     print(f"{sum(tally.rows.values()) - failed} passed, {failed} failed")
     return 1 if failed else 0
 

@@ -1,19 +1,20 @@
 #!/usr/bin/env python3
 """Holds the proved code, called through C, against the original on many questions.
 
-    oracle/scale.py [--seeds N] [--first K]
+    oracle/scale.py [--edition E] [--seeds N] [--first K]
 
-Asks the original (oracle/README.md) and target/answers (built and run by host/drivers/answers.sh) the same questions and compares the answers line by line:
+Asks the original (oracle/README.md), in edition 2 mended, and target/answers (built and run by host/drivers/answers.sh) the same questions and
+compares the answers line by line:
 
   lists     replay.py's lists of tables, scores, bounds and scans, made anew for each of N seeds (default 100): passes by the tables that
             they end in, scores by their bits, counts and budgets, both scans
-  short     the table of every text of up to five bytes over an alphabet in which each byte means something to some pass
+  short     the table of every text of up to five bytes over an alphabet in which each byte means something to some pass, and of texts full of 4s
   files     the table of each copyright file of the installed Debian packages to 10,000 bytes, and scans of them against a store of common licences
 
 Every question on a view or a scan is asked of target/answers twice: with one book, and behind `border K` with two, which the original's one store
 decides as well. The original's unordered ties are settled in its answers as oracle/README.md says. Every area is filled with garbage before a call,
-and target/answers stops where one is not as it must be after it, or where the name's part is not the named licence's. Prints the number of cases of
-each kind, and each difference.
+and target/answers stops where one is not as it must be after it, or where the name's part is not the named licence's. In edition 2 the texts of the
+lists have 4s put into them. Prints the number of cases of each kind, in edition 2 also of how many edition 1 has another answer, and each difference.
 """
 
 import argparse
@@ -26,6 +27,7 @@ import sys
 from collections import Counter
 
 import compare
+import model
 import replay
 from compare import ONE, WHOLE, Oracle, Trouble, bits, hexed
 
@@ -36,9 +38,9 @@ VIEWS, SCANS = ("score", "countbounds"), ("counteliminate", "countdown")
 
 
 class Ours:
-    def __init__(self):
+    def __init__(self, edition):
         program = os.path.join(compare.REPOSITORY, "host", "drivers", "answers.sh")
-        self.process = subprocess.Popen([program], stdin=subprocess.PIPE, stdout=subprocess.PIPE, text=True)
+        self.process = subprocess.Popen([program, str(edition)], stdin=subprocess.PIPE, stdout=subprocess.PIPE, text=True)
 
     def ask(self, question):
         self.process.stdin.write(question + "\n")
@@ -52,22 +54,25 @@ class Ours:
 class Tally:
     """Holds our answers against the original's. The borders are drawn by the seed that the run starts with."""
 
-    def __init__(self, ours, seed):
-        self.ours, self.rng = ours, random.Random(f"{seed} borders")
-        self.asked, self.differing, self.licences = Counter(), 0, 0
+    def __init__(self, edition, seed):
+        self.ours, self.first = Ours(edition), None if edition == 1 else Oracle(1)
+        self.rng = random.Random(f"{seed} borders")
+        self.asked, self.otherwise, self.differing, self.licences = Counter(), Counter(), 0, 0
 
     def hold(self, question, theirs):
         """With one book; and where two can be lent with two, parted anywhere, also before the first licence and behind the last."""
         word, *rest = question.split(" ")
         self.licences = 0 if word == "clear" else self.licences + (word == "add" and rest[1] == "2")
-        self.compare(word, question, theirs)
+        otherwise = self.first is not None and self.first.ask(question) != theirs
+        self.compare(word, question, theirs, otherwise)
         if word in VIEWS + SCANS:
             border = self.rng.randint(0, self.licences if word in SCANS else 1)
-            self.compare(f"{word}, two books", f"border {border} {question}", theirs)
+            self.compare(f"{word}, two books", f"border {border} {question}", theirs, otherwise)
 
-    def compare(self, kind, question, theirs):
+    def compare(self, kind, question, theirs, otherwise):
         ours = self.ours.ask(question)
         self.asked[kind] += 1
+        self.otherwise[kind] += otherwise
         if theirs != ours:
             self.differing += 1
             print(f"differs: {question[:400]}\n  original {theirs[:300]}\n  ours     {ours[:300]}")
@@ -76,8 +81,7 @@ class Tally:
 def lists(tally, oracle, first, seeds):
     for seed in range(first, first + seeds):
         for make in (replay.replay_tables, replay.replay_scans):
-            out = replay.List(oracle)
-            make(out, random.Random(f"{seed} {make.__name__}"))
+            out = replay.listed(make, oracle, seed)
             questions = [q for q in out.questions if q and not q.startswith("#")]
             for question, answer in zip(questions, out.answers, strict=True):
                 tally.hold(question, answer)
@@ -93,6 +97,7 @@ def short():
     for n in range(SHORT + 1):
         for letters in itertools.product(ALPHABET, repeat=n):
             yield "".join(letters)
+    yield from compare.FOUR_TEXTS
 
 
 def installed():
@@ -118,16 +123,17 @@ def files(tally, oracle):
 
 def main():
     options = argparse.ArgumentParser(description="Compares the proved code with the original on many questions.")
+    options.add_argument("--edition", type=int, choices=model.EDITIONS, default=1)
     options.add_argument("--seeds", type=int, default=100)
     options.add_argument("--first", type=int, default=1)
     options = options.parse_args()
-    oracle, tally = Oracle(), Tally(Ours(), options.first)
+    oracle, tally = Oracle(options.edition), Tally(options.edition, options.first)
     lists(tally, oracle, options.first, options.seeds)
     tables(tally, oracle, short())
     files(tally, oracle)
     for kind, count in sorted(tally.asked.items()):
-        print(f"{kind:25} {count:8}")
-    print(f"{sum(tally.asked.values())} cases, {tally.differing} differences")
+        print(f"{kind:25} {count:8}" + f", edition 1 has another answer to {tally.otherwise[kind]:8}" * (options.edition != 1))
+    print(f"edition {options.edition}: {tally.asked.total()} cases, {tally.differing} differences")
     return 1 if tally.differing else 0
 
 

@@ -21,6 +21,17 @@ UNSOUND = "any(shelf_or_none(book) is None for book in q.books)"
 BEST_OVERALL = "    text, value = yield from best(note, 0, whole, shelf)\n    yield Overall(text, value)\n"
 STORED_NAME = "= text.kind, len(text.name), text.part"
 TWO_NAMES = "any(a.name {} b.name for a in shelved(q.books[:1]) for b in shelved(q.books[1:]))"
+STARTS, SAID, LEFT = "book.startswith(FRONT[2])", r'body == b"\2\0"', "    if a.refusal:\n"
+FOUND = "shelf.append(Stored("
+LINES, EACH = "lines_of(q.text, edition_of(q.books[0]))", "for book in q.books})"
+
+
+def moved(job, number, behind):
+    """The refusals of a job in another order: this one right behind that one."""
+    order = [n for n in model.REFUSALS[job] if n != number]
+    order.insert(order.index(behind) + 1, number)
+    return f"{number} behind {behind} in {job}", f'"{job}": {model.REFUSALS[job]}', f'"{job}": {order}'
+
 
 # what it is, what stands in model.py, what stands there instead
 WRONG = [
@@ -41,14 +52,14 @@ WRONG = [
     ("a view that ends before L", "q.end <= line_count(q)", "q.end < line_count(q)"),
     ("an empty view refused", "q.start <= q.end <=", "q.start < q.end <="),
     ("stored number N", "q.number >= len", "q.number > len"),
-    ("8 before 4", '"score": [1, 2, 3, 4, 5, 8, 9, 10]', '"score": [1, 2, 3, 8, 4, 5, 9, 10]'),
-    ("10 before 8", '"bounds": [1, 2, 3, 4, 5, 8, 9, 10]', '"bounds": [1, 2, 3, 4, 5, 10, 8, 9]'),
-    ("9 before 8", '"score": [1, 2, 3, 4, 5, 8, 9, 10]', '"score": [1, 2, 3, 4, 5, 9, 8, 10]'),
-    ("6 before 4", '"eliminate": [1, 2, 3, 4, 5, 6, 10, 12]', '"eliminate": [1, 2, 3, 6, 4, 5, 10, 12]'),
-    ("7 before 6", '"down": [1, 2, 3, 4, 5, 6, 7, 10, 12]', '"down": [1, 2, 3, 4, 5, 7, 6, 10, 12]'),
-    ("2 before 1", '"compile": [1, 2, 3, 10, 11]', '"compile": [2, 1, 3, 10, 11]'),
-    ("3 before 2", '"compile": [1, 2, 3, 10, 11]', '"compile": [1, 3, 2, 10, 11]'),
-    ("10 before 2", '"compile": [1, 2, 3, 10, 11]', '"compile": [1, 10, 2, 3, 11]'),
+    moved("score", 8, 3),
+    moved("bounds", 10, 15),
+    moved("score", 9, 15),
+    moved("eliminate", 6, 3),
+    moved("down", 7, 15),
+    moved("compile", 1, 2),
+    moved("compile", 2, 3),
+    moved("compile", 10, 1),
     ("an output one too short", "len(q.out) < len(body)", "len(q.out) < len(body) - 1"),
     ("11 at the body's length", "len(q.out) < len(body)", "len(q.out) <= len(body)"),
     ("11 writes what fits", "        a.refusal = 11\n", "        a.refusal, a.out = 11, body[: len(q.out)]\n"),
@@ -123,12 +134,82 @@ WRONG = [
     ("a part without a name", "a.score = bits_of(event.score)", "a.score, a.part = bits_of(event.score), event.text.part"),
     ("a part before N are paid", "a.refusal = 12\n", "a.refusal, a.part = 12, a.part if a.score else shelved(q.books)[0].part\n"),
     ("no part with 12", "a.refusal = 12\n", "a.refusal, a.part = 12, NO_PART\n"),
-    ("9 before 5", '"name": [4, 5, 9]', '"name": [4, 9, 5]'),
-    ("5 before 4", '"name": [4, 5, 9]', '"name": [5, 4, 9]'),
+    moved("name", 9, 4),
+    moved("name", 4, 5),
     ("every stored text an original", STORED_NAME, "= 2, len(text.name), text.part"),
     ("the part of the text before it", STORED_NAME, "= text.kind, len(text.name), shelved(q.books)[q.number - 1].part"),
     ("the part of the first equal name", STORED_NAME, "= text.kind, len(text.name), next(x.part for x in shelved(q.books) if x.name == text.name)"),
     ("the part of the last record", "a.records += 1", "a.records, a.part = a.records + 1, shelved(q.books)[event.number].part"),
+    # editions: what stays
+    ("the 4 goes in edition 2", r'2: rb"[ \t\\/|]+"', r'2: rb"[ \t\\/|4]+"'),
+    ("a 4 that stands alone goes in edition 2", r'2: rb"[ \t\\/|]+"', r'2: rb"(?:[ \t\\/|]|\b4\b)+"'),
+    ("spaces are not joined in edition 2", r'2: rb"[ \t\\/|]+"', r'2: rb"[\t\\/|]+"'),
+    ("the 4 stays in edition 1", r'1: rb"[ \t\\/|4]+"', r'1: rb"[ \t\\/|]+"'),
+    ("lines of edition 1 always", LINES, "lines_of(q.text, 1)"),
+    ("lines of edition 2 always", LINES, "lines_of(q.text, 2)"),
+    ("lines of a second book's edition, which one book has not", LINES, 'lines_of(q.text, edition_of(b"".join(q.books[1:])))'),
+    ("lines of edition 1 with two books", LINES, "lines_of(q.text, 1 if q.books[1:] else edition_of(q.books[0]))"),
+    ("compiled under edition 1 always", "compiled(q.text, q.edition)", "compiled(q.text, 1)"),
+    ("compiled under edition 2 always", "compiled(q.text, q.edition)", "compiled(q.text, 2)"),
+    # editions: the record of kind 6
+    ("no record of kind 6", "6?(123*4*5*)*", "(123*4*5*)*"),
+    ("a record of kind 6 later too", "6?(123*4*5*)*", "6?(123*4*5*6?)*"),
+    ("a record of kind 6 behind a name", "6?(123*4*5*)*", "6?(16?23*4*5*)*"),
+    ("two records of kind 6", "6?(123*4*5*)*", "6*(123*4*5*)*"),
+    ("a record of kind 6 in every book", "6?(123*4*5*)*", "(6(123*4*5*)*)?"),
+    ("an alias behind the edition", "6?(123*4*5*)*", "(65*)?(123*4*5*)*"),
+    ("0 said", SAID, r'body in (b"\0\0", b"\2\0")'),
+    ("1 said", SAID, r'body in (b"\1\0", b"\2\0")'),
+    ("3 said", SAID, r'body in (b"\3\0", b"\2\0")'),
+    ("all but 0 and 1 said", SAID, r'len(body) == 2 and body not in (b"\0\0", b"\1\0")'),
+    ("the low byte said alone", SAID, r'len(body) == 2 and body[:1] == b"\2"'),
+    ("said big-endian", SAID, r'body == b"\0\2"'),
+    ("said in one byte", SAID, r'body.ljust(2, b"\0") == b"\2\0"'),
+    ("said in three bytes", SAID, r'body[:2] == b"\2\0"'),
+    ("an edition alone is unsound", "names, shelf = [], []", "names, shelf = need(book != FRONT[2]) or [], []"),
+    ("an edition is a stored text", "names, shelf = [], []", "names, shelf = [], [Stored(0, b'', 6, {}, NO_PART)] * (edition_of(book) - 1)"),
+    ("1,024 texts with the edition among them", "len(shelf) <= STORED_MOST", "len(shelf) + edition_of(book) <= STORED_MOST + 1"),
+    ("places without the edition", "Part(0, start, len(body))", "Part(0, start - len(FRONT[edition_of(book)]), len(body))"),
+    ("tables judged by the edition", FOUND, f"need(edition_of(book) == 2 or b'4' not in b''.join(table_in(body))) or {FOUND}"),
+    # editions: a book's
+    ("2 without a record", f"2 if {STARTS} else 1", "2"),
+    ("1 always", f"2 if {STARTS} else 1", "1"),
+    ("2 of the empty book", STARTS, f"not book or {STARTS}"),
+    ("the edition of a record that breaks off", STARTS, "len(book) > 6 and FRONT[2].startswith(book[:8])"),
+    ("the edition of a record anywhere", STARTS, "FRONT[2] in book"),
+    ("the edition of a sound book only", STARTS, f"{STARTS} and shelf_or_none(book) is not None"),
+    ("the edition by its kind alone", STARTS, r'book[4:6] == b"\6\0"'),
+    ("the edition of a body of any length", STARTS, "book[4:8] == FRONT[2][4:]"),
+    ("the edition of a length of 16 bits", STARTS, "book[:2] + book[4:8] == FRONT[2][:2] + FRONT[2][4:]"),
+    ("the edition of a kind of 8 bits", STARTS, "book[:5] + book[6:8] == FRONT[2][:5] + FRONT[2][6:]"),
+    ("the edition in its low byte", STARTS, "len(book) > 7 and book.startswith(FRONT[2][:7])"),
+    ("the edition big-endian", STARTS, r'book.startswith(FRONT[2][:6] + b"\0\2")'),
+    # editions: of two books
+    ("no 15", f"{EACH} > 1", f"{EACH} > 2"),
+    ("15 of one book, beside none", EACH, "for book in (*q.books, b'')[:2]})"),
+    ("15 not beside an empty book", EACH, "for book in q.books if book})"),
+    ("15 not beside a book without texts", EACH, "for book in q.books if shelf_or_none(book)})"),
+    ("15 only where the first is older", "len({edition_of(book) for book in q.books}) > 1", "edition_of(q.books[0]) < edition_of(q.books[-1])"),
+    ("15 only where the second is older", "len({edition_of(book) for book in q.books}) > 1", "edition_of(q.books[0]) > edition_of(q.books[-1])"),
+    ("areas cleared after 15", LEFT, LEFT + "        a.area = bytes(len(q.area)) if a.refusal == 15 else a.area\n"),
+    *(moved(job, 15, 4) for job in ("score", "bounds", "eliminate", "down", "name")),
+    *(moved(job, 15, 3) for job in ("score", "bounds", "eliminate", "down")),
+    *(moved(job, 15, 8) for job in ("score", "bounds")),
+    *(moved(job, 15, 9) for job in ("score", "bounds", "name")),
+    *(moved(job, 15, 10) for job in ("score", "bounds", "eliminate", "down")),
+    *(moved(job, 15, 6) for job in ("eliminate", "down")),
+    moved("down", 15, 7),
+    # editions: compile's
+    ("compile's edition of 16 bits", "q.edition not in EDITIONS", "q.edition % 65536 not in EDITIONS"),
+    ("compile's edition of 8 bits", "q.edition not in EDITIONS", "q.edition % 256 not in EDITIONS"),
+    ("compile takes 0", "q.edition not in EDITIONS", "q.edition not in (0, *EDITIONS)"),
+    ("compile takes 3", "q.edition not in EDITIONS", "q.edition not in (*EDITIONS, 3)"),
+    ("compile takes 1 alone", "q.edition not in EDITIONS", "q.edition != 1"),
+    ("compile takes 2 alone", "q.edition not in EDITIONS", "q.edition != 2"),
+    ("areas cleared after compile's 4", LEFT, LEFT + "        a.words = bytes(len(q.words)) if (q.job, a.refusal) == ('compile', 4) else a.words\n"),
+    moved("compile", 4, 1),
+    moved("compile", 4, 2),
+    moved("compile", 4, 10),
 ]  # fmt: skip
 
 
