@@ -1,14 +1,13 @@
 #!/bin/sh
-# Makes the default book from the texts that books/debian.list names, out of Debian packages that are fetched and unpacked, not installed, and from
-# the notices composed below. Writes books/debian.book, or the file named. Characters that are not ASCII are mapped or dropped as `scan --ascii` does,
-# since the library refuses them, and the texts that have some are said. No root rights are needed. CHULTARVI, where it is set, is the program.
+# Makes the default book in each edition from the texts that books/debian.list names, out of Debian packages that are fetched and unpacked, not
+# installed, and from the notices composed below. Writes books/debian.book, of edition 1, and books/debian-2.book, of edition 2, or the two files
+# named, once both are made. Characters that are not ASCII are mapped or dropped as `scan --ascii` does, since the library refuses them, and the texts
+# that have some are said. No root rights are needed. CHULTARVI, where it is set, is the program, by words that hold in any folder.
 set -eu
 books=$(cd "$(dirname "$0")" && pwd)
 list=$books/debian.list
-out=${1:-$books/debian.book}
-case $out in /*) ;; *) out=$PWD/$out ;; esac
-work=$(mktemp -d)
-trap 'rm -rf "$work"' EXIT
+work=$(mktemp -d) beside=
+trap 'rm -rf "$work" ${beside:+"$beside"}' EXIT
 trap 'exit 129' HUP
 trap 'exit 130' INT
 trap 'exit 143' TERM
@@ -17,6 +16,21 @@ stop() {
     echo "make.sh: $1" >&2
     exit 2
 }
+
+# ---- what has to stand before anything is fetched
+
+case $# in
+0) set -- "$books/debian.book" "$books/debian-2.book" ;;
+2) ;;
+*) stop 'name two files, for editions 1 and 2, or none' ;;
+esac
+[ "$1" != "$2" ] || stop "$1: one file cannot be both editions"
+for out; do
+    [ -d "$(dirname "$out")" ] || stop "$out: its folder is not there"
+done
+# program WORD...: the program, in the work folder
+program() { (cd "$work" && ${CHULTARVI:-"$books/../host/run.sh"} "$@"); }
+program --version >/dev/null || stop "the program does not run; is CHULTARVI, where it is set, right in any folder?"
 
 # ---- packages
 
@@ -212,7 +226,17 @@ PROFITS; OR BUSINESS INTERRUPTION) HOWEVER CAUSED AND ON ANY THEORY OF LIABILITY
 NEGLIGENCE OR OTHERWISE) ARISING IN ANY WAY OUT OF THE USE OF THIS SOFTWARE, EVEN IF ADVISED OF THE POSSIBILITY OF SUCH DAMAGE."
 }
 
-# ---- the book
+# put FILE PLACE WORDS: beside its place first, so that nobody reads half a book; WORDS is what `book` said of it
+put() {
+    beside=$(mktemp "$2.XXXXXX") || stop "$2: its folder cannot be written"
+    if ! { cp "$1" "$beside" && chmod 644 "$beside" && mv -fT "$beside" "$2"; }; then
+        stop "$2: cannot be put in place; what was there is unchanged"
+    fi
+    beside=
+    echo "$2: ${3#*: }"
+}
+
+# ---- the books
 
 mkdir "$work/root"
 while read -r word package version _; do
@@ -232,5 +256,11 @@ while read -r name kind package file part; do
     *) stored "$name" "$kind" "$package" "$file" "$part" ;;
     esac
 done <"$list"
-cd "$work"
-${CHULTARVI:-"$books/../host/run.sh"} book --ascii "$out" list
+# Both are made before one is put in place. What --ascii changes is the same in both, so it is said once.
+made_1=$(program book --ascii --edition 1 1.book list) || stop 'no book is made; what stood there is unchanged'
+made_2=$(program book --ascii --edition 2 2.book list 2>"$work/said") || {
+    cat "$work/said" >&2
+    stop 'no book is made; what stood there is unchanged'
+}
+put "$work/1.book" "$1" "$made_1"
+put "$work/2.book" "$2" "$made_2"

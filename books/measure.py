@@ -17,7 +17,7 @@ import sys
 import tempfile
 
 BOOKS = os.path.dirname(os.path.abspath(__file__))
-DEFAULT = os.path.join(BOOKS, "debian.book")
+DEFAULT = os.path.join(BOOKS, "debian-2.book")
 FEW = 10  # words: a shorter text only points elsewhere
 Text = collections.namedtuple("Text", "mark label name path text")
 
@@ -170,9 +170,14 @@ def judge(name, said):
     return "version" if version_of(said) == version_of(name) else "wrong"
 
 
+def read_contradicted():
+    """By a text's mark and its label, the words that show that both cannot be right."""
+    return {(row[0], row[1].lower()): row[2:] for row in read_table("contradicted.txt", 4)}
+
+
 def measure(args, names):
     texts, left = gather(find_files(args.places), names)
-    contradicted = {(row[0], row[1].lower()): row[2:] for row in read_table("contradicted.txt", 4)}
+    contradicted = read_contradicted()
     if not texts:
         stop("no labelled text; name copyright files that follow DEP-5, or folders of them")
     texts = [text for text in texts if args.half in ("all", half_of(text.mark))]
@@ -216,6 +221,21 @@ def print_counts(args, results, stored):
     print(f"of these {len(absent)} texts are of licences that the book has not: {absent.count('none')} none, {absent.count('wrong')} wrong")
     tied = collections.Counter(verdict for verdict, _, answer in results if is_tied(answer))
     print(f"another licence has the very score, and the program says so: {tied['wrong']} of the wrong ones, {tied['right']} of the right ones")
+
+
+SAID = re.compile(r"(version\s+)(([123])(?:\.\d)?)(?=[\s,;.)])(?!\.\d)", re.I)
+NOTICE_MOST = 4000  # characters: a longer text is the licence itself
+
+
+def measure_made(args, names):
+    """The FSF's notices that say their version once, with another put there. Where no licence has that version, one that is named without doubt is wrong."""
+    contradicted = read_contradicted()
+    notices = [text.text for text in gather(find_files(args.places), names)[0]
+               if re.match("A?GPL|LGPL", text.name) and len(text.text) < NOTICE_MOST and len(SAID.findall(text.text)) == 1
+               and (text.mark, text.label.lower()) not in contradicted]
+    made = [SAID.sub(lambda said: said[1] + args.made.replace("V", said[2]).replace("N", said[3]), text) for text in notices]
+    count = collections.Counter("none" if said_of(answer)[0] is None else "tied" if is_tied(answer) else "sure" for answer in scan(args, made))
+    print(f"{len(made)} notices that say version {args.made}: {count['sure']} named without doubt, {count['tied']} with another as high, {count['none']} none")
 
 
 def labelled(path, names, stored):
@@ -263,12 +283,13 @@ def measure_files(args, names):
 def main():
     parser = argparse.ArgumentParser(description=__doc__, formatter_class=argparse.RawDescriptionHelpFormatter)
     parser.add_argument("places", nargs="*", metavar="FILE", help="copyright files, or folders of them (/usr/share/doc/*/copyright)")
-    parser.add_argument("--book", default=DEFAULT, help="the book (books/debian.book)")
+    parser.add_argument("--book", default=DEFAULT, help="the book (books/debian-2.book)")
     parser.add_argument("--half", choices=("open", "held", "all"), default="open", help="which half of the texts; only the open one is for tuning (open)")
     parser.add_argument("--threshold", default="0.9", help="as the program's (0.9)")
     parser.add_argument("--list", action="store_true", help="list what is not right; with --files, what each file has")
     parser.add_argument("--texts", action="store_true", help="the same, and each text with it")
     parser.add_argument("--files", type=int, metavar="N", help="scan N whole files that have several licences instead")
+    parser.add_argument("--made", metavar="VERSION", help="put this version into the FSF's notices, V for theirs, N for its first number: --made N.4")
     parser.add_argument("--options", default="", help="further options of the program's scan, in one word: --options='--thorough'")
     args = parser.parse_args()
     if not os.path.exists(args.book):
@@ -276,6 +297,8 @@ def main():
     names = {label.lower(): name for label, name in read_table("labels.txt", 2)}
     if args.files:
         measure_files(args, names)
+    elif args.made:
+        measure_made(args, names)
     else:
         measure(args, names)
 
