@@ -89,10 +89,11 @@ static void put_editions_step(FILE *to, const lent_book *one, const lent_book *t
         put_plain(to, own->file);
         fprintf(to, " anew by chultarvi book --edition %" PRIu32, other->edition);
     } else {
+        const lent_book *older = one->edition < two->edition ? one : two, *newer = older == one ? two : one;
         fputs("make ", to);
-        put_plain(to, one->edition < two->edition ? one->file : two->file);
-        fputs(" anew by chultarvi book --edition 2; the default book of edition 2 is ", to);
-        fputs(default_book(2), to);
+        put_plain(to, older->file);
+        fprintf(to, " anew by chultarvi book --edition %" PRIu32 "; the default book of edition %" PRIu32 " is %s", newer->edition, newer->edition,
+                default_book(newer->edition));
     }
 }
 

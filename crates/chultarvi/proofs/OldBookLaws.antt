@@ -1,7 +1,7 @@
 -- A book as it was before there were editions: what was sound then is sound now (`old-sound`). Its stored texts are read by definitions that have no
 -- edition in them, so they are the same.
 -- Assumes nothing.
-use mathlib.Core.Path.{_≡_, refl, sym}
+use mathlib.Core.Path.{_≡_, refl}
 use mathlib.Core.Bool.{Bool, true, false, not, _&&_, _||_, cond, false≢true}
 use mathlib.Core.List.{List, [], _∷_}
 use mathlib.Core.Option.{Option, none, some}

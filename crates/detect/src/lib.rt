@@ -1,7 +1,6 @@
 // The best stored text of a view: all of two books in order, a running best, every scoring charged; each only as far as it can beat the best so far.
 // From detection/detect.rs of spdx 0.13.6 (Copyright 2018 Amazon.com, Inc. or its affiliates. All Rights Reserved.
 // SPDX-License-Identifier: Apache-2.0), changed: the sort in `analyze` is a running best. Assumes nothing.
-ghost use mathlib.Core.Path.{_≡_};
 ghost use Prim.Native.Nat.{_≤_};
 ghost use Rattle.slices.specs.Classes.{Classes};
 ghost use Rattle.detection_shelf.specs.Shelves.{shelf, CountsOf};

@@ -2,7 +2,6 @@
 // From detection/preproc.rs and license.rs of spdx 0.13.6 (Copyright 2018-2019 Amazon.com, Inc. or its affiliates. All Rights Reserved.
 // SPDX-License-Identifier: Apache-2.0), changed: its strings are places in one lent area. Assumes that the lent table is that of the
 // classes.
-ghost use mathlib.Core.Path.{_≡_};
 ghost use Prim.Native.Nat.{_+_, _*_, _≤_, _<_};
 ghost use lib.ListN.{length};
 ghost use Rattle.preproc_table.specs.Entries.{startAt, endAt};

@@ -1,7 +1,6 @@
 // Line passes 2 to 6 over one line. The line after pass 2 stands in the area's front, which is scratch; the rest is made at its own place.
 // From detection/preproc.rs of spdx 0.13.6 (Copyright 2018-2019 Amazon.com, Inc. or its affiliates. All Rights Reserved.
 // SPDX-License-Identifier: Apache-2.0), changed: its vectors of strings are places in one lent area. Assumes nothing.
-ghost use mathlib.Core.Path.{_≡_};
 ghost use Prim.Native.Nat.{_+_, _*_, _≤_};
 ghost use lib.ListN.{length};
 ghost use Rattle.slices.specs.Classes.{Classes, gapIn};

@@ -7,7 +7,7 @@ use denote.Ref.{now}
 use lib.ListN.{length, take, drop}
 use Rattle.rules.specs.Book.{At, recordAt, saidBy, saidAt, edition}
 use Rattle.records.specs.Places.{atOf}
-use Rattle.records.proofs.StepLaws.{RecordHere, record-here}
+use Rattle.records.proofs.StepLaws.{record-here}
 use borrow.Author.Needs.{needs}
 use Rattle.detection_edition.proofs.edition_of.Statement.{statement}
 use Rattle.detection_edition.proofs.edition_of.Tie as tie

@@ -1,13 +1,11 @@
 -- `detection_edition::said_by` meets its contract: by the kind, by the body, and what it says.
 -- Assumes nothing.
 use mathlib.Core.Path.{_≡_, sym, _∙_}
-use mathlib.Core.Bool.{Bool, true, false, _&&_}
+use mathlib.Core.Bool.{true, false}
 use native.Mathlib.Omega.{arith}
 use denote.Ref.{now}
 use lib.Dec.{eqb}
-use lib.ListN.{length}
-use borrow.Author.Tests.{eq-eqb, ne-eqb, eqb-true, not-true, not-false}
-use Rattle.rules.proofs.BoolLaws.{and-left}
+use borrow.Author.Tests.{eq-eqb, ne-eqb, not-true, not-false}
 use Rattle.rules.specs.Book.{soundEdition, saidBy}
 use Rattle.detection_edition.proofs.EditionLaws.{edition-width}
 use borrow.Author.Needs.{needs}
