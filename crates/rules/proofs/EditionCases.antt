@@ -62,7 +62,7 @@ books-got =
     -- another number
     checked (says 1 ++ four 1) ∷
     checked (says 0 ++ four 1) ∷
-    checked (says 3 ++ four 1) ∷
+    checked (says 4 ++ four 1) ∷
     checked (says 512 ++ four 1) ∷
     -- another length
     checked (rec 6 [] ++ four 2) ∷
@@ -124,11 +124,11 @@ compile-got =
     compiling 2 (text "a 4") room 18 ∷
     -- the edition after the text and before the areas and the output
     compiling 0 (text "a 4") room 99 ∷
-    compiling 3 (text "a 4") room 99 ∷
+    compiling 4 (text "a 4") room 99 ∷
     compiling 65_538 (text "a 4") room 99 ∷
     compiling 4_294_967_295 (text "a 4") room 99 ∷
     compiling 0 (128 ∷ []) room 99 ∷
-    compiling 3 [] none 0 ∷
+    compiling 4 [] none 0 ∷
     compiling 9 (text "a 4") room 0 ∷
     []
 

@@ -1,4 +1,4 @@
--- The first refusal that applies: a text too long, a byte too high, lines too many, over any text of that kind; and of scan, that 12 comes
+-- The first refusal that applies: a text too long, bytes that its edition does not take, lines too many, over any text of that kind; and of scan, that 12 comes
 -- exactly if nothing else is refused and the list of scorings is longer than the budget, that the count is the smaller of both, and 0
 -- where anything else is refused.
 -- Assumes nothing.
@@ -13,7 +13,8 @@ use borrow.Author.Tests.{lt-ltb, le-ltb, ne-eqb, eqb-true, eqb-false, ltb-true, 
 use Rattle.rules.specs.declared.Limits.{Limits}
 use Rattle.rules.specs.declared.Mode.{Mode}
 use Rattle.rules.specs.Sizes.{textMost, linesMost}
-use Rattle.rules.specs.Bytes.{every, split}
+use Rattle.rules.specs.Bytes.{split}
+use Rattle.rules.specs.Points.{wide, taken}
 use Rattle.rules.specs.Lines.{gap, lineBy, linesBy, lines, lineCount}
 use Rattle.rules.specs.Book.{shelved, editionOf, compiled}
 use Rattle.rules.specs.Scan.{Event, events, afford, scorings}
@@ -22,24 +23,23 @@ use Rattle.rules.specs.Jobs.{happened, answered, scan}
 use Rattle.rules.proofs.BoolLaws.{and-left, and-right}
 use Rattle.rules.proofs.BudgetLaws.{afford-count}
 
--- ---- texts
-pub text-too-long : (t : List ℕ) (rest : List Row) → textMost < length t → refusal (ofText t ++ rest) ≡ 1
-unfolding refusal ofText
-text-too-long t rest h = simp (lt-ltb textMost (length t) h)
+-- ---- texts, under edition e
+module _ (e : ℕ) (t : List ℕ) (rest : List Row) where
+  pub text-too-long : textMost < length t → refusal (ofText e t ++ rest) ≡ 1
+  unfolding refusal ofText
+  text-too-long h = simp (lt-ltb textMost (length t) h)
 
-pub byte-too-high : (t : List ℕ) (rest : List Row) → length t ≤ textMost → every (λ x. ltb x 128) t ≡ false → refusal (ofText t ++ rest) ≡ 2
-unfolding refusal ofText
-byte-too-high t rest h k = simp (le-ltb textMost (length t) h, k)
+  pub text-not-taken : length t ≤ textMost → taken (wide e) t ≡ false → refusal (ofText e t ++ rest) ≡ 2
+  unfolding refusal ofText
+  text-not-taken h k = simp (le-ltb textMost (length t) h, k)
 
-pub too-many-lines : (t : List ℕ) (rest : List Row) → length t ≤ textMost → every (λ x. ltb x 128) t ≡ true → linesMost < lineCount t →
-    refusal (ofText t ++ rest) ≡ 3
-unfolding refusal ofText
-too-many-lines t rest h k l = simp (le-ltb textMost (length t) h, k, lt-ltb linesMost (lineCount t) l)
+  pub too-many-lines : length t ≤ textMost → taken (wide e) t ≡ true → linesMost < lineCount t → refusal (ofText e t ++ rest) ≡ 3
+  unfolding refusal ofText
+  too-many-lines h k l = simp (le-ltb textMost (length t) h, k, lt-ltb linesMost (lineCount t) l)
 
-pub text-passes : (t : List ℕ) (rest : List Row) → length t ≤ textMost → every (λ x. ltb x 128) t ≡ true → lineCount t ≤ linesMost →
-    refusal (ofText t ++ rest) ≡ refusal rest
-unfolding refusal ofText
-text-passes t rest h k l = simp (le-ltb textMost (length t) h, k, le-ltb linesMost (lineCount t) l)
+  pub text-passes : length t ≤ textMost → taken (wide e) t ≡ true → lineCount t ≤ linesMost → refusal (ofText e t ++ rest) ≡ refusal rest
+  unfolding refusal ofText
+  text-passes h k l = simp (le-ltb textMost (length t) h, k, le-ltb linesMost (lineCount t) l)
 
 -- L
 pub linesBy-count : (set : ℕ → Bool) (t : List ℕ) → length (linesBy set t) ≡ lineCount t

@@ -13,9 +13,10 @@ use lib.Dec.{leb, eqb}
 use borrow.Author.Tests.{leb-true, eqb-true, lt-leb, ne-eqb}
 use Rattle.rules.specs.Sizes.{bookMost, storedMost, totalMost, nameMost}
 use Rattle.rules.specs.Bytes.{within, rises}
+use Rattle.rules.specs.Points.{wide}
 use Rattle.rules.specs.Prefix.{Counted}
 use Rattle.rules.specs.Search.{Stored, noText}
-use Rattle.rules.specs.Book.{number, Front, front, recordForm, Record, recordsOf, At, placed, recordAt, entriesOf, sum, soundEntries, soundTable, soundName, storedKind, soundBody, follows, soundRecords, tableIn, storedIn, storedOf, storedFrom, stored, filled, sound}
+use Rattle.rules.specs.Book.{number, Front, front, recordForm, Record, recordsOf, At, placed, recordAt, entriesOf, sum, soundEntries, shaped, soundTable, soundName, storedKind, soundBody, follows, soundRecords, tableIn, storedIn, storedOf, storedFrom, stored, edition, filled, sound}
 use Rattle.rules.proofs.BoolLaws.{and-left, and-right, and-not}
 use Rattle.rules.proofs.Steps.{front-cut}
 use Rattle.rules.proofs.DownLaws.{Each, each-append}
@@ -70,9 +71,15 @@ follows-other a b h k l = at (eqb b 2) (simp (k, l) at h)
         let high = and-right (within 3 5 b) (within 2 b a) h in
         omega (arith, within-from 2 b a high, within-to 2 b a high, within-to 3 5 b low)
 
-pub table-sound : (body : List ℕ) (o : Option (List Counted)) → soundTable body o ≡ true →
+-- a sound table's shape, which is all that a score asks for
+pub sound-shaped : (w : Bool) (body : List ℕ) (o : Option (List Counted)) → soundTable w body o ≡ true → shaped body o ≡ true
+unfolding soundTable
+sound-shaped w body none h = absurd (false≢true h)
+sound-shaped w body (some es) h = and-left (shaped body (some es)) _ h
+
+pub table-sound : (body : List ℕ) (o : Option (List Counted)) → shaped body o ≡ true →
     (soundEntries [] (tableIn body o .entries) ≡ true) × (tableIn body o .total ≡ sum (tableIn body o .entries)) × (sum (tableIn body o .entries) ≤ totalMost)
-unfolding soundTable tableIn
+unfolding shaped tableIn
 table-sound body none h = absurd (false≢true h)
 table-sound body (some es) h =
     let a = leb 8 (length body) in
@@ -86,19 +93,19 @@ table-sound body (some es) h =
       leb-true (sum es) totalMost (and-right (a && b && c && d) e h),
     )
 
--- a sound body is read to its end, and names its total
-pub sound-some : (body : List ℕ) (o : Option (List Counted)) → soundTable body o ≡ true → o ≡ some (tableIn body o .entries)
-unfolding soundTable tableIn
+-- such a body is read to its end, and names its total
+pub sound-some : (body : List ℕ) (o : Option (List Counted)) → shaped body o ≡ true → o ≡ some (tableIn body o .entries)
+unfolding shaped tableIn
 sound-some body none h = absurd (false≢true h)
 sound-some body (some es) h = refl
 
-pub body-total : (body : List ℕ) (o : Option (List Counted)) → soundTable body o ≡ true → tableIn body o .total ≡ number 4 body
-unfolding soundTable tableIn
+pub body-total : (body : List ℕ) (o : Option (List Counted)) → shaped body o ≡ true → tableIn body o .total ≡ number 4 body
+unfolding shaped tableIn
 body-total body none h = absurd (false≢true h)
 body-total body (some es) h = refl
 
-pub table-size : (body : List ℕ) (o : Option (List Counted)) → soundTable body o ≡ true → 8 ≤ length body
-unfolding soundTable
+pub table-size : (body : List ℕ) (o : Option (List Counted)) → shaped body o ≡ true → 8 ≤ length body
+unfolding shaped
 table-size body none h = absurd (false≢true h)
 table-size body (some es) h =
     let a = leb 8 (length body) in
@@ -108,20 +115,20 @@ table-size body (some es) h =
     let front = and-left (a && b && c && d) (leb (sum es) totalMost) h in
     leb-true 8 (length body) (and-left a b (and-left (a && b) c (and-left (a && b && c) d front)))
 
-body-sound : (r : Record) → soundBody r ≡ true → storedKind (r .kind) ≡ true → soundTable (r .body) (entriesOf (r .body)) ≡ true
+pub body-shaped : (w : Bool) (r : Record) → soundBody w r ≡ true → storedKind (r .kind) ≡ true → shaped (r .body) (entriesOf (r .body)) ≡ true
 unfolding soundBody
-body-sound r h k = simp k at h
+body-shaped w r h k = sound-shaped w (r .body) (entriesOf (r .body)) (simp k at h)
 
-name-sound : (r : Record) → soundBody r ≡ true → eqb (r .kind) 1 ≡ true → soundName (r .body) ≡ true
+name-sound : (w : Bool) (r : Record) → soundBody w r ≡ true → eqb (r .kind) 1 ≡ true → soundName (r .body) ≡ true
 unfolding soundBody storedKind within
-name-sound r h k = simp (eqb-true (r .kind) 1 k) at h
+name-sound w r h k = simp (eqb-true (r .kind) 1 k) at h
 
-module _ (r : Record) (n : ℕ) (name : List ℕ) (named : soundName name ≡ true) (body : soundBody r ≡ true) where
+module _ (w : Bool) (r : Record) (n : ℕ) (name : List ℕ) (named : soundName name ≡ true) (body : soundBody w r ≡ true) where
   stored-sound : storedKind (r .kind) ≡ true → StoredSound (record { number = n; name = name; kind = r .kind; table = tableIn (r .body) (entriesOf (r .body)) })
   unfolding soundName storedKind
   stored-sound k =
       let size = and-left (within 1 nameMost (length name)) _ named in
-      let t = table-sound (r .body) (entriesOf (r .body)) (body-sound r body k) in
+      let t = table-sound (r .body) (entriesOf (r .body)) (body-shaped w r body k) in
       record {
         name-from = within-from 1 nameMost (length name) size;
         name-to = within-to 1 nameMost (length name) size;
@@ -133,13 +140,13 @@ module _ (r : Record) (n : ℕ) (name : List ℕ) (named : soundName name ≡ tr
       }
 
 -- after a record of kind a, and where it is a licence's under its name
-stored-each : (n a : ℕ) (name : List ℕ) (rs : List Record) → soundRecords a name rs ≡ true → (OfLicence a → soundName name ≡ true) → Each StoredSound (storedIn n name rs)
+stored-each : (w : Bool) (n a : ℕ) (name : List ℕ) (rs : List Record) → soundRecords w a name rs ≡ true → (OfLicence a → soundName name ≡ true) → Each StoredSound (storedIn n name rs)
 unfolding soundRecords storedIn storedKind
-stored-each n a name [] h k = tt
-stored-each n a name (r ∷ rs) h k =
+stored-each w n a name [] h k = tt
+stored-each w n a name (r ∷ rs) h k =
     each-append StoredSound (cond (storedKind (r .kind)) (this ∷ []) []) (storedIn (cond (storedKind (r .kind)) (suc n) n) under rs)
     (here (storedKind (r .kind)) refl)
-    (stored-each (cond (storedKind (r .kind)) (suc n) n) (r .kind) under rs (and-right (f && b && o) m h) (λ l. goes (eqb (r .kind) 1) refl l))
+    (stored-each w (cond (storedKind (r .kind)) (suc n) n) (r .kind) under rs (and-right (f && b && o) m h) (λ l. goes (eqb (r .kind) 1) refl l))
   where
     this : Stored
     this = record { number = n; name = name; kind = r .kind; table = tableIn (r .body) (entriesOf (r .body)) }
@@ -151,13 +158,13 @@ stored-each n a name (r ∷ rs) h k =
     f = follows a (r .kind)
 
     b : Bool
-    b = soundBody r
+    b = soundBody w r
 
     o : Bool
     o = not (eqb (r .kind) 1) || rises name (r .body)
 
     m : Bool
-    m = soundRecords (r .kind) under rs
+    m = soundRecords w (r .kind) under rs
 
     front : f && b ≡ true
     front = and-left (f && b) o (and-left (f && b && o) m h)
@@ -169,19 +176,19 @@ stored-each n a name (r ∷ rs) h k =
     no-name q = ne-eqb (r .kind) 1 (λ e. omega (arith, within-from 2 4 (r .kind) q))
 
     here : (t : Bool) → storedKind (r .kind) ≡ t → Each StoredSound (cond t (this ∷ []) [])
-    here true q = (stored-sound r n name (other (no-name q) (omega (arith, within-to 2 4 (r .kind) q))) (and-right f b front) q, tt)
+    here true q = (stored-sound w r n name (other (no-name q) (omega (arith, within-to 2 4 (r .kind) q))) (and-right f b front) q, tt)
     here false q = tt
 
     goes : (t : Bool) → eqb (r .kind) 1 ≡ t → OfLicence (r .kind) → soundName (cond t (r .body) name) ≡ true
-    goes true q l = name-sound r (and-right f b front) q
+    goes true q l = name-sound w r (and-right f b front) q
     goes false q l = other q (l .1)
 
 sound-parts : (book : List ℕ) → sound book ≡ true →
-    (length book ≤ bookMost) × (filled (recordsOf book) ≡ true) × (length (stored book) ≤ storedMost)
+    (length book ≤ bookMost) × (filled (wide (edition book)) (recordsOf book) ≡ true) × (length (stored book) ≤ storedMost)
 unfolding sound
 sound-parts book h =
     let a = leb (length book) bookMost in
-    let b = filled (recordsOf book) in
+    let b = filled (wide (edition book)) (recordsOf book) in
     let c = leb (length (stored book)) storedMost in
     let front = and-left (a && b) c h in
     (leb-true (length book) bookMost (and-left a b front), and-right a b front, leb-true (length (stored book)) storedMost (and-right (a && b) c h))
@@ -196,9 +203,9 @@ pub storedFrom-sound : (n : ℕ) (book : List ℕ) → sound book ≡ true → E
 unfolding storedFrom storedOf filled
 storedFrom-sound n book h = at (recordsOf book) (sound-parts book h .1)
   where
-    at : (o : Option (List Record)) → filled o ≡ true → Each StoredSound (storedOf n o)
+    at : (o : Option (List Record)) → filled (wide (edition book)) o ≡ true → Each StoredSound (storedOf n o)
     at none k = tt
-    at (some rs) k = stored-each n 0 [] rs k (λ l. absurd (not-suc-le-zero (l .0)))
+    at (some rs) k = stored-each (wide (edition book)) n 0 [] rs k (λ l. absurd (not-suc-le-zero (l .0)))
 
 pub sound-stored : (book : List ℕ) → sound book ≡ true → Each StoredSound (stored book)
 unfolding stored
@@ -242,4 +249,4 @@ book-too-long book h = simp (lt-leb (length book) bookMost h)
 
 pub too-many-texts : (book : List ℕ) → storedMost < length (stored book) → sound book ≡ false
 unfolding sound
-too-many-texts book h = and-not (leb (length book) bookMost && filled (recordsOf book)) _ (lt-leb (length (stored book)) storedMost h)
+too-many-texts book h = and-not (leb (length book) bookMost && filled (wide (edition book)) (recordsOf book)) _ (lt-leb (length (stored book)) storedMost h)

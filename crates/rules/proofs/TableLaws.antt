@@ -12,10 +12,10 @@ use lib.Dec.{T, ltb}
 use lib.ListN.{length}
 use borrow.Author.Tests.{ltb-true}
 use Rattle.rules.specs.Sizes.{totalMost}
-use Rattle.rules.specs.Bytes.{order, same, rises, split}
+use Rattle.rules.specs.Bytes.{order, same, rises}
 use Rattle.rules.specs.Prefix.{Counted}
 use Rattle.rules.specs.Table.{Table, tally, tallied, occurs, tableOf, countIn, meet, nought, one, score, valueOf, Close}
-use Rattle.rules.specs.Book.{sum, Above, Rising, Proper, twoTerms, soundEntries}
+use Rattle.rules.specs.Book.{sum, Above, Rising, Proper, soundEntries}
 use Rattle.rules.specs.Search.{Stored}
 use Rattle.rules.specs.Refusal.{unit}
 use Rattle.rules.proofs.BoolLaws.{and-left, and-right}
@@ -110,12 +110,10 @@ unfolding soundEntries
 sound-entries-rising last [] e = (tt, tt)
 sound-entries-rising last (e ∷ es) h =
     let one-up : Bool = ltb 0 (e .count) in
-    let terms : Bool = twoTerms (split 32 (e .bytes)) in
     let above : Bool = rises last (e .bytes) in
-    let a = and-left (one-up && terms && above) (soundEntries (e .bytes) es) h in
-    let c = and-left one-up terms (and-left (one-up && terms) above a) in
-    let more = sound-entries-rising (e .bytes) es (and-right (one-up && terms && above) (soundEntries (e .bytes) es) h) in
-    (and-right (one-up && terms) above a, (ltb-true 0 (e .count) c, more .0, more .1))
+    let a = and-left (one-up && above) (soundEntries (e .bytes) es) h in
+    let more = sound-entries-rising (e .bytes) es (and-right (one-up && above) (soundEntries (e .bytes) es) h) in
+    (and-right one-up above a, (ltb-true 0 (e .count) (and-left one-up above a), more .0, more .1))
 
 -- ---- m, by where the first entries stand
 count-skip : (e : Counted) (es : List Counted) (g : List ℕ) → same (e .bytes) g ≡ false → countIn (e ∷ es) g ≡ countIn es g

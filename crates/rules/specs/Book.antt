@@ -9,6 +9,7 @@ use lib.Dec.{leb, ltb, eqb}
 use lib.ListN.{length, take, drop}
 use Rattle.rules.specs.Sizes.{bookMost, storedMost, totalMost, nameMost, editionMost}
 use Rattle.rules.specs.Bytes.{within, lower, digit, every, rises, split}
+use Rattle.rules.specs.Points.{wide, taken, points}
 use Rattle.rules.specs.Prefix.{Counted}
 use Rattle.rules.specs.Table.{Table, viewTable}
 use Rattle.rules.specs.Lines.{lines}
@@ -126,33 +127,42 @@ pub record Proper (a : Table) : Type 0 where
   pub summed : a .total ≡ sum (a .entries)
   pub limited : a .total ≤ totalMost
 
--- a non-empty run of a-z, 0-9, `_`
-unfoldable pub term : List ℕ → Bool
-term w = ltb 0 (length w) && every (λ x. lower x || digit x || eqb x 95) w
+-- a non-empty run of letters that lower case leaves, 0-9 and `_`: of a-z alone, or `w` in UTF-8
+unfoldable pub term : Bool → List ℕ → Bool
+term w s = ltb 0 (length s) && (taken w s && every (λ x. lower x || digit x || eqb x 95) (points s))
 
 -- two of these with one space between
-unfoldable pub twoTerms : List (List ℕ) → Bool
-twoTerms [] = false
-twoTerms (a ∷ []) = false
-twoTerms (a ∷ b ∷ []) = term a && term b
-twoTerms (a ∷ b ∷ c ∷ ws) = false
+unfoldable pub twoTerms : Bool → List (List ℕ) → Bool
+twoTerms w [] = false
+twoTerms w (a ∷ []) = false
+twoTerms w (a ∷ b ∷ []) = term w a && term w b
+twoTerms w (a ∷ b ∷ c ∷ more) = false
 
--- counts from 1, two terms each, strictly rising by bytes over the entry before
+unfoldable pub allTerms : Bool → List Counted → Bool
+allTerms w [] = true
+allTerms w (e ∷ es) = let more = allTerms w es in twoTerms w (split 32 (e .bytes)) && more
+
+-- counts from 1, strictly rising by bytes over the entry before
 unfoldable pub soundEntries : List ℕ → List Counted → Bool
 soundEntries last [] = true
 soundEntries last (e ∷ es) =
     let more = soundEntries (e .bytes) es in
-    ltb 0 (e .count) && twoTerms (split 32 (e .bytes)) && rises last (e .bytes) && more
+    ltb 0 (e .count) && rises last (e .bytes) && more
 
--- counts sum to total, which is limited
-unfoldable pub soundTable : List ℕ → Option (List Counted) → Bool
-soundTable body none = false
-soundTable body (some es) =
+-- its entries are as many as it says, and their counts sum to its total, which is limited
+unfoldable pub shaped : List ℕ → Option (List Counted) → Bool
+shaped body none = false
+shaped body (some es) =
     leb 8 (length body) &&
     eqb (number 4 body) (sum es) &&
     eqb (number 4 (drop 4 body)) (length es) &&
     soundEntries [] es &&
     leb (sum es) totalMost
+
+-- and each is two terms
+unfoldable pub soundTable : Bool → List ℕ → Option (List Counted) → Bool
+soundTable w body none = false
+soundTable w body (some es) = shaped body (some es) && allTerms w es
 
 -- ---- soundness
 -- 1 to 64 bytes of 33 to 126: of a name, and of an alias
@@ -167,10 +177,10 @@ storedKind k = within 2 4 k
 unfoldable pub soundEdition : List ℕ → Bool
 soundEdition body = eqb (length body) 2 && within 2 editionMost (number 2 body)
 
-unfoldable pub soundBody : Record → Bool
-soundBody r =
+unfoldable pub soundBody : Bool → Record → Bool
+soundBody w r =
     let other = cond (eqb (r .kind) 6) (soundEdition (r .body)) (soundName (r .body)) in
-    cond (storedKind (r .kind)) (soundTable (r .body) (entriesOf (r .body))) other
+    cond (storedKind (r .kind)) (soundTable w (r .body) (entriesOf (r .body))) other
 
 -- kind b may stand after kind a, which is 0 at the start: 6 first of all; per licence one 1, one 2, any 3, any 4, any 5, in this order
 unfoldable pub follows : ℕ → ℕ → Bool
@@ -179,12 +189,24 @@ follows a b =
     cond (eqb b 6) (eqb a 0) of-licence
 
 -- after a record of kind a, under the licence `name`; names strictly rise by bytes
-unfoldable pub soundRecords : ℕ → List ℕ → List Record → Bool
-soundRecords a name [] = not (eqb a 1)
-soundRecords a name (r ∷ rs) =
+unfoldable pub soundRecords : Bool → ℕ → List ℕ → List Record → Bool
+soundRecords w a name [] = not (eqb a 1)
+soundRecords w a name (r ∷ rs) =
     let first = eqb (r .kind) 1 in
-    let more = soundRecords (r .kind) (cond first (r .body) name) rs in
-    follows a (r .kind) && soundBody r && (not first || rises name (r .body)) && more
+    let more = soundRecords w (r .kind) (cond first (r .body) name) rs in
+    follows a (r .kind) && soundBody w r && (not first || rises name (r .body)) && more
+
+-- ---- the edition of any bytes: what a whole first record of kind 6 says; 1 where there is none, or where its body is no edition
+unfoldable pub saidBy : ℕ → List ℕ → ℕ
+saidBy kind body = cond (eqb kind 6 && soundEdition body) (number 2 body) 1
+
+unfoldable pub saidAt : List ℕ → At → ℕ
+saidAt book end = 1
+saidAt book (whole kind start len) = saidBy kind (take len (drop start book))
+saidAt book broken = 1
+
+unfoldable pub edition : List ℕ → ℕ
+edition book = saidAt book (recordAt book 0)
 
 -- ---- stored texts, numbered from n, under the licence `name`
 unfoldable pub tableIn : List ℕ → Option (List Counted) → Table
@@ -208,24 +230,13 @@ storedFrom n book = storedOf n (recordsOf book)
 unfoldable pub stored : List ℕ → List Stored
 stored book = storedFrom 0 book
 
-unfoldable pub filled : Option (List Record) → Bool
-filled none = false
-filled (some rs) = soundRecords 0 [] rs
+unfoldable pub filled : Bool → Option (List Record) → Bool
+filled w none = false
+filled w (some rs) = soundRecords w 0 [] rs
 
+-- its words by its own edition
 unfoldable pub sound : List ℕ → Bool
-sound book = leb (length book) bookMost && filled (recordsOf book) && leb (length (stored book)) storedMost
-
--- ---- the edition of any bytes: what a whole first record of kind 6 says; 1 where there is none, or where its body is no edition
-unfoldable pub saidBy : ℕ → List ℕ → ℕ
-saidBy kind body = cond (eqb kind 6 && soundEdition body) (number 2 body) 1
-
-unfoldable pub saidAt : List ℕ → At → ℕ
-saidAt book end = 1
-saidAt book (whole kind start len) = saidBy kind (take len (drop start book))
-saidAt book broken = 1
-
-unfoldable pub edition : List ℕ → ℕ
-edition book = saidAt book (recordAt book 0)
+sound book = leb (length book) bookMost && filled (wide (edition book)) (recordsOf book) && leb (length (stored book)) storedMost
 
 -- ---- lent books, one or two: texts count on from the first into the second
 unfoldable pub shelved : ℕ → List (List ℕ) → List Stored

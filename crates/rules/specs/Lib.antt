@@ -1,6 +1,7 @@
 -- The rules (docs/RULES.md) as definitions, in their order: what a reader must believe.
 pub mod Sizes
 pub mod Bytes
+pub mod Points
 pub mod Class
 pub mod Lines
 pub mod Prefix

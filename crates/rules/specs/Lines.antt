@@ -1,17 +1,18 @@
--- Line passes, on each piece between newline bytes.
+-- Line passes, on each piece between newline bytes: its code points.
 -- Assumes nothing.
 use Prim.Native.Nat.{ℕ, suc, _+_}
 use mathlib.Core.Bool.{Bool, false, not, _&&_, _||_, cond}
 use mathlib.Core.List.{List, [], _∷_, _++_, map}
 use lib.Dec.{eqb}
 use lib.ListN.{length, drop}
-use Rattle.rules.specs.Bytes.{text, space, dropped, among, solid, starts, keep, runs, trim, split}
+use Rattle.rules.specs.Bytes.{text, space, quote, dropped, among, solid, starts, keep, runs, trim, split}
+use Rattle.rules.specs.Points.{points, encoded}
 
 -- 3. `http://` or `https://`, in lower case, with its following run of one or more non-spaces
 unfoldable pub url : List ℕ → Bool
 url s = (starts (text "http://") s && solid (drop 7 s)) || (starts (text "https://") s && solid (drop 8 s))
 
--- `inside`: the bytes up to the next space belong to a URL that is written already
+-- `inside`: what stands up to the next space belongs to a URL that is written already
 unfoldable pub urls : Bool → List ℕ → List ℕ
 urls inside [] = []
 urls inside (x ∷ xs) =
@@ -22,23 +23,23 @@ urls inside (x ∷ xs) =
 unfoldable pub slip : ℕ → ℕ → Bool
 slip e x = eqb x 52 && eqb e 1
 
--- 4. byte 32, tab, `\`, `/` or `|`, and that digit
+-- 4. 32, tab, U+00A0, `\`, `/` or `|`, and that digit
 unfoldable pub gap : ℕ → ℕ → Bool
-gap e x = among (text " \t\\/|") x || slip e x
+gap e x = among (text " \t\\/|") x || eqb x 160 || slip e x
 
 -- 5. five kinds of runs, in order
 unfoldable pub signs : List ℕ → List ℕ
 signs s =
-    let quotes = runs (among (text "\"'")) 39 false s in
+    let quotes = runs quote 39 false s in
     let dashes = runs (among (text "-")) 45 false quotes in
     let opens = runs (among (text "([{")) 40 false dashes in
     let closes = runs (among (text ")]}")) 41 false opens in
     runs (among (text "_")) 95 false closes
 
--- the passes over one line, where pass 4 takes the bytes of `set`
+-- the passes over one line's bytes, where pass 4 takes the code points of `set`
 unfoldable pub lineBy : (ℕ → Bool) → List ℕ → List ℕ
 lineBy set s =
-    let one = s in  -- 1. NFC: nothing on ASCII
+    let one = points s in  -- 1. NFC: nothing up to U+00FF
     let two = keep (λ x. not (dropped x)) one in
     let three = urls false two in
     let four = runs set 32 false three in
@@ -59,7 +60,7 @@ lines e t = linesBy (gap e) t
 unfoldable pub lineCount : List ℕ → ℕ
 lineCount t = length (split 10 t)
 
--- how many bytes lines take, with a newline each
+-- how many bytes lines take as UTF-8, with a newline each
 unfoldable pub size : List (List ℕ) → ℕ
 size [] = 0
-size (l ∷ ls) = suc (length l) + size ls
+size (l ∷ ls) = suc (length (encoded l)) + size ls

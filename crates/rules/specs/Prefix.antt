@@ -6,6 +6,7 @@ use mathlib.Core.List.{List, [], _∷_, _++_, map}
 use lib.Dec.{ltb, eqb}
 use lib.ListN.{length, drop}
 use Rattle.rules.specs.Bytes.{same, starts, trim}
+use Rattle.rules.specs.Points.{encoded}
 
 -- a byte string and its count
 pub record Counted : Type 0 where
@@ -17,11 +18,11 @@ common [] ys = []
 common (x ∷ xs) [] = []
 common (x ∷ xs) (y ∷ ys) = let more = x ∷ common xs ys in cond (eqb x y) more []
 
--- of adjacent lines the common byte prefix, trimmed, where it is longer than 3 bytes
+-- of adjacent lines the common prefix, trimmed, where it is longer than 3 bytes as UTF-8; of code points, it ends where a character does
 unfoldable pub prefixes : List (List ℕ) → List (List ℕ)
 prefixes [] = []
 prefixes (a ∷ []) = []
-prefixes (a ∷ b ∷ ls) = let p = trim (common a b) in cond (ltb 3 (length p)) (p ∷ []) [] ++ prefixes (b ∷ ls)
+prefixes (a ∷ b ∷ ls) = let p = trim (common a b) in cond (ltb 3 (length (encoded p))) (p ∷ []) [] ++ prefixes (b ∷ ls)
 
 -- one more sight of p: its first counts 2, each later one adds 1
 unfoldable pub see : List Counted → List ℕ → List Counted

@@ -10,7 +10,8 @@ use Rattle.rules.specs.declared.Limits.{Limits}
 use Rattle.rules.specs.declared.Mode.{Mode}
 use Rattle.rules.specs.declared.Mode.the-variants.{Elimination, TopDown}
 use Rattle.rules.specs.Sizes.{textMost, linesMost, byteArea, wordArea, recordWidth, editionMost}
-use Rattle.rules.specs.Bytes.{within, every}
+use Rattle.rules.specs.Bytes.{within}
+use Rattle.rules.specs.Points.{wide, taken}
 use Rattle.rules.specs.Lines.{lines, lineCount}
 use Rattle.rules.specs.Table.{nought, one}
 use Rattle.rules.specs.Search.{View}
@@ -30,10 +31,11 @@ refusal [] = 0
 refusal (r ∷ rs) = let more = refusal rs in cond (r .applies) (r .number) more
 
 -- ---- the rows that several jobs share
-unfoldable pub ofText : List ℕ → List Row
-ofText t =
+-- of a text under edition e
+unfoldable pub ofText : ℕ → List ℕ → List Row
+ofText e t =
     row 1 (ltb textMost (length t)) ∷
-    row 2 (not (every (λ x. ltb x 128) t)) ∷
+    row 2 (not (taken (wide e) t)) ∷
     row 3 (ltb linesMost (lineCount t)) ∷ []
 
 -- of all lent books: 4 of any, 5 only where none has a text, 15 where their editions differ
@@ -62,7 +64,7 @@ ofCheck book = row 4 (not (sound book)) ∷ []
 -- ---- compile, under edition e, to an output of so many bytes: first what is refused before any work
 unfoldable pub beforeCompile : ℕ → List ℕ → Areas → List Row
 beforeCompile e t a =
-    ofText t ++
+    ofText e t ++
     row 4 (not (within 1 editionMost e)) ∷
     row 10 (small t a) ∷ []
 
@@ -72,7 +74,7 @@ ofCompile e t a out = beforeCompile e t a ++ row 11 (ltb out (length (compiled e
 -- ---- score, and bounds, of a view against the stored text k
 unfoldable pub ofView : List ℕ → List (List ℕ) → View → ℕ → Areas → List Row
 ofView t bs v k a =
-    ofText t ++ ofBooks bs ++
+    ofText (editionOf bs) t ++ ofBooks bs ++
     row 8 (not (leb (v .start) (v .end) && leb (v .end) (lineCount t))) ∷
     ofNumber bs k ∷
     row 10 (small t a) ∷ []
@@ -101,7 +103,7 @@ overBudget b lim mode t bs = ltb b (length (scorings (events lim mode (shelved 0
 -- with results of so many u32: what is refused before any work
 unfoldable pub beforeScan : List ℕ → List (List ℕ) → Limits → Mode → Areas → ℕ → List Row
 beforeScan t bs lim mode a results =
-    ofText t ++ ofBooks bs ++
+    ofText (editionOf bs) t ++ ofBooks bs ++
     row 6 (not (unit (lim .threshold) && unit (lim .shallow))) ∷
     row 7 (stepZero mode) ∷
     row 10 (small t a || ltb results (resultsNeed (lineCount t) mode)) ∷ []

@@ -24,7 +24,7 @@ nameMost = 64
 
 -- the editions that a book and compile may have: 1 to this one
 abbrev pub editionMost : ℕ
-editionMost = 2
+editionMost = 3
 
 -- the lent areas of a text of n bytes, in bytes and in u32
 abbrev pub byteArea : ℕ → ℕ

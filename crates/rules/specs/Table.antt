@@ -10,6 +10,7 @@ use lib.Ieee.{Float, nan, inf, fin, up, down, binary32, div, ofInt}
 use lib.Ieee.Exact.{HasValue}
 pub use Rattle.rules.specs.declared.Value.{Value}
 use Rattle.rules.specs.Bytes.{order, same, split}
+use Rattle.rules.specs.Points.{encoded}
 use Rattle.rules.specs.Prefix.{Counted}
 use Rattle.rules.specs.Passes.{aggressive}
 
@@ -50,9 +51,9 @@ occurs g (h ∷ gs) = cond (same h g) 1 0 + occurs g gs
 unfoldable pub tableOf : List (List ℕ) → Table
 tableOf gs = record { total = length gs; entries = tallied gs }
 
--- the table of a view's lines
+-- the table of a view's lines: its processed text as UTF-8
 unfoldable pub viewTable : List (List ℕ) → Table
-viewTable ls = tableOf (bigrams (aggressive ls))
+viewTable ls = tableOf (bigrams (encoded (aggressive ls)))
 
 -- ---- score
 unfoldable pub countIn : List Counted → List ℕ → ℕ

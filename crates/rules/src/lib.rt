@@ -19,7 +19,10 @@ pub const NAME_MOST: usize = 64;
 // The editions that a book and compile may have: from the first, in which line pass 4 takes the digit 4, to this one.
 pub const EDITION_FIRST: u32 = 1;
 
-pub const EDITION_MOST: u32 = 2;
+pub const EDITION_MOST: u32 = 3;
+
+// The edition that takes UTF-8 up to U+00FF; any other takes ASCII alone.
+pub const EDITION_WIDE: u32 = 3;
 
 // The work areas: bytes and words for each byte of the text, and what both have to spare.
 pub const BYTES_EACH: usize = 8;
