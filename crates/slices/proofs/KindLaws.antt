@@ -1,4 +1,4 @@
--- What the table of an edition says of each kind of byte, at every number: the tests of the passes are ranges of its classes.
+-- What the table of an edition says of each kind of code point, at every number: the tests of the passes are ranges of its classes.
 -- Assumes nothing.
 use mathlib.Core.Path.{_≡_, refl, sym, ap, _∙_, fun-ext}
 use mathlib.Core.Bool.{Bool, true, false, not, _&&_, _||_, cond}
@@ -10,82 +10,89 @@ use lib.ListN.{getD, List·getD-eq-default}
 use borrow.Author.Tests.{ltb-true, ltb-false, le-leb, lt-leb, eqb-true, ne-eqb}
 use Rattle.lists.specs.Tables.{tab}
 use Rattle.lists.proofs.TableLaws.{tab-at, tab-length}
-use Rattle.rules.specs.Bytes.{text, within, among, space, upper, lower, digit, word, dropped, every}
+use Rattle.rules.specs.Bytes.{text, within, among, space, upper, lower, digit, word, quote, dropped, every}
 use Rattle.rules.specs.Lines.{slip, gap, linesBy, lines}
 use Rattle.rules.specs.Class.{classOf}
 use Rattle.rules.proofs.BoolLaws.{and-left, and-right}
 use Rattle.rules.proofs.ClassLaws.{Ruled, dropped-class, gap-class, quote-class, dash-class, open-class, close-class, under-class, space-class, vertical-class, kept-class, upper-class, slip-class, digit-class, class-like}
 use Rattle.slices.specs.Classes.{inClass, inEither, classTable, Classes, droppedIn, gapIn, keptIn, spaceIn, verticalIn, upperIn, digitIn}
 
--- the class of 128 and more is 0, in the table and behind its end
-high-class : (e x : ℕ) → 128 ≤ x → getD (classTable e) x 0 ≡ 0
-unfolding classTable classOf
-high-class e x h = at (ltb x 256) refl
-  where
-    at : (b : Bool) → ltb x 256 ≡ b → getD (tab 256 (classOf e)) x 0 ≡ 0
-    at true q = tab-at 256 (classOf e) x (ltb-true x 256 q) ∙ rw (le-leb 128 x h)
-    at false q = List·getD-eq-default (tab 256 (classOf e)) 0 {n = x} (rw (tab-length 256 (classOf e)) (ltb-false x 256 q))
+-- behind the table's end the class is 0
+high-class : (e x : ℕ) → 256 ≤ x → getD (classTable e) x 0 ≡ 0
+unfolding classTable
+high-class e x h = List·getD-eq-default (tab 256 (classOf e)) 0 {n = x} (rw (tab-length 256 (classOf e)) h)
 
--- where a rule holds below 128, and its test fails from there on, the table says it everywhere
-module _ (test : ℕ → ℕ → Bool) (lo hi : ℕ) (rule : Ruled test lo hi) (none : within lo hi 0 ≡ false) (high : (e x : ℕ) → 128 ≤ x → test e x ≡ false) (e : ℕ) where
-  low-byte : (x : ℕ) → x < 128 → inClass (classTable e) lo hi x ≡ test e x
+-- where a rule holds at all 256 entries, and its test fails from there on, the table says it everywhere
+module _ (test : ℕ → ℕ → Bool) (lo hi : ℕ) (rule : Ruled test lo hi) (none : within lo hi 0 ≡ false) (high : (e x : ℕ) → 256 ≤ x → test e x ≡ false) (e : ℕ) where
+  each-point : (x : ℕ) (b : Bool) → ltb x 256 ≡ b → inClass (classTable e) lo hi x ≡ test e x
   unfolding inClass classTable
-  low-byte x h = rw (tab-at 256 (classOf e) x (omega arith)) (sym (rule e x h))
-
-  high-byte : (x : ℕ) → 128 ≤ x → inClass (classTable e) lo hi x ≡ test e x
-  unfolding inClass
-  high-byte x h = rw (high-class e x h) (none ∙ sym (high e x h))
-
-  each-byte : (x : ℕ) (b : Bool) → ltb x 128 ≡ b → inClass (classTable e) lo hi x ≡ test e x
-  each-byte x true q = low-byte x (ltb-true x 128 q)
-  each-byte x false q = high-byte x (ltb-false x 128 q)
+  each-point x true q = let h = ltb-true x 256 q in rw (tab-at 256 (classOf e) x h) (sym (rule e x h))
+  each-point x false q = let h = ltb-false x 256 q in rw (high-class e x h) (none ∙ sym (high e x h))
 
   in-edition : inClass (classTable e) lo hi ≡ test e
-  in-edition = fun-ext (λ x. each-byte x (ltb x 128) refl)
+  in-edition = fun-ext (λ x. each-point x (ltb x 256) refl)
 
 -- the same of a test that does not look at the edition
-everywhere : (test : ℕ → Bool) (lo hi : ℕ) → Ruled (λ e. test) lo hi → within lo hi 0 ≡ false → ((x : ℕ) → 128 ≤ x → test x ≡ false) →
+everywhere : (test : ℕ → Bool) (lo hi : ℕ) → Ruled (λ e. test) lo hi → within lo hi 0 ≡ false → ((x : ℕ) → 256 ≤ x → test x ≡ false) →
     (e : ℕ) → inClass (classTable e) lo hi ≡ test
 everywhere test lo hi rule none high e = in-edition (λ e. test) lo hi rule none (λ e. high) e
 
--- ---- the tests fail from 128 on
-module _ (x : ℕ) (h : 128 ≤ x) where
-  high-within : (a b : ℕ) → a ≤ 128 → b < 128 → within a b x ≡ false
+-- ---- the tests fail behind U+00FF
+module _ (x : ℕ) (h : 256 ≤ x) where
+  high-within : (a b : ℕ) → a ≤ 256 → b < 256 → within a b x ≡ false
   unfolding within
   high-within a b k l = rw (le-leb a x (omega arith), lt-leb x b (omega arith))
 
-  high-equal : (y : ℕ) → y < 128 → eqb x y ≡ false
+  high-equal : (y : ℕ) → y < 256 → eqb x y ≡ false
   high-equal y k = ne-eqb x y (λ e. omega arith)
 
-  high-among : (ys : List ℕ) → every (λ y. ltb y 128) ys ≡ true → among ys x ≡ false
+  high-among : (ys : List ℕ) → every (λ y. ltb y 256) ys ≡ true → among ys x ≡ false
   unfolding among every
   high-among [] t = refl
-  high-among (y ∷ ys) t = rw (high-equal y (ltb-true y 128 (and-left (ltb y 128) (every (λ z. ltb z 128) ys) t))) (high-among ys (and-right (ltb y 128) (every (λ z. ltb z 128) ys) t))
+  high-among (y ∷ ys) t = rw (high-equal y (ltb-true y 256 (and-left (ltb y 256) (every (λ z. ltb z 256) ys) t))) (high-among ys (and-right (ltb y 256) (every (λ z. ltb z 256) ys) t))
 
   high-space : space x ≡ false
   unfolding space
-  high-space = rw (high-within 9 13 (lit≤ tt) (lit< tt)) (high-equal 32 (lit< tt))
+  high-space = rw (high-within 9 13 (lit≤ tt) (lit< tt), high-equal 32 (lit< tt), high-equal 133 (lit< tt), high-equal 160 (lit< tt))
+
+  high-quote : quote x ≡ false
+  unfolding quote text every
+  high-quote = rw (high-among (text "\"'") refl, high-equal 171 (lit< tt), high-equal 187 (lit< tt))
 
   high-dropped : dropped x ≡ false
   unfolding dropped text every
   high-dropped =
-      rw (lt-leb x 8 (omega arith), high-within 14 31 (lit≤ tt) (lit< tt), high-equal 127 (lit< tt)) (high-among (text "$+<=>^|~`") refl)
+      rw (
+        lt-leb x 8 (omega arith),
+        high-within 14 31 (lit≤ tt) (lit< tt),
+        high-equal 127 (lit< tt),
+        high-among (text "$+<=>^|~`") refl,
+        high-within 128 255 (lit≤ tt) (lit< tt),
+      )
 
-  high-word : word x ≡ false
-  unfolding word upper lower digit
-  high-word =
-      rw (high-within 65 90 (lit≤ tt) (lit< tt), high-within 97 122 (lit≤ tt) (lit< tt), high-within 48 57 (lit≤ tt) (lit< tt)) (high-equal 95 (lit< tt))
+  high-upper : upper x ≡ false
+  unfolding upper
+  high-upper = rw (high-within 65 90 (lit≤ tt) (lit< tt), high-within 192 222 (lit≤ tt) (lit< tt))
+
+  high-lower : lower x ≡ false
+  unfolding lower every
+  high-lower = rw (high-within 97 122 (lit≤ tt) (lit< tt), high-among (170 ∷ 181 ∷ 186 ∷ []) refl, high-within 223 255 (lit≤ tt) (lit< tt))
+
+  high-digit : digit x ≡ false
+  unfolding digit
+  high-digit = high-within 48 57 (lit≤ tt) (lit< tt)
 
   high-kept : (word x || space x) ≡ false
-  high-kept = rw high-word high-space
+  unfolding word
+  high-kept = rw (high-upper, high-lower, high-digit, high-equal 95 (lit< tt), high-space)
 
-high-slip : (e x : ℕ) → 128 ≤ x → slip e x ≡ false
+high-slip : (e x : ℕ) → 256 ≤ x → slip e x ≡ false
 unfolding slip
 high-slip e x h = rw (high-equal x h 52 (lit< tt))
 
-high-gap : (e x : ℕ) → 128 ≤ x → gap e x ≡ false
+high-gap : (e x : ℕ) → 256 ≤ x → gap e x ≡ false
 unfolding gap text every
-high-gap e x h = rw (high-among x h (text " \t\\/|") refl) (high-slip e x h)
+high-gap e x h = rw (high-among x h (text " \t\\/|") refl, high-equal x h 160 (lit< tt)) (high-slip e x h)
 
 -- ---- the kinds
 pub dropped-table : (e : ℕ) → droppedIn (classTable e) ≡ dropped
@@ -94,31 +101,31 @@ dropped-table = everywhere dropped 1 2 dropped-class refl high-dropped
 
 pub space-table : (e : ℕ) → spaceIn (classTable e) ≡ space
 unfolding within
-space-table = everywhere space 5 7 space-class refl high-space
+space-table = everywhere space 5 8 space-class refl high-space
 
 pub gap-table : (e : ℕ) → gapIn (classTable e) ≡ gap e
 unfolding within
 gap-table = in-edition gap 2 5 gap-class refl high-gap
 
-pub quote-table : (e : ℕ) → inClass (classTable e) 12 12 ≡ among (text "\"'")
-unfolding within text every
-quote-table = everywhere (among (text "\"'")) 12 12 quote-class refl (λ x h. high-among x h (text "\"'") refl)
+pub quote-table : (e : ℕ) → inClass (classTable e) 13 13 ≡ quote
+unfolding within
+quote-table = everywhere quote 13 13 quote-class refl high-quote
 
-pub dash-table : (e : ℕ) → inClass (classTable e) 13 13 ≡ among (text "-")
+pub dash-table : (e : ℕ) → inClass (classTable e) 14 14 ≡ among (text "-")
 unfolding within text every
-dash-table = everywhere (among (text "-")) 13 13 dash-class refl (λ x h. high-among x h (text "-") refl)
+dash-table = everywhere (among (text "-")) 14 14 dash-class refl (λ x h. high-among x h (text "-") refl)
 
-pub open-table : (e : ℕ) → inClass (classTable e) 14 14 ≡ among (text "([{")
+pub open-table : (e : ℕ) → inClass (classTable e) 15 15 ≡ among (text "([{")
 unfolding within text every
-open-table = everywhere (among (text "([{")) 14 14 open-class refl (λ x h. high-among x h (text "([{") refl)
+open-table = everywhere (among (text "([{")) 15 15 open-class refl (λ x h. high-among x h (text "([{") refl)
 
-pub close-table : (e : ℕ) → inClass (classTable e) 15 15 ≡ among (text ")]}")
+pub close-table : (e : ℕ) → inClass (classTable e) 16 16 ≡ among (text ")]}")
 unfolding within text every
-close-table = everywhere (among (text ")]}")) 15 15 close-class refl (λ x h. high-among x h (text ")]}") refl)
+close-table = everywhere (among (text ")]}")) 16 16 close-class refl (λ x h. high-among x h (text ")]}") refl)
 
-pub under-table : (e : ℕ) → inClass (classTable e) 11 11 ≡ among (text "_")
+pub under-table : (e : ℕ) → inClass (classTable e) 12 12 ≡ among (text "_")
 unfolding within text every
-under-table = everywhere (among (text "_")) 11 11 under-class refl (λ x h. high-among x h (text "_") refl)
+under-table = everywhere (among (text "_")) 12 12 under-class refl (λ x h. high-among x h (text "_") refl)
 
 pub vertical-table : (e : ℕ) → verticalIn (classTable e) ≡ within 10 13
 unfolding within
@@ -126,20 +133,20 @@ vertical-table = everywhere (within 10 13) 6 7 vertical-class refl (λ x h. high
 
 pub kept-table : (e : ℕ) → keptIn (classTable e) ≡ (λ x. word x || space x)
 unfolding within
-kept-table = everywhere (λ x. word x || space x) 4 11 kept-class refl high-kept
+kept-table = everywhere (λ x. word x || space x) 4 12 kept-class refl high-kept
 
 pub upper-table : (e : ℕ) → upperIn (classTable e) ≡ upper
-unfolding within upper
-upper-table = everywhere upper 10 10 upper-class refl (λ x h. high-within x h 65 90 (lit≤ tt) (lit< tt))
+unfolding within
+upper-table = everywhere upper 11 11 upper-class refl high-upper
 
 -- ---- a digit is the 4, or one of the others
 slip-table : (e : ℕ) → inClass (classTable e) 4 4 ≡ slip e
 unfolding within
 slip-table = in-edition slip 4 4 slip-class refl high-slip
 
-others-table : (e : ℕ) → inClass (classTable e) 8 8 ≡ (λ x. digit x && not (slip e x))
-unfolding within digit
-others-table = in-edition (λ e x. digit x && not (slip e x)) 8 8 digit-class refl (λ e x h. rw (high-within x h 48 57 (lit≤ tt) (lit< tt)))
+others-table : (e : ℕ) → inClass (classTable e) 9 9 ≡ (λ x. digit x && not (slip e x))
+unfolding within
+others-table = in-edition (λ e x. digit x && not (slip e x)) 9 9 digit-class refl (λ e x h. rw (high-digit x h))
 
 four-or-other : (e x : ℕ) (four : Bool) → eqb x 52 ≡ four → (slip e x || (digit x && not (slip e x))) ≡ digit x
 unfolding slip digit within
@@ -157,7 +164,7 @@ four-or-other e x false q = rw q (and-true (digit x))
 pub digit-table : (e : ℕ) → digitIn (classTable e) ≡ digit
 unfolding inEither
 digit-table e =
-    ap (λ (f : ℕ → Bool). λ x. f x || inClass (classTable e) 8 8 x) (slip-table e) ∙ ap (λ (f : ℕ → Bool). λ x. slip e x || f x) (others-table e) ∙
+    ap (λ (f : ℕ → Bool). λ x. f x || inClass (classTable e) 9 9 x) (slip-table e) ∙ ap (λ (f : ℕ → Bool). λ x. slip e x || f x) (others-table e) ∙
     fun-ext (λ x. four-or-other e x (eqb x 52) refl)
 
 -- ---- the same range twice

@@ -1,19 +1,19 @@
 -- What the leaves of `slices` count with the table of the classes is what the rules count with their tests; and where a word stands,
 -- there is room for it.
 -- Assumes nothing.
-use mathlib.Core.Path.{_≡_, sym, ap, _∙_}
-use mathlib.Core.Bool.{Bool, true, false, not}
+use mathlib.Core.Path.{_≡_, refl, sym, ap, _∙_}
+use mathlib.Core.Bool.{Bool, true, false, not, _&&_, _||_}
 use mathlib.Core.List.{List, [], _∷_, map}
 use Prim.Native.Nat.{ℕ, _+_, _≤_, _<_}
 use native.Mathlib.Omega.{arith}
-use lib.Dec.{leb}
+use lib.Dec.{leb, eqb}
 use lib.ListN.{length, drop, length-drop}
 use borrow.Author.Tests.{leb-true}
 use Rattle.rules.specs.Bytes.{within, space, upper, lead, starts}
 use Rattle.rules.proofs.HitLaws.{lead-length, starts-length}
 use Rattle.slices.specs.Classes.{Classes, spaceIn, upperIn}
 use Rattle.rules.specs.Passes.{lowered}
-use Rattle.rules.proofs.BoolLaws.{and-right}
+use Rattle.rules.proofs.BoolLaws.{and-left, and-right}
 use Rattle.slices.proofs.KindLaws.{by-table, space-table, upper-table}
 
 -- a byte that is no space
@@ -43,9 +43,13 @@ module _ (t : List ℕ) (b : ℕ) (e : Classes t) where
   unfolding lowered
   lower-no h = rw (sym upper-of ∙ h)
 
-  pub upper-most : upperIn t b ≡ true → b ≤ 90
+  pub upper-most : upperIn t b ≡ true → b ≤ 222
   unfolding upper within
-  upper-most h = leb-true b 90 (and-right (leb 65 b) (leb b 90) (sym upper-of ∙ h))
+  upper-most h = at (leb 65 b && leb b 90) refl (sym upper-of ∙ h)
+    where
+      at : (t : Bool) → leb 65 b && leb b 90 ≡ t → t || (leb 192 b && leb b 222 && not (eqb b 215)) ≡ true → b ≤ 222
+      at true q k = omega (arith, leb-true b 90 (and-right (leb 65 b) (leb b 90) q))
+      at false q k = leb-true b 222 (and-right (leb 192 b) (leb b 222) (and-left (leb 192 b && leb b 222) (not (eqb b 215)) k))
 
 pub lowered-next : (b : ℕ) {l l′ : List ℕ} → l ≡ b ∷ l′ → map lowered l ≡ lowered b ∷ map lowered l′
 lowered-next b h = rw h

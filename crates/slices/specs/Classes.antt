@@ -1,4 +1,4 @@
--- A byte's class by a lent table, and the tables of the rules' classes, one for each edition.
+-- A code point's class by a lent table, and the tables of the rules' classes, one for each edition.
 -- Assumes nothing.
 use mathlib.Core.Path.{_≡_}
 use Prim.Native.Nat.{ℕ}
@@ -26,20 +26,20 @@ abbrev pub gapIn : List ℕ → ℕ → Bool
 gapIn t = inClass t 2 5
 
 abbrev pub keptIn : List ℕ → ℕ → Bool
-keptIn t = inClass t 4 11
+keptIn t = inClass t 4 12
 
 abbrev pub spaceIn : List ℕ → ℕ → Bool
-spaceIn t = inClass t 5 7
+spaceIn t = inClass t 5 8
 
 abbrev pub verticalIn : List ℕ → ℕ → Bool
 verticalIn t = inClass t 6 7
 
 abbrev pub upperIn : List ℕ → ℕ → Bool
-upperIn t = inClass t 10 10
+upperIn t = inClass t 11 11
 
 -- the digit 4 where it has a class of its own, or one of the others
 abbrev pub digitIn : List ℕ → ℕ → Bool
-digitIn t = inEither t 4 4 8 8
+digitIn t = inEither t 4 4 9 9
 
 -- the 256 classes of edition e
 unfoldable pub classTable : ℕ → List ℕ

@@ -1,0 +1,2 @@
+-- What writing UTF-8 leaves, over the definitions of `rules`.
+pub mod Spread
