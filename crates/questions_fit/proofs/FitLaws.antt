@@ -11,32 +11,32 @@ use Rattle.rules.specs.Refusal.{refusal, ofText}
 use Rattle.rules.proofs.BoolLaws.{and-left, and-right}
 use Rattle.questions_fit.specs.Views.{viewFits}
 
-module _ (start end : ℕ) (t : List ℕ) where
-  pub refused : (refusal (ofText t) ≡ 0 → ⊥) → viewFits start end t ≡ false
+module _ (e start end : ℕ) (t : List ℕ) where
+  pub refused : (refusal (ofText e t) ≡ 0 → ⊥) → viewFits e start end t ≡ false
   unfolding viewFits
-  refused h = rw (ne-eqb (refusal (ofText t)) 0 h)
+  refused h = rw (ne-eqb (refusal (ofText e t)) 0 h)
 
-  pub too-far : refusal (ofText t) ≡ 0 → lineCount t < end → viewFits start end t ≡ false
+  pub too-far : refusal (ofText e t) ≡ 0 → lineCount t < end → viewFits e start end t ≡ false
   unfolding viewFits
-  too-far h l = rw (eq-eqb (refusal (ofText t)) 0 h, lt-leb end (lineCount t) l)
+  too-far h l = rw (eq-eqb (refusal (ofText e t)) 0 h, lt-leb end (lineCount t) l)
 
-  pub left-to-order : refusal (ofText t) ≡ 0 → end ≤ lineCount t → viewFits start end t ≡ leb start end
+  pub left-to-order : refusal (ofText e t) ≡ 0 → end ≤ lineCount t → viewFits e start end t ≡ leb start end
   unfolding viewFits
-  left-to-order h l = rw (eq-eqb (refusal (ofText t)) 0 h, le-leb end (lineCount t) l)
+  left-to-order h l = rw (eq-eqb (refusal (ofText e t)) 0 h, le-leb end (lineCount t) l)
 
   pub record Fits : Type 0 where
-    pub passes : refusal (ofText t) ≡ 0
+    pub passes : refusal (ofText e t) ≡ 0
     pub within : end ≤ lineCount t
     pub order : start ≤ end
 
-  pub fits : viewFits start end t ≡ true → Fits
+  pub fits : viewFits e start end t ≡ true → Fits
   unfolding viewFits
   fits h =
-      let p = eqb (refusal (ofText t)) 0 in
+      let p = eqb (refusal (ofText e t)) 0 in
       let q = leb end (lineCount t) in
       let front = and-left (p && q) (leb start end) h in
       record {
-        passes = eqb-true (refusal (ofText t)) 0 (and-left p q front);
+        passes = eqb-true (refusal (ofText e t)) 0 (and-left p q front);
         within = leb-true end (lineCount t) (and-right p q front);
         order = leb-true start end (and-right (p && q) (leb start end) h);
       }

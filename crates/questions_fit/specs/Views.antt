@@ -1,4 +1,4 @@
--- A text that is let through, and a view within it.
+-- A text that is let through under edition e, and a view within it.
 -- Assumes nothing.
 use mathlib.Core.Bool.{Bool, _&&_}
 use mathlib.Core.List.{List}
@@ -7,5 +7,5 @@ use lib.Dec.{leb, eqb}
 use Rattle.rules.specs.Lines.{lineCount}
 use Rattle.rules.specs.Refusal.{refusal, ofText}
 
-unfoldable pub viewFits : ℕ → ℕ → List ℕ → Bool
-viewFits start end t = eqb (refusal (ofText t)) 0 && leb end (lineCount t) && leb start end
+unfoldable pub viewFits : ℕ → ℕ → ℕ → List ℕ → Bool
+viewFits e start end t = eqb (refusal (ofText e t)) 0 && leb end (lineCount t) && leb start end

@@ -1,8 +1,8 @@
 // The memory that all questions are answered in: the questions, the texts of one, the two work areas that such a text asks for (8n + 64 and
 // 12n + 64), room for a table's body, for an answer, for the book and for the records of a text of 2,049 lines. Assumes nothing.
 
-pub fn input() -> [u8; 1048576] {
-    [0; 1048576]
+pub fn input() -> [u8; 2097152] {
+    [0; 2097152]
 }
 
 pub fn text_area() -> [u8; 2048] {

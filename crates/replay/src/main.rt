@@ -16,9 +16,11 @@ use crate::areas::results_area;
 use crate::areas::text_area;
 use crate::areas::word_area;
 use crate::scans::answer_scans;
+use questions::fields::number_at;
 use questions::words::mark_at;
 use rules::EDITION_FIRST;
 use slices::class::class_table;
+use slices_order::starts_with;
 
 // A question on texts alone: lines, a view, a table or a score. One of the four answers it, and the others write nothing.
 fn answer_texts(
@@ -28,17 +30,36 @@ fn answer_texts(
     area: &mut [u8; 16448],
     words: &mut [u32; 24640],
     body: &mut [u8; 49152],
+    edition: u32,
 ) {
-    let class = class_table(EDITION_FIRST);
+    let class = class_table(edition);
     let mut out = out_area();
-    let lines = replay_lines::answer(&class, line, text, area, words, &mut out);
+    let lines = replay_lines::answer(&class, line, text, area, words, &mut out, edition);
     io::write_all(1, &out[..lines]);
-    let view = replay_views::answer(&class, line, text, area, words, &mut out);
+    let view = replay_views::answer(&class, line, text, area, words, &mut out, edition);
     io::write_all(1, &out[..view]);
-    let table = replay_tables::answer(line, text, area, words, body, &mut out);
+    let table = replay_tables::answer(line, text, area, words, body, &mut out, edition);
     io::write_all(1, &out[..table]);
-    let score = replay_scores::answer(&class, line, text, licence, area, words, body, &mut out);
+    let score = replay_scores::answer(
+        &class,
+        line,
+        text,
+        licence,
+        area,
+        words,
+        body,
+        &mut out,
+        edition,
+    );
     io::write_all(1, &out[..score]);
+}
+
+// A line `edition N` says how the lines behind it are answered, and gets no answer.
+fn edition_after(line: &[u8], edition: u32) -> u32 {
+    if starts_with(line, 0, b"edition ") {
+        return (number_at(line, 1) % 4294967296) as u32;
+    }
+    edition
 }
 
 // The answer to a line; answers where the book ends after it.
@@ -52,12 +73,23 @@ fn answer(
     words: &mut [u32; 24640],
     body: &mut [u8; 49152],
     results: &mut [u32; 8196],
+    edition: u32,
 ) -> usize
     requires { ⌜ end ≤ 65536 ⌝ }
     ensures { λ r. ⌜ r ≤ 65536 ⌝ }
 {
-    answer_texts(line, text, licence, area, words, body);
-    answer_scans(line, text, licence, book, end, area, words, results)
+    answer_texts(line, text, licence, area, words, body, edition);
+    answer_scans(
+        line,
+        text,
+        licence,
+        book,
+        end,
+        area,
+        words,
+        results,
+        edition,
+    )
 }
 
 // Every question of the input, one after the other.
@@ -70,9 +102,11 @@ fn answer_all(all: &[u8]) {
     let mut body = body_area();
     let mut results = results_area();
     let mut book_end = 0;
+    let mut edition = EDITION_FIRST;
     let mut at = 0;
     while at < all.len() {
         let end = mark_at(all, at, 10);
+        edition = edition_after(&all[at..end], edition);
         book_end = answer(
             &all[at..end],
             &mut text,
@@ -83,6 +117,7 @@ fn answer_all(all: &[u8]) {
             &mut words,
             &mut body,
             &mut results,
+            edition,
         );
         at = end + 1;
     }

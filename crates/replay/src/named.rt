@@ -6,6 +6,7 @@ ghost use Prim.Native.Nat.{_<_};
 ghost use lib.ListN.{length};
 ghost use Rattle.rules.specs.Book.{stored, sound};
 use detection_check::check_book;
+use detection_edition::edition_of;
 use detection_texts::texts::stored_at;
 use preproc_test::test_text;
 use rules::View;
@@ -37,7 +38,7 @@ fn scores_so(
     area: &mut [u8],
     words: &mut [u32],
 ) -> bool {
-    let tested = test_text(text);
+    let tested = test_text(edition_of(book), text);
     let whole = View {
         start: 0,
         end: tested.lines,

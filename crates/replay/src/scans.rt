@@ -10,6 +10,7 @@ use questions::fields::text_at;
 use questions::numbers::bits_of;
 use questions::words::word_at;
 use questions_fit::limits::limit_of;
+use replay_books::put_edition;
 use replay_books::put_name;
 use replay_books::put_text;
 use rules::Limits;
@@ -58,6 +59,7 @@ fn add(
     end: usize,
     area: &mut [u8],
     words: &mut [u32],
+    edition: u32,
 ) -> usize
     requires { ⌜ (end ≤ length (now book)) × (length (now book) ≤ 65536) × (length (now text) ≡ 2048) ⌝ }
     ensures { λ r. ⌜ r ≤ length (now (book .exit)) ⌝ }
@@ -66,7 +68,15 @@ fn add(
     let kind = number_at(line, 2);
     let n = text_at(line, 3, text);
     let at = begin(line, kind, book, end);
-    put_text(&text[..n], (kind % 65536) as u16, book, at, area, words)
+    put_text(
+        &text[..n],
+        (kind % 65536) as u16,
+        book,
+        at,
+        area,
+        words,
+        edition,
+    )
 }
 
 // `COUNT FIRST AFTER BITS` of text 0 of a book.
@@ -94,6 +104,7 @@ fn answer_bounds(
     end: usize,
     area: &mut [u8],
     words: &mut [u32],
+    edition: u32,
 )
     requires { ⌜ (end ≤ length (now book)) × (length (now book) ≤ 65536) × (length (now text) ≡ 2048) × (length (now licence) ≡ 2048) ⌝ }
 {
@@ -101,8 +112,9 @@ fn answer_bounds(
     let stop = number_at(line, 2) as usize;
     let n = text_at(line, 3, text);
     let m = text_at(line, 4, licence);
-    let at = put_name(b"41", 0, book, end);
-    let past = put_text(&licence[..m], 2, book, at, area, words);
+    let first = put_edition(book, end, edition);
+    let at = put_name(b"41", 0, book, first);
+    let past = put_text(&licence[..m], 2, book, at, area, words, edition);
     tell_bounds(
         &text[..n],
         &book[end..past],
@@ -185,11 +197,12 @@ fn ask(
     area: &mut [u8; 16448],
     words: &mut [u32; 24640],
     results: &mut [u32; 8196],
+    edition: u32,
 )
     requires { ⌜ (end ≤ length (now book)) × (length (now book) ≤ 65536) ⌝ }
 {
     if starts_with(line, 0, b"countbounds ") {
-        answer_bounds(line, text, licence, book, end, area, words);
+        answer_bounds(line, text, licence, book, end, area, words, edition);
         return;
     }
     if starts_with(line, 0, b"counteliminate ") {
@@ -211,17 +224,28 @@ pub fn answer_scans(
     area: &mut [u8; 16448],
     words: &mut [u32; 24640],
     results: &mut [u32; 8196],
+    edition: u32,
 ) -> usize
     requires { ⌜ end ≤ 65536 ⌝ }
     ensures { λ r. ⌜ r ≤ 65536 ⌝ }
 {
     if starts_with(line, 0, b"clear") {
         print(b"ok\x0a");
-        return 0;
+        return put_edition(book, 0, edition);
     }
     if starts_with(line, 0, b"add ") {
-        return add(line, text, book, end, area, words);
+        return add(line, text, book, end, area, words, edition);
     }
-    ask(line, text, licence, book, end, area, words, results);
+    ask(
+        line,
+        text,
+        licence,
+        book,
+        end,
+        area,
+        words,
+        results,
+        edition,
+    );
     end
 }

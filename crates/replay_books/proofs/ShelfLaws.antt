@@ -3,15 +3,16 @@
 --     head-put         the two numbers of a head are one run of bytes
 --     stays-at, stayed           the book up to its end, where nothing, or only what is behind it, was written
 --     grown            a body from the sixth byte on and the head before it
+--     first-edition, no-room, opened   what a book begins with
 --     compiled-front   what `compile` leaves of its output
 -- Assumes nothing.
 use mathlib.Core.Path.{_≡_, refl, sym, ap, subst, _∙_}
-use mathlib.Core.List.{List, _++_, append-nil}
-use Prim.Native.Nat.{ℕ, _+_, _-_, _≤_}
+use mathlib.Core.List.{List, [], _++_, append-nil}
+use Prim.Native.Nat.{ℕ, _+_, _-_, _%_, _≤_, _<_}
 use native.Mathlib.Omega.{arith}
 use lib.ListN.{length, take, drop, length-append, length-drop, take-append-drop, drop-of-length-le}
-use lib.Seq.{length-take-le, take-append-le, take-append-add, take-append-seam, drop-at}
-use borrow.Author.Tests.{eq-eqb}
+use lib.Seq.{length-take-le, take-append-le, take-append-add, take-append-seam, take-at, drop-at}
+use borrow.Author.Tests.{eq-eqb, ne-eqb, lt-ltb, le-ltb}
 use borrow.Rule.Slice.PartMut.{putMid}
 use Rattle.lists.specs.Wrote.{InFront}
 use Rattle.rules.specs.declared.Compiled.{Compiled}
@@ -20,7 +21,7 @@ use Rattle.rules.specs.Refusal.{refusal, ofCompile}
 use Rattle.rules.specs.Jobs.{compile, outputAfter, over, lent, CompileDone}
 use Rattle.records.specs.Written.{putAt}
 use Rattle.records.proofs.NumberLaws.{length-written, put-two}
-use Rattle.replay_books.specs.Shelf.{headOut, Grown, stays, grows}
+use Rattle.replay_books.specs.Shelf.{headOut, opening, Grown, stays, grows}
 
 -- a part that was lent up to the end, put back
 pub put-back : (m : ℕ) (b last : List ℕ) → m ≤ length b → putMid m (length b - m) b last ≡ take m b ++ last
@@ -53,6 +54,16 @@ module _ (at : ℕ) (b₀ : List ℕ) where
       let l = length-append (take m b₀) last in
       let n = length-take-le m b₀ k in
       record { within = omega arith; count = sym (length-take-le at b₀ (omega arith)); bytes = before-same m last h k }
+
+  pub put-front : (r : ℕ) (p : List ℕ) → r ≡ at + length p → r ≤ length b₀ → InFront (take at b₀ ++ p) r (putAt at p b₀)
+  unfolding putAt
+  put-front r p e h =
+      let l : length (take at b₀ ++ p) ≡ r = omega (arith, length-append (take at b₀) p, length-take-le at b₀ (omega arith)) in
+      record {
+        within = omega (arith, length-append (take at b₀ ++ p) (drop (at + length p) b₀));
+        count = sym l;
+        bytes = take-at (take at b₀ ++ p) (drop (at + length p) b₀) r l;
+      }
 
   module _ (last body head : List ℕ) (len : ℕ) (six : length head ≡ 6) (room : at + 6 ≤ length b₀) (fits : len ≤ length last) (is : take len last ≡ body) where
     abbrev front : List ℕ
@@ -97,22 +108,60 @@ module _ (at kind : ℕ) (body b₀ last : List ℕ) (room : at + 6 ≤ length b
       grows (subst (λ (x : List ℕ). InFront ((take at b₀ ++ head) ++ body) (at + 6 + len) x) (sym q)
       (grows-by at b₀ last body head len (head-length (length body) kind) room fits is))
 
+-- ---- what a book begins with
+module _ (e room : ℕ) where
+  opening-first : e ≡ 1 → opening e room ≡ []
+  unfolding opening
+  opening-first h = rw (eq-eqb e 1 h)
+
+  opening-narrow : (e ≡ 1 → ⊥) → room < 8 → opening e room ≡ []
+  unfolding opening
+  opening-narrow h k = rw (ne-eqb e 1 h, lt-ltb room 8 k)
+
+  opening-later : (e ≡ 1 → ⊥) → 8 ≤ room → opening e room ≡ headOut 2 6 ++ written 2 (e % 65536)
+  unfolding opening
+  opening-later h k = rw (ne-eqb e 1 h, le-ltb room 8 k)
+
+module _ (at e : ℕ) (b₀ : List ℕ) (within : at ≤ length b₀) where
+  abbrev room : ℕ
+  room = length b₀ - at
+
+  none-put : opening e room ≡ [] → InFront (take at b₀ ++ opening e room) at b₀
+  none-put z = rw (z, append-nil) (stays-at at b₀ within)
+
+  pub first-edition : e ≡ 1 → InFront (take at b₀ ++ opening e room) at b₀
+  first-edition h = none-put (opening-first e room h)
+
+  pub no-room : (e ≡ 1 → ⊥) → room < 8 → InFront (take at b₀ ++ opening e room) at b₀
+  no-room h k = none-put (opening-narrow e room h k)
+
+  pub opened : (b b′ : List ℕ) → (e ≡ 1 → ⊥) → 8 ≤ room → b ≡ putAt at (headOut 2 6) b₀ → b′ ≡ putAt (at + 6) (written 2 (e % 65536)) b →
+      InFront (take at b₀ ++ opening e room) (at + 6 + 2) b′
+  opened b b′ h k p q =
+      let head = headOut 2 6 in
+      let body = written 2 (e % 65536) in
+      let six = head-length 2 6 in
+      let n : length (head ++ body) ≡ 8 = omega (arith, length-append head body, length-written 2 (e % 65536)) in
+      let two : b′ ≡ putAt at (head ++ body) b₀ =
+      q ∙ ap (putAt (at + 6) body) p ∙ ap (λ (j : ℕ). putAt (at + j) body (putAt at head b₀)) (sym six) ∙ put-two at head body b₀ (omega arith) in
+      rw (opening-later e room h k, two) (put-front at b₀ (at + 6 + 2) (head ++ body) (omega arith) (omega arith))
+
 -- how much is lent of a book from a place on
 pub part-room : (m : ℕ) (b : List ℕ) → m ≤ length b → length (take (length b - m) (drop m b)) ≡ length b - m
 part-room m b h = length-take-le (length b - m) (drop m b) (omega (arith, length-drop m b))
 
-module _ (t b₀ b w₀ w out₀ out : List ℕ) (a : Compiled) (d : CompileDone 1 t b₀ b w₀ w out₀ out a) (z : a .refusal ≡ 0) where
-  none-refused : refusal (ofCompile 1 t (lent b₀ w₀) (length out₀)) ≡ 0
+module _ (n : ℕ) (t b₀ b w₀ w out₀ out : List ℕ) (a : Compiled) (d : CompileDone n t b₀ b w₀ w out₀ out a) (z : a .refusal ≡ 0) where
+  none-refused : refusal (ofCompile n t (lent b₀ w₀) (length out₀)) ≡ 0
   unfolding compile
   none-refused = sym (ap (λ (x : Compiled). x .refusal) (d .answer)) ∙ z
 
-  pub compiled-length : a .len ≡ length (compiled 1 t)
+  pub compiled-length : a .len ≡ length (compiled n t)
   unfolding compile
-  compiled-length = ap (λ (x : Compiled). x .len) (d .answer) ∙ rw (eq-eqb (refusal (ofCompile 1 t (lent b₀ w₀) (length out₀))) 0 none-refused)
+  compiled-length = ap (λ (x : Compiled). x .len) (d .answer) ∙ rw (eq-eqb (refusal (ofCompile n t (lent b₀ w₀) (length out₀))) 0 none-refused)
 
-  pub compiled-front : take (a .len) out ≡ compiled 1 t
+  pub compiled-front : take (a .len) out ≡ compiled n t
   unfolding outputAfter over
   compiled-front =
-      let e : out ≡ compiled 1 t ++ drop (length (compiled 1 t)) out₀ =
-      d .output ∙ rw (eq-eqb (refusal (ofCompile 1 t (lent b₀ w₀) (length out₀))) 0 none-refused) in
-      rw (compiled-length, e) (take-append-seam (compiled 1 t) (drop (length (compiled 1 t)) out₀))
+      let e : out ≡ compiled n t ++ drop (length (compiled n t)) out₀ =
+      d .output ∙ rw (eq-eqb (refusal (ofCompile n t (lent b₀ w₀) (length out₀))) 0 none-refused) in
+      rw (compiled-length, e) (take-append-seam (compiled n t) (drop (length (compiled n t)) out₀))

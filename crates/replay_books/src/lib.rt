@@ -1,13 +1,16 @@
 // The book that the questions fill: one record more at its end, in a lent array. A record that does not fit, or a text that is refused,
 // leaves the book as it was. Assumes nothing.
 ghost use mathlib.Core.Path.{_≡_};
+ghost use mathlib.Core.List.{_++_};
 ghost use Prim.Native.Nat.{_+_, _-_, _≤_, _<_};
-ghost use lib.ListN.{length};
+ghost use lib.ListN.{length, take};
+ghost use Rattle.lists.specs.Wrote.{InFront};
 ghost use Rattle.rules.specs.Book.{compiled};
 ghost use Rattle.records.specs.Written.{putAt};
 ghost use Rattle.questions.specs.Fields.{textOf};
-ghost use Rattle.replay_books.specs.Shelf.{headOut, Grown};
+ghost use Rattle.replay_books.specs.Shelf.{headOut, opening, Grown};
 use compile::compile;
+use detection_edition::EDITION_KIND;
 use questions::fields::text_at;
 use records::numbers::write_u16;
 use records::numbers::write_u32;
@@ -37,7 +40,25 @@ pub fn put_name(line: &[u8], k: usize, book: &mut [u8], at: usize) -> usize
     body + len
 }
 
-// A text's table, under the name before it; answers where its record ends.
+// What a book begins with: of a later edition the record that says it; answers where that ends.
+pub fn put_edition(book: &mut [u8], at: usize, edition: u32) -> usize
+    requires { ⌜ (at ≤ length (now book)) × (length (now book) ≤ 65536) ⌝ }
+    ensures within { λ r. ⌜ (at ≤ r) × (r ≤ length (now (book .exit))) ⌝ }
+    ensures book { λ r. ⌜ InFront (take at (now (book .entry)) ++ opening edition (length (now (book .entry)) - at)) r (now (book .exit)) ⌝ }
+{
+    if edition == EDITION_FIRST {
+        return at;
+    }
+    if book.len() - at < 8 {
+        return at;
+    }
+    let body = at + 6;
+    put_head(book, at, 2, EDITION_KIND);
+    write_u16(book, body, (edition % 65536) as u16);
+    body + 2
+}
+
+// A text's table under an edition, behind the name before it; answers where its record ends.
 pub fn put_text(
     text: &[u8],
     kind: u16,
@@ -45,16 +66,17 @@ pub fn put_text(
     at: usize,
     area: &mut [u8],
     words: &mut [u32],
+    edition: u32,
 ) -> usize
     requires { ⌜ (at ≤ length (now book)) × (length (now book) ≤ 65536) ⌝ }
     ensures within { λ r. ⌜ (at ≤ r) × (r ≤ length (now (book .exit))) ⌝ }
-    ensures book { λ r. ⌜ Grown at kind (compiled 1 (now (text .entry))) (now (book .entry)) r (now (book .exit)) ⌝ }
+    ensures book { λ r. ⌜ Grown at kind (compiled edition (now (text .entry))) (now (book .entry)) r (now (book .exit)) ⌝ }
 {
     if book.len() - at < 6 {
         return at;
     }
     let body = at + 6;
-    let made = compile(text, EDITION_FIRST, area, words, &mut book[body..]);
+    let made = compile(text, edition, area, words, &mut book[body..]);
     let len = made.len;
     if made.refusal != 0 {
         return at;

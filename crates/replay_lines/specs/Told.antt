@@ -1,10 +1,11 @@
--- The answer to a question `lines TEXT`: the text's lines, as the rules give them, in hex.
+-- The answer to a question `lines TEXT` under edition e: the text's lines, as the rules give them, as UTF-8 in hex.
 -- Assumes nothing.
 use mathlib.Core.Bool.{cond}
 use mathlib.Core.List.{List, [], _∷_, _++_}
 use Prim.Native.Nat.{ℕ}
 use lib.Dec.{eqb}
 use Rattle.rules.specs.Bytes.{text, starts}
+use Rattle.rules.specs.Points.{encoded}
 use Rattle.rules.specs.Lines.{lines}
 use Rattle.rules.specs.Refusal.{refusal, ofText}
 use Rattle.questions.specs.Hex.{hexed}
@@ -17,12 +18,12 @@ markOf (l ∷ ls) = 32
 
 unfoldable pub told : List (List ℕ) → List ℕ
 told [] = []
-told (l ∷ ls) = hexed l ++ markOf ls ∷ told ls
+told (l ∷ ls) = hexed (encoded l) ++ markOf ls ∷ told ls
 
 -- a text that is refused gets none
-unfoldable pub answerTo : List ℕ → List ℕ
-answerTo t = cond (eqb (refusal (ofText t)) 0) (told (lines 1 t)) []
+unfoldable pub answerTo : ℕ → List ℕ → List ℕ
+answerTo e t = cond (eqb (refusal (ofText e t)) 0) (told (lines e t)) []
 
 -- nor does another question; of a text 2,048 bytes are read
-unfoldable pub answerOf : List ℕ → List ℕ
-answerOf q = cond (starts (text "lines ") q) (answerTo (textOf 2048 1 q)) []
+unfoldable pub answerOf : ℕ → List ℕ → List ℕ
+answerOf e q = cond (starts (text "lines ") q) (answerTo e (textOf 2048 1 q)) []

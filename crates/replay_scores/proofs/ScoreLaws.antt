@@ -8,7 +8,7 @@ use native.Mathlib.Omega.{arith}
 use lib.Dec.{T}
 use lib.Seq.{slice}
 use Rattle.rules.specs.Table.{Table, bigrams, tableOf, valueOf}
-use Rattle.rules.specs.Book.{entriesOf, soundTable, tableIn, Proper}
+use Rattle.rules.specs.Book.{entriesOf, shaped, tableIn, Proper}
 use Rattle.rules.specs.Refusal.{unit}
 use Rattle.rules.proofs.TableLaws.{table-proper, value-unit, sound-entries-rising}
 use Rattle.rules.proofs.SoundLaws.{table-sound}
@@ -24,7 +24,7 @@ unfolding tableOver tableAt tableOf
 view-proper {area = area} {t = t} h =
     table-proper (bigrams (slice (t .start) (t .end) area)) (omega (arith, ap (λ (u : Table). u .total) (h .stands), h .most))
 
-body-proper : (body : List ℕ) → soundTable body (entriesOf body) ≡ true → Proper (tableOfBody body)
+body-proper : (body : List ℕ) → shaped body (entriesOf body) ≡ true → Proper (tableOfBody body)
 unfolding tableOfBody
 body-proper body h =
     let s = table-sound body (entriesOf body) h in
@@ -34,6 +34,6 @@ body-proper body h =
       limited = omega (arith, s .1, s .2);
     }
 
-pub score-unit : {n : ℕ} {area words : List ℕ} {t : Viewed} (body : List ℕ) → Tabled n area words t → soundTable body (entriesOf body) ≡ true →
+pub score-unit : {n : ℕ} {area words : List ℕ} {t : Viewed} (body : List ℕ) → Tabled n area words t → shaped body (entriesOf body) ≡ true →
     T (unit (valueOf (tableOver area t) (tableOfBody body) .score))
 score-unit {area = area} {t = t} body h s = value-unit (tableOver area t) (tableOfBody body) (view-proper h) (body-proper body s)

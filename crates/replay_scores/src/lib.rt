@@ -13,7 +13,6 @@ use crate::scores::answer_view;
 use compile::compile;
 use questions::fields::number_at;
 use questions::fields::text_at;
-use rules::EDITION_FIRST;
 use slices_order::starts_with;
 
 // The score of a view of the text against the licence, written from the front; answers where it ends.
@@ -27,16 +26,27 @@ fn answer_score(
     words: &mut [u32; 24640],
     body: &mut [u8],
     out: &mut [u8; 98305],
+    edition: u32,
 ) -> usize
-    requires { ⌜ (now class ≡ classTable 1) × (length (now text) ≤ 2048) × (length (now body) ≡ 49152) ⌝ }
-    ensures { λ r. ⌜ InFront (scoreFor start end (now (text .entry)) (now (licence .entry))) r (now (out .exit)) ⌝ }
+    requires { ⌜ (now class ≡ classTable edition) × (length (now text) ≤ 2048) × (length (now body) ≡ 49152) ⌝ }
+    ensures { λ r. ⌜ InFront (scoreFor edition start end (now (text .entry)) (now (licence .entry))) r (now (out .exit)) ⌝ }
 {
-    let made = compile(licence, EDITION_FIRST, area, words, body);
+    let made = compile(licence, edition, area, words, body);
     if made.refusal != 0 {
         return 0;
     }
     let len = made.len;
-    answer_view(class, text, start, end, area, words, &body[..len], out)
+    answer_view(
+        class,
+        text,
+        start,
+        end,
+        area,
+        words,
+        &body[..len],
+        out,
+        edition,
+    )
 }
 
 // A question on a score, whose texts are read into `text` and `licence`.
@@ -49,9 +59,10 @@ fn asked_score(
     words: &mut [u32; 24640],
     body: &mut [u8; 49152],
     out: &mut [u8; 98305],
+    edition: u32,
 ) -> usize
-    requires { ⌜ (now class ≡ classTable 1) × (length (now text) ≡ 2048) × (length (now licence) ≡ 2048) ⌝ }
-    ensures { λ r. ⌜ InFront (scoreAsked (now (line .entry))) r (now (out .exit)) ⌝ }
+    requires { ⌜ (now class ≡ classTable edition) × (length (now text) ≡ 2048) × (length (now licence) ≡ 2048) ⌝ }
+    ensures { λ r. ⌜ InFront (scoreAsked edition (now (line .entry))) r (now (out .exit)) ⌝ }
 {
     let start = number_at(line, 1) as usize;
     let end = number_at(line, 2) as usize;
@@ -67,6 +78,7 @@ fn asked_score(
         words,
         body,
         out,
+        edition,
     )
 }
 
@@ -80,12 +92,13 @@ pub fn answer(
     words: &mut [u32; 24640],
     body: &mut [u8; 49152],
     out: &mut [u8; 98305],
+    edition: u32,
 ) -> usize
-    requires { ⌜ now class ≡ classTable 1 ⌝ }
-    ensures { λ r. ⌜ InFront (answerOf (now (line .entry))) r (now (out .exit)) ⌝ }
+    requires { ⌜ now class ≡ classTable edition ⌝ }
+    ensures { λ r. ⌜ InFront (answerOf edition (now (line .entry))) r (now (out .exit)) ⌝ }
 {
     if !starts_with(line, 0, b"score ") {
         return 0;
     }
-    asked_score(class, line, text, licence, area, words, body, out)
+    asked_score(class, line, text, licence, area, words, body, out, edition)
 }

@@ -5,7 +5,7 @@ ghost use lib.Dec.{T};
 ghost use Prim.Native.Nat.{_≤_};
 ghost use lib.ListN.{length};
 ghost use Rattle.lists.specs.Wrote.{InFront};
-ghost use Rattle.rules.specs.Book.{soundTable, entriesOf};
+ghost use Rattle.rules.specs.Book.{shaped, entriesOf};
 ghost use Rattle.rules.specs.Refusal.{unit};
 ghost use Rattle.slices.specs.Classes.{classTable};
 ghost use Rattle.detection_shelf.specs.Bodies.{tableOfBody};
@@ -39,11 +39,12 @@ pub fn answer_view(
     words: &mut [u32; 24640],
     body: &[u8],
     out: &mut [u8],
+    edition: u32,
 ) -> usize
-    requires { ⌜ (now class ≡ classTable 1) × (length (now text) ≤ 2048) × (soundTable (now body) (entriesOf (now body)) ≡ true) × (9 ≤ length (now out)) ⌝ }
-    ensures { λ r. ⌜ InFront (scoreOver start end (now (text .entry)) (tableOfBody (now (body .entry)))) r (now (out .exit)) ⌝ }
+    requires { ⌜ (now class ≡ classTable edition) × (length (now text) ≤ 2048) × (shaped (now body) (entriesOf (now body)) ≡ true) × (9 ≤ length (now out)) ⌝ }
+    ensures { λ r. ⌜ InFront (scoreOver edition start end (now (text .entry)) (tableOfBody (now (body .entry)))) r (now (out .exit)) ⌝ }
 {
-    if !view_fits(text, start, end) {
+    if !view_fits(text, start, end, edition) {
         return 0;
     }
     let n = text.len();

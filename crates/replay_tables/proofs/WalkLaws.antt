@@ -11,7 +11,7 @@ use lib.ListN.{length, take, drop, length-append, length-take}
 use lib.Seq.{slice}
 use Rattle.lists.specs.Wrote.{Wrote, InFront}
 use Rattle.rules.specs.Prefix.{Counted}
-use Rattle.rules.specs.Book.{number, entryForm, entryOf, entriesOf, pieces, soundTable, tableIn}
+use Rattle.rules.specs.Book.{number, entryForm, entryOf, entriesOf, pieces, shaped, tableIn}
 use Rattle.rules.proofs.SoundLaws.{table-size, sound-some, body-total}
 use Rattle.ngram_meet.proofs.MeetLaws.{entryEnd, storedEntry, NextEntry, entry-next, entry-end}
 use Rattle.detection_shelf.specs.Bodies.{tableOfBody}
@@ -46,7 +46,7 @@ pub record Telling (body whole d : List ℕ) (at w : ℕ) : Type 0 where
 abbrev pub wholeOf : List ℕ → List ℕ
 wholeOf body = decimal (tableOfBody body .total) ++ entriesTold (tableOfBody body .entries)
 
-module _ (body : List ℕ) (h : soundTable body (entriesOf body) ≡ true) where
+module _ (body : List ℕ) (h : shaped body (entriesOf body) ≡ true) where
   pub body-long : 8 ≤ length body
   body-long = table-size body (entriesOf body) h
 

@@ -1,4 +1,4 @@
--- The answer to a question `table TEXT`: the text's table, as the rules give it.
+-- The answer to a question `table TEXT` under edition e: the text's table, as the rules give it.
 -- Assumes nothing.
 use mathlib.Core.Bool.{Bool, cond}
 use mathlib.Core.List.{List, [], _∷_, _++_}
@@ -25,15 +25,15 @@ unfoldable pub tableTold : Table → List ℕ
 tableTold t = (decimal (t .total) ++ entriesTold (t .entries)) ++ 10 ∷ []
 
 -- a text that compile refuses, with the areas of a text of 2,048 bytes and an output of 49,152, gets no answer
-unfoldable pub compiles : List ℕ → Bool
-compiles t = eqb (refusal (ofCompile 1 t (record { bytes = 16448; words = 24640 }) 49152)) 0
+unfoldable pub compiles : ℕ → List ℕ → Bool
+compiles e t = eqb (refusal (ofCompile e t (record { bytes = 16448; words = 24640 }) 49152)) 0
 
-unfoldable pub tableFor : List ℕ → List ℕ
-tableFor t = cond (compiles t) (tableTold (viewTable (lines 1 t))) []
+unfoldable pub tableFor : ℕ → List ℕ → List ℕ
+tableFor e t = cond (compiles e t) (tableTold (viewTable (lines e t))) []
 
 -- ---- the question; of a text 2,048 bytes are read, and another question gets no answer
-unfoldable pub tableAsked : List ℕ → List ℕ
-tableAsked q = tableFor (textOf 2048 1 q)
+unfoldable pub tableAsked : ℕ → List ℕ → List ℕ
+tableAsked e q = tableFor e (textOf 2048 1 q)
 
-unfoldable pub answerOf : List ℕ → List ℕ
-answerOf q = cond (starts (text "table ") q) (tableAsked q) []
+unfoldable pub answerOf : ℕ → List ℕ → List ℕ
+answerOf e q = cond (starts (text "table ") q) (tableAsked e q) []

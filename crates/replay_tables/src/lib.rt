@@ -10,7 +10,6 @@ mod tables;
 use crate::tables::put_table;
 use compile::compile;
 use questions::fields::text_at;
-use rules::EDITION_FIRST;
 use slices_order::starts_with;
 
 // The table of a text, written from the front; answers where it ends.
@@ -20,11 +19,12 @@ fn answer_table(
     words: &mut [u32; 24640],
     body: &mut [u8],
     out: &mut [u8; 98305],
+    edition: u32,
 ) -> usize
     requires { ⌜ length (now body) ≡ 49152 ⌝ }
-    ensures { λ r. ⌜ InFront (tableFor (now (text .entry))) r (now (out .exit)) ⌝ }
+    ensures { λ r. ⌜ InFront (tableFor edition (now (text .entry))) r (now (out .exit)) ⌝ }
 {
-    let made = compile(text, EDITION_FIRST, area, words, body);
+    let made = compile(text, edition, area, words, body);
     if made.refusal != 0 {
         return 0;
     }
@@ -40,12 +40,13 @@ fn asked_table(
     words: &mut [u32; 24640],
     body: &mut [u8; 49152],
     out: &mut [u8; 98305],
+    edition: u32,
 ) -> usize
     requires { ⌜ length (now text) ≡ 2048 ⌝ }
-    ensures { λ r. ⌜ InFront (tableAsked (now (line .entry))) r (now (out .exit)) ⌝ }
+    ensures { λ r. ⌜ InFront (tableAsked edition (now (line .entry))) r (now (out .exit)) ⌝ }
 {
     let n = text_at(line, 1, text);
-    answer_table(&text[..n], area, words, body, out)
+    answer_table(&text[..n], area, words, body, out, edition)
 }
 
 // The answer to a question, written from the front; answers where it ends. Another question gets none.
@@ -56,11 +57,12 @@ pub fn answer(
     words: &mut [u32; 24640],
     body: &mut [u8; 49152],
     out: &mut [u8; 98305],
+    edition: u32,
 ) -> usize
-    ensures { λ r. ⌜ InFront (answerOf (now (line .entry))) r (now (out .exit)) ⌝ }
+    ensures { λ r. ⌜ InFront (answerOf edition (now (line .entry))) r (now (out .exit)) ⌝ }
 {
     if !starts_with(line, 0, b"table ") {
         return 0;
     }
-    asked_table(line, text, area, words, body, out)
+    asked_table(line, text, area, words, body, out, edition)
 }

@@ -6,7 +6,7 @@ ghost use Prim.Native.Nat.{_+_, _*_, _≤_};
 ghost use lib.ListN.{length, take, drop};
 ghost use lib.Seq.{slice};
 ghost use Rattle.lists.specs.Wrote.{Wrote, InFront};
-ghost use Rattle.rules.specs.Book.{number, soundTable, entriesOf};
+ghost use Rattle.rules.specs.Book.{number, shaped, entriesOf};
 ghost use Rattle.detection_shelf.specs.Bodies.{tableOfBody};
 ghost use Rattle.replay_tables.specs.Told.{entryTold, tableTold};
 use questions::hex::put_byte;
@@ -32,7 +32,7 @@ fn tell_entry(body: &[u8], at: usize, len: usize, out: &mut [u8], to: usize) -> 
 
 // The table of a sound body, and a newline, written from the front; answers where they end.
 pub fn put_table(body: &[u8], out: &mut [u8]) -> usize
-    requires { ⌜ (soundTable (now body) (entriesOf (now body)) ≡ true) × (2 * length (now body) + 1 ≤ length (now out)) ⌝ }
+    requires { ⌜ (shaped (now body) (entriesOf (now body)) ≡ true) × (2 * length (now body) + 1 ≤ length (now out)) ⌝ }
     ensures { λ r. ⌜ InFront (tableTold (tableOfBody (now (body .entry)))) r (now (out .exit)) ⌝ }
 {
     let total = read_u32(body, 0);

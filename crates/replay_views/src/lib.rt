@@ -4,6 +4,7 @@ ghost use mathlib.Core.Path.{_≡_};
 ghost use Prim.Native.Nat.{_+_, _*_, _≤_};
 ghost use lib.ListN.{length};
 ghost use Rattle.lists.specs.Wrote.{InFront};
+ghost use Rattle.rules.specs.Points.{encoded};
 ghost use Rattle.rules.specs.Passes.{aggressive};
 ghost use Rattle.rules.specs.Search.{viewed};
 ghost use Rattle.slices.specs.Classes.{Classes, classTable};
@@ -32,7 +33,7 @@ fn put_view(
 ) -> usize
     requires { ⌜ Classes (now class) × Laid n lines (now area) (now words) × (2 * length (now area) + 2 ≤ length (now out)) ⌝ }
     requires { ⌜ (v .start ≤ v .end) × (v .end ≤ lines) ⌝ }
-    ensures { λ r. ⌜ InFront (told (aggressive (viewed (linesAt (now (area .entry)) (now (words .entry)) lines) v))) r (now (out .exit)) ⌝ }
+    ensures { λ r. ⌜ InFront (told (encoded (aggressive (viewed (linesAt (now (area .entry)) (now (words .entry)) lines) v)))) r (now (out .exit)) ⌝ }
 {
     let p = process(class, area, words, n, lines, v);
     let a = p.start;
@@ -50,11 +51,12 @@ fn answer_view(
     area: &mut [u8; 16448],
     words: &mut [u32; 24640],
     out: &mut [u8; 98305],
+    edition: u32,
 ) -> usize
-    requires { ⌜ (now class ≡ classTable 1) × (length (now text) ≤ 2048) ⌝ }
-    ensures { λ r. ⌜ InFront (answerTo start end (now (text .entry))) r (now (out .exit)) ⌝ }
+    requires { ⌜ (now class ≡ classTable edition) × (length (now text) ≤ 2048) ⌝ }
+    ensures { λ r. ⌜ InFront (answerTo edition start end (now (text .entry))) r (now (out .exit)) ⌝ }
 {
-    if !view_fits(text, start, end) {
+    if !view_fits(text, start, end, edition) {
         return 0;
     }
     let lines = lay(class, text, area, words);
@@ -77,14 +79,15 @@ fn answer_words(
     area: &mut [u8; 16448],
     words: &mut [u32; 24640],
     out: &mut [u8; 98305],
+    edition: u32,
 ) -> usize
-    requires { ⌜ (now class ≡ classTable 1) × (length (now text) ≡ 2048) ⌝ }
-    ensures { λ r. ⌜ InFront (answerIn (now (line .entry))) r (now (out .exit)) ⌝ }
+    requires { ⌜ (now class ≡ classTable edition) × (length (now text) ≡ 2048) ⌝ }
+    ensures { λ r. ⌜ InFront (answerIn edition (now (line .entry))) r (now (out .exit)) ⌝ }
 {
     let start = number_at(line, 1) as usize;
     let end = number_at(line, 2) as usize;
     let n = text_at(line, 3, text);
-    answer_view(class, &text[..n], start, end, area, words, out)
+    answer_view(class, &text[..n], start, end, area, words, out, edition)
 }
 
 // The answer to a question, written from the front; answers where it ends. Another question gets none.
@@ -95,12 +98,13 @@ pub fn answer(
     area: &mut [u8; 16448],
     words: &mut [u32; 24640],
     out: &mut [u8; 98305],
+    edition: u32,
 ) -> usize
-    requires { ⌜ now class ≡ classTable 1 ⌝ }
-    ensures { λ r. ⌜ InFront (answerOf (now (line .entry))) r (now (out .exit)) ⌝ }
+    requires { ⌜ now class ≡ classTable edition ⌝ }
+    ensures { λ r. ⌜ InFront (answerOf edition (now (line .entry))) r (now (out .exit)) ⌝ }
 {
     if !starts_with(line, 0, b"view ") {
         return 0;
     }
-    answer_words(class, line, text, area, words, out)
+    answer_words(class, line, text, area, words, out, edition)
 }

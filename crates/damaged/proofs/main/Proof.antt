@@ -62,6 +62,12 @@ edition-numbers-requires c κs = search needs
 edition-places-requires : tie.Need-edition-places-requires Inv-loop μ-loop
 edition-places-requires c κs = search needs
 
+accent-letters-requires : tie.Need-accent-letters-requires Inv-loop μ-loop
+accent-letters-requires c κs = search needs
+
+accent-bytes-requires : tie.Need-accent-bytes-requires Inv-loop μ-loop
+accent-bytes-requires c κs = search needs
+
 limit-of-texts-requires : tie.Need-limit-of-texts-requires Inv-loop μ-loop
 limit-of-texts-requires c κs = search needs
 
@@ -91,5 +97,7 @@ main-spec =
     terms-requires
     edition-numbers-requires
     edition-places-requires
+    accent-letters-requires
+    accent-bytes-requires
     limit-of-texts-requires
     returns)

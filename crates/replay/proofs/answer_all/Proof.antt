@@ -7,11 +7,11 @@ use Rattle.replay.proofs.answer_all.Statement.{statement}
 use Rattle.replay.proofs.answer_all.Tie as tie
 
 abbrev Inv-loop : tie.InvT-loop
-Inv-loop all text₀ licence₀ book₀ area₀ words₀ body₀ results₀ book-end₀ at₀ text licence book area words body results book-end at =
+Inv-loop all text₀ licence₀ book₀ area₀ words₀ body₀ results₀ book-end₀ edition₀ at₀ text licence book area words body results book-end edition at =
     (at ≤ length all + 1) × (book-end ≤ 65536)
 
 abbrev μ-loop : tie.MeasureT-loop
-μ-loop all text₀ licence₀ book₀ area₀ words₀ body₀ results₀ book-end₀ at₀ text licence book area words body results book-end at =
+μ-loop all text₀ licence₀ book₀ area₀ words₀ body₀ results₀ book-end₀ edition₀ at₀ text licence book area words body results book-end edition at =
     length all + 1 - at
 
 pub answer-all-spec : {M : Type 1} → statement M
@@ -27,6 +27,10 @@ answer-all-spec =
     (λ c κs. search needs)
     (λ c κs. search needs)
     (λ c κs. search needs)
+    (λ c. search needs)
+    (λ c κs. search needs)
+    (λ c. search needs)
+    (λ c. search needs)
     (λ c. search needs)
     (λ c κs. search needs)
     (λ c. search needs)

@@ -33,7 +33,7 @@ returns-4 c =
     let a = start worked .args in
     let k = worked .compile in
     let z = fits .if2 .left in
-    ((omega arith, search needs), grown (a .at) (a .kind) _ _ _ (omega arith) _ _ (search needs) (compiled-length _ _ _ _ _ _ _ _ (k .ensures) z) (compiled-front _ _ _ _ _ _ _ _ (k .ensures) z) (put .put-head .ensures))
+    ((omega arith, search needs), grown (a .at) (a .kind) _ _ _ (omega arith) _ _ (search needs) (compiled-length _ _ _ _ _ _ _ _ _ (k .ensures) z) (compiled-front _ _ _ _ _ _ _ _ _ (k .ensures) z) (put .put-head .ensures))
 
 pub put-text-spec : {M : Type 1} → statement M
 put-text-spec =

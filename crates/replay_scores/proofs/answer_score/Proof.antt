@@ -24,13 +24,13 @@ module _ (k : tie.Else1) where
   begin = start worked
 
   -- what compile wrote
-  written : TableMade (now (begin .args .licence)) (worked .compile .result .len) (worked .compile .last .1 .1 .1 .1 .0)
+  written : TableMade (begin .args .edition) (now (begin .args .licence)) (worked .compile .result .len) (worked .compile .last .1 .1 .1 .1 .0)
   written = made (worked .compile .ensures) (omega arith) (omega arith) (begin .pre .2) (k .if1 .left)
 
 returns : tie.Need-returns
 returns c =
     let done : tie.After-compile = search in
-    front-none (no-licence _ _ _ _ (not-made (done .compile .ensures) (omega arith) (omega arith) (start done .pre .2) (c .if1 .taken)))
+    front-none (no-licence _ _ _ _ _ (not-made (done .compile .ensures) (omega arith) (omega arith) (start done .pre .2) (c .if1 .taken)))
 
 slice-reshare-prefix-answer-view : tie.Need-slice-reshare-prefix-answer-view
 slice-reshare-prefix-answer-view c =
@@ -53,7 +53,7 @@ returns-2 c =
     let k : tie.Else1 = search in
     let w = written k in
     let s = begin k .args in
-    rw (right-licence (s .start) (s .end) (now (s .text)) (now (s .licence)) (w .here), ← w .table) (c .answer-view .ensures)
+    rw (right-licence (s .edition) (s .start) (s .end) (now (s .text)) (now (s .licence)) (w .here), ← w .table) (c .answer-view .ensures)
 
 pub answer-score-spec : {M : Type 1} → statement M
 answer-score-spec =

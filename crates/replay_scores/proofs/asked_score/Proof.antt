@@ -29,7 +29,7 @@ returns c =
     let s = c .before .before .before .before .before .before .before .before .before .before .before .before .before .before .before .before .before .before .before .before in
     let a = rw (s .pre .1) at u in
     let b = rw (s .pre .2) at l in
-    rw (← score-asked (now (s .args .line)) _ _ _ _ (m .before .number-at .ensures) (m .number-at2 .ensures) a b) (c .answer-score .ensures)
+    rw (← score-asked (s .args .edition) (now (s .args .line)) _ _ _ _ (m .before .number-at .ensures) (m .number-at2 .ensures) a b) (c .answer-score .ensures)
 
 pub asked-score-spec : {M : Type 1} → statement M
 asked-score-spec =

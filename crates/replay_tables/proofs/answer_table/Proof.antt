@@ -23,13 +23,13 @@ module _ (k : tie.Else1) where
   begin = start worked
 
   -- what compile wrote
-  written : TableMade (now (begin .args .text)) (worked .compile .result .len) (worked .compile .last .1 .1 .1 .1 .0)
+  written : TableMade (begin .args .edition) (now (begin .args .text)) (worked .compile .result .len) (worked .compile .last .1 .1 .1 .1 .0)
   written = made (worked .compile .ensures) (omega arith) (omega arith) (begin .pre) (k .if1 .left)
 
 returns : tie.Need-returns
 returns c =
     let done : tie.After-compile = search in
-    front-none (no-table _ (not-made (done .compile .ensures) (omega arith) (omega arith) (start done .pre) (c .if1 .taken)))
+    front-none (no-table _ _ (not-made (done .compile .ensures) (omega arith) (omega arith) (start done .pre) (c .if1 .taken)))
 
 slice-reshare-prefix-put-table : tie.Need-slice-reshare-prefix-put-table
 slice-reshare-prefix-put-table c = written c .within
@@ -48,7 +48,7 @@ returns-2 : tie.Need-returns-2
 returns-2 c =
     let k : tie.Else1 = search in
     let w = written k in
-    rw (right-table (now (begin k .args .text)) (w .here), ← w .table) (c .put-table .ensures)
+    rw (right-table _ (now (begin k .args .text)) (w .here), ← w .table) (c .put-table .ensures)
 
 pub answer-table-spec : {M : Type 1} → statement M
 answer-table-spec =

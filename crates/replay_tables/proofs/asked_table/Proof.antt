@@ -15,7 +15,7 @@ returns : tie.Need-returns
 returns c =
     let s = c .before .before .before .before .before .before .before .before .before .before .before .before in
     let a = rw (s .pre) at (c .before .before .before .before .before .before .before .before .text-at .ensures .bytes) in
-    rw (← table-asked (now (s .args .line)) _ a) (c .answer-table .ensures)
+    rw (← table-asked _ (now (s .args .line)) _ a) (c .answer-table .ensures)
 
 pub asked-table-spec : {M : Type 1} → statement M
 asked-table-spec =

@@ -23,7 +23,7 @@ returns c =
     let m = c .before .before .before .before .before .before .before .before .before in
     let s = c .before .before .before .before .before .before .before .before .before .before .before .before .before in
     let t = rw (s .pre .1) at (c .before .before .before .before .before .before .before .text-at .ensures .bytes) in
-    rw (← view-asked (now (s .args .line)) _ _ _ (m .before .number-at .ensures) (m .number-at2 .ensures) t) (c .answer-view .ensures)
+    rw (← view-asked (s .args .edition) (now (s .args .line)) _ _ _ (m .before .number-at .ensures) (m .number-at2 .ensures) t) (c .answer-view .ensures)
 
 pub answer-words-spec : {M : Type 1} → statement M
 answer-words-spec =

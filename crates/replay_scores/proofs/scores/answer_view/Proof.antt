@@ -8,6 +8,7 @@ use borrow.Author.Tests.{not-true, not-false}
 use Rattle.detection_shelf.specs.Bodies.{tableOfBody}
 use Rattle.questions_fit.specs.Views.{viewFits}
 use Rattle.slices.proofs.KindLaws.{edition-classes}
+use Rattle.preproc_test.proofs.CountLaws.{passed-text}
 use Rattle.license_notes.proofs.LaidLaws.{noted-lines}
 use Rattle.questions.proofs.PutLaws.{front-none}
 use Rattle.questions_fit.proofs.FitLaws.{fits}
@@ -22,7 +23,7 @@ module _ (f : tie.Else1) where
   abbrev start : tie.Start
   start = f .before .before .before .before .before
 
-  fit : viewFits (start .args .start) (start .args .end) (now (start .args .text)) ≡ true
+  fit : viewFits (start .args .edition) (start .args .start) (start .args .end) (now (start .args .text)) ≡ true
   fit = sym (f .before .view-fits .ensures) ∙ not-false _ (f .if1 .left)
 
 module _ (v : tie.After-view-table) where
@@ -37,20 +38,20 @@ module _ (g : tie.After-charge-exact) where
   tabled = g .before .before .before .before .before .before
 
 returns : tie.Need-returns
-returns c = front-none (no-view _ _ _ _ (sym (c .before .view-fits .ensures) ∙ not-true _ (c .if1 .taken)))
+returns c = front-none (no-view _ _ _ _ _ (sym (c .before .view-fits .ensures) ∙ not-true _ (c .if1 .taken)))
 
 lay-requires : tie.Need-lay-requires
 lay-requires c κs =
     let e = c .before .before in
     let s = start e in
-    (edition-classes 1 (s .pre .0), fits _ _ _ (fit e) .passes, omega (arith, s .pre .1), omega (arith, s .pre .1))
+    (edition-classes _ (s .pre .0), passed-text _ _ (fits _ _ _ _ (fit e) .passes), omega (arith, s .pre .1), omega (arith, s .pre .1))
 
 view-table-requires : tie.Need-view-table-requires
 view-table-requires c κs =
     let l = c .before .before in
     let e = l .before .before .before in
-    let f = fits _ _ _ (fit e) in
-    ((edition-classes 1 (start e .pre .0), l .lay .ensures .0), (f .order, omega (arith, f .within, l .lay .ensures .1 .1)))
+    let f = fits _ _ _ _ (fit e) in
+    ((edition-classes _ (start e .pre .0), l .lay .ensures .0), (f .order, omega (arith, f .within, l .lay .ensures .1 .1)))
 
 charge-exact-requires : tie.Need-charge-exact-requires
 charge-exact-requires c κs =
@@ -69,8 +70,8 @@ returns-2 c =
     let v = tabled g in
     let begin = start (fitted v) in
     let s = begin .args in
-    let lines = noted-lines 1 1 (now (s .class)) (now (s .text)) _ refl (begin .pre .0) (laid v .lay .ensures .1 .0) in
-    let e = right-view (s .start) (s .end) (now (s .text)) (tableOfBody (now (s .body))) (fit (fitted v)) in
+    let lines = noted-lines (s .edition) (s .edition) (now (s .class)) (now (s .text)) _ refl (begin .pre .0) (laid v .lay .ensures .1 .0) in
+    let e = right-view (s .edition) (s .start) (s .end) (now (s .text)) (tableOfBody (now (s .body))) (fit (fitted v)) in
     rw (e, ← lines, ← v .view-table .ensures .1 .0, ← g .charge-exact .ensures .0) (c .before .before .put-score .ensures)
 
 pub answer-view-spec : {M : Type 1} → statement M
