@@ -1,2 +1,4 @@
 pub mod AnswerLaws
+pub mod AnyLaws
 pub mod OldBookLaws
+pub mod AsciiLaws

@@ -1,5 +1,5 @@
--- A book as it was before there were editions: what was sound then is sound now (`old-sound`). Its stored texts are read by definitions that have no
--- edition in them, so they are the same.
+-- A book as it was before there were editions: what was sound then, with words of ASCII, is sound now (`old-sound`). Its stored texts are read by
+-- definitions that have no edition in them, so they are the same.
 -- Assumes nothing.
 use mathlib.Core.Path.{_≡_, refl}
 use mathlib.Core.Bool.{Bool, true, false, not, _&&_, _||_, cond, false≢true}
@@ -11,15 +11,17 @@ use lib.ListN.{length}
 use borrow.Author.Tests.{eqb-true}
 use Rattle.rules.specs.Sizes.{bookMost, storedMost}
 use Rattle.rules.specs.Bytes.{within, rises}
-use Rattle.rules.specs.Book.{Record, recordsOf, entriesOf, soundTable, soundName, storedKind, soundBody, follows, soundRecords, stored, filled, sound}
+use Rattle.rules.specs.Points.{wide}
+use Rattle.rules.specs.Book.{Record, recordsOf, entriesOf, soundTable, soundName, storedKind, soundBody, follows, soundRecords, stored, edition, filled, sound}
 use Rattle.rules.proofs.BoolLaws.{and-left, and-right, and-both}
+use Rattle.chultarvi.proofs.AnyLaws.{any-records}
 
 -- ---- soundness without kind 6
 abbrev pub oldFollows : ℕ → ℕ → Bool
 oldFollows a b = cond (eqb b 1) (not (eqb a 1)) (cond (eqb b 2) (eqb a 1) (within 3 5 b && within 2 b a))
 
 abbrev pub oldBody : Record → Bool
-oldBody r = cond (storedKind (r .kind)) (soundTable (r .body) (entriesOf (r .body))) (soundName (r .body))
+oldBody r = cond (storedKind (r .kind)) (soundTable false (r .body) (entriesOf (r .body))) (soundName (r .body))
 
 pub oldRecords : ℕ → List ℕ → List Record → Bool
 oldRecords a name [] = not (eqb a 1)
@@ -46,11 +48,11 @@ module _ (a : ℕ) (r : Record) (six : eqb (r .kind) 6 ≡ false) where
   unfolding follows
   same-follows = rw six
 
-  same-body : soundBody r ≡ oldBody r
+  same-body : soundBody false r ≡ oldBody r
   unfolding soundBody
   same-body = rw six
 
-old-records : (a : ℕ) (name : List ℕ) (rs : List Record) → oldRecords a name rs ≡ true → soundRecords a name rs ≡ true
+old-records : (a : ℕ) (name : List ℕ) (rs : List Record) → oldRecords a name rs ≡ true → soundRecords false a name rs ≡ true
 unfolding oldRecords soundRecords
 old-records a name [] h = h
 old-records a name (r ∷ rs) h =
@@ -80,10 +82,11 @@ old-sound book h =
     let size = leb (length book) bookMost in
     let few = leb (length (stored book)) storedMost in
     let front = and-left (size && oldFilled (recordsOf book)) few h in
-    and-both (size && filled (recordsOf book)) few
-    (and-both size (filled (recordsOf book)) (and-left size (oldFilled (recordsOf book)) front) (at (recordsOf book) (and-right size (oldFilled (recordsOf book)) front)))
+    let now = filled (wide (edition book)) (recordsOf book) in
+    and-both (size && now) few
+    (and-both size now (and-left size (oldFilled (recordsOf book)) front) (at (recordsOf book) (and-right size (oldFilled (recordsOf book)) front)))
     (and-right (size && oldFilled (recordsOf book)) few h)
   where
-    at : (o : Option (List Record)) → oldFilled o ≡ true → filled o ≡ true
+    at : (o : Option (List Record)) → oldFilled o ≡ true → filled (wide (edition book)) o ≡ true
     at none k = k
-    at (some rs) k = old-records 0 [] rs k
+    at (some rs) k = any-records (wide (edition book)) 0 [] rs (old-records 0 [] rs k)

@@ -1,17 +1,19 @@
--- How long what compile writes can be: 24n + 64 bytes are enough for a text of n bytes (`compiled-fits`).
+-- How long what compile writes can be: 24n + 64 bytes are enough for a text of n bytes that an edition takes (`compiled-fits`).
 -- Assumes nothing.
 use mathlib.Core.Path.{_≡_}
+use mathlib.Core.Bool.{true, false}
 use mathlib.Core.List.{List, [], _∷_}
 use Prim.Native.Nat.{ℕ, suc, _+_, _*_, _≤_, Ordering, Ordering·lt, Ordering·eq, Ordering·gt}
 use native.Mathlib.Omega.{arith}
 use lib.ListN.{length, length-append}
 use Rattle.rules.specs.Bytes.{order, split}
-use Rattle.rules.specs.Lines.{lines, size}
+use Rattle.rules.specs.Points.{utf8, encoded}
+use Rattle.rules.specs.Lines.{lines}
 use Rattle.rules.specs.Passes.{aggressive}
 use Rattle.rules.specs.Prefix.{Counted}
 use Rattle.rules.specs.Table.{pairs, bigrams, tally, tallied, tableOf, viewTable}
 use Rattle.rules.specs.Book.{entriesOut, tableOut, compiled}
-use Rattle.rules.proofs.GrowthLaws.{split-size, aggressive-length, lines-size}
+use Rattle.rules.proofs.GrowthLaws.{sizeBy, one, one-length, split-size, aggressive-length, lines-size}
 use Rattle.records.proofs.NumberLaws.{length-written}
 
 -- ---- entries: eight bytes and the bigram's own each
@@ -45,17 +47,17 @@ tallied-long [] = omega arith
 tallied-long (g ∷ gs) = omega (arith, tally-long g (tallied gs), tallied-long gs)
 
 -- each word stands in two bigrams
-pairs-bulk : (a : List ℕ) (ws : List (List ℕ)) → bulk (pairs (a ∷ ws)) + length a ≤ 9 * size (a ∷ ws)
-unfolding pairs bulk size
-pairs-bulk a [] = omega arith
-pairs-bulk a (b ∷ ws) = omega (arith, length-append a (32 ∷ b), pairs-bulk b ws)
+pairs-bulk : (a : List ℕ) (ws : List (List ℕ)) → bulk (pairs (a ∷ ws)) + length a ≤ 9 * sizeBy (λ x. 1) (a ∷ ws)
+unfolding pairs bulk sizeBy
+pairs-bulk a [] = omega (arith, one-length a)
+pairs-bulk a (b ∷ ws) = omega (arith, one-length a, length-append a (32 ∷ b), pairs-bulk b ws)
 
 bigrams-bulk : (s : List ℕ) → bulk (bigrams s) ≤ 9 * suc (length s)
 unfolding bigrams
-bigrams-bulk s = at (split 32 s) (split-size 32 s)
+bigrams-bulk s = at (split 32 s) (omega (arith, split-size one 32 (omega arith) s, one-length s))
   where
-    at : (ws : List (List ℕ)) → size ws ≡ suc (length s) → bulk (pairs ws) ≤ 9 * suc (length s)
-    at [] e = absurd (unfold size in omega arith)
+    at : (ws : List (List ℕ)) → sizeBy (λ x. 1) ws ≡ suc (length s) → bulk (pairs ws) ≤ 9 * suc (length s)
+    at [] e = absurd (unfold sizeBy in omega arith)
     at (w ∷ ws) e = omega (arith, pairs-bulk w ws)
 
 table-long : (s : List ℕ) → length (tableOut (tableOf (bigrams s))) ≤ 8 + 9 * suc (length s)
@@ -64,6 +66,6 @@ table-long s =
     rw (length-append, length-append, length-written 4 (length (bigrams s)), length-written 4 (length (tallied (bigrams s))))
     (omega (arith, tallied-long (bigrams s), bigrams-bulk s))
 
-pub compiled-fits : (e : ℕ) (t : List ℕ) → length (compiled e t) ≤ 24 * length t + 64
+pub compiled-fits : (e : ℕ) (t : List ℕ) → utf8 false t ≡ true → length (compiled e t) ≤ 24 * length t + 64
 unfolding compiled viewTable
-compiled-fits e t = omega (arith, table-long (aggressive (lines e t)), aggressive-length (lines e t), lines-size e t)
+compiled-fits e t u = omega (arith, table-long (encoded (aggressive (lines e t))), aggressive-length (lines e t), lines-size e t u)

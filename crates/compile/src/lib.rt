@@ -7,8 +7,8 @@ ghost use lib.Dec.{ltb};
 ghost use lib.ListN.{length, replicate};
 ghost use Rattle.rules.specs.Sizes.{byteArea, wordArea};
 ghost use Rattle.rules.specs.Book.{tableOut, compiled};
-ghost use Rattle.rules.specs.Refusal.{refusal, ofText};
 ghost use Rattle.rules.specs.Jobs.{CompileDone};
+ghost use Rattle.preproc_test.specs.Counts.{Passed};
 ghost use Rattle.license_views.specs.Tabled.{Tabled, tableOver};
 ghost use Rattle.compile.specs.Bodied.{Bodied};
 use license_notes::clear;
@@ -61,7 +61,7 @@ pub fn compile_through(
     words: &mut [u32],
     out: &mut [u8],
 ) -> Compiled
-    requires { ⌜ (refusal (ofText (now text)) ≡ 0) × (byteArea (length (now text)) ≤ length (now area)) × (wordArea (length (now text)) ≤ length (now words)) ⌝ }
+    requires { ⌜ Passed (now text) × (byteArea (length (now text)) ≤ length (now area)) × (wordArea (length (now text)) ≤ length (now words)) ⌝ }
     ensures body { λ r. ⌜ Bodied (compiled edition (now (text .entry))) (now (out .entry)) r (now (out .exit)) ⌝ }
     ensures bytes { λ r. ⌜ now (area .exit) ≡ replicate (length (now (area .entry))) 0 ⌝ }
     ensures words { λ r. ⌜ now (words .exit) ≡ replicate (length (now (words .entry))) 0 ⌝ }

@@ -8,22 +8,14 @@ ghost use lib.Dec.{eqb, ltb};
 ghost use lib.ListN.{length, drop};
 ghost use Rattle.rules.specs.Bytes.{within as withinB, split, rises};
 ghost use Rattle.rules.specs.Book.{number, twoTerms, entriesOf, soundTable, soundName};
-ghost use Rattle.detection_bodies.specs.Terms.{termByte};
+use detection_terms::two_terms;
+use detection_terms::within;
 use records::numbers::read_u32;
 use records::pieces::EntryAt;
 use records::pieces::entry_at;
 use rules::NAME_MOST;
 use rules::TOTAL_MOST;
 use slices_order::above;
-
-pub fn within(lo: u16, hi: u16, x: u16) -> bool
-    ensures { λ r. ⌜ r ≡ withinB lo hi x ⌝ }
-{
-    if x < lo {
-        return false;
-    }
-    x <= hi
-}
 
 // 1 to 64 bytes of 33 to 126.
 pub fn name_sound(s: &[u8]) -> bool
@@ -51,59 +43,14 @@ fn printed(x: u8) -> bool
     within(33, 126, x as u16)
 }
 
-// a-z, 0-9 and `_`.
-fn is_term(x: u8) -> bool
-    ensures { λ r. ⌜ r ≡ termByte x ⌝ }
-{
-    if within(97, 122, x as u16) {
-        return true;
-    }
-    if within(48, 57, x as u16) {
-        return true;
-    }
-    x == 95
-}
-
-// Two non-empty runs of these with one space between. `second`: the space is passed; `some`: the run is not empty so far.
-fn two_terms(s: &[u8]) -> bool
-    ensures { λ r. ⌜ r ≡ twoTerms (split 32 (now (s .entry))) ⌝ }
-{
-    let mut second = false;
-    let mut some = false;
-    let mut i = 0;
-    while i < s.len() {
-        let x = s[i];
-        i += 1;
-        if x == 32 {
-            if second {
-                return false;
-            }
-            if !some {
-                return false;
-            }
-            second = true;
-            some = false;
-            continue;
-        }
-        if !is_term(x) {
-            return false;
-        }
-        some = true;
-    }
-    if second {
-        return some;
-    }
-    false
-}
-
-// An entry of a table after the entry `last`, which is empty for the first.
-fn entry_sound(last: &[u8], count: u32, bytes: &[u8]) -> bool
-    ensures { λ r. ⌜ r ≡ (ltb 0 count && twoTerms (split 32 (now (bytes .entry))) && rises (now (last .entry)) (now (bytes .entry))) ⌝ }
+// An entry of a table after the entry `last`, which is empty for the first. `wide`: its words may be UTF-8.
+fn entry_sound(wide: bool, last: &[u8], count: u32, bytes: &[u8]) -> bool
+    ensures { λ r. ⌜ r ≡ (ltb 0 count && twoTerms wide (split 32 (now (bytes .entry))) && rises (now (last .entry)) (now (bytes .entry))) ⌝ }
 {
     if count == 0 {
         return false;
     }
-    if !two_terms(bytes) {
+    if !two_terms(wide, bytes) {
         return false;
     }
     above(last, bytes)
@@ -122,8 +69,8 @@ fn totals_are(body: &[u8], sum: u64, entries: u64) -> bool
 
 // The entry before the one at `at` is body[last..at]: the empty part stands before the first. The sum is tested before the next
 // is added, so it never wraps, whatever the body.
-pub fn table_sound(body: &[u8]) -> bool
-    ensures { λ r. ⌜ r ≡ soundTable (now (body .entry)) (entriesOf (now (body .entry))) ⌝ }
+fn walk_table(wide: bool, body: &[u8]) -> bool
+    ensures { λ r. ⌜ r ≡ soundTable wide (now (body .entry)) (entriesOf (now (body .entry))) ⌝ }
 {
     if body.len() < 8 {
         return false;
@@ -136,7 +83,7 @@ pub fn table_sound(body: &[u8]) -> bool
         match entry_at(body, at) {
             EntryAt::Whole(count, start, len) => {
                 let end = start + len;
-                if !entry_sound(&body[last..at], count, &body[start..end]) {
+                if !entry_sound(wide, &body[last..at], count, &body[start..end]) {
                     return false;
                 }
                 sum += count as u64;
@@ -151,4 +98,14 @@ pub fn table_sound(body: &[u8]) -> bool
             EntryAt::Broken => return false,
         }
     }
+}
+
+// Called by a constant: so the walk, which most of a check is, is compiled by itself and not amid the check of a whole book.
+pub fn table_sound(wide: bool, body: &[u8]) -> bool
+    ensures { λ r. ⌜ r ≡ soundTable wide (now (body .entry)) (entriesOf (now (body .entry))) ⌝ }
+{
+    if wide {
+        return walk_table(true, body);
+    }
+    walk_table(false, body)
 }

@@ -16,8 +16,9 @@ use lib.ListN.{length, take, drop}
 use borrow.Author.Tests.{le-leb, lt-leb, eq-eqb, ne-eqb}
 use Rattle.rules.specs.declared.Checked.{Checked}
 use Rattle.rules.specs.Sizes.{bookMost, storedMost}
+use Rattle.rules.specs.Points.{wide}
 use Rattle.rules.specs.Search.{Stored}
-use Rattle.rules.specs.Book.{Record, recordsOf, also, storedKind, soundRecords, storedIn, storedOf, storedFrom, stored, filled, sound}
+use Rattle.rules.specs.Book.{Record, recordsOf, also, storedKind, soundRecords, storedIn, storedOf, storedFrom, stored, edition, filled, sound}
 use Rattle.rules.specs.Refusal.{refusal, ofCheck}
 use Rattle.rules.specs.Jobs.{check}
 use Rattle.rules.proofs.SoundLaws.{book-too-long}
@@ -59,28 +60,28 @@ texts-cons n r rs =
     ap (λ (k : ℕ). n + k) (texts-length (r ∷ rs) 0 []) ∙ counted-add t n (texts rs) ∙ ap (λ (k : ℕ). counted t n + k) (sym (texts-length rs 0 []))
 
 -- ---- the verdict
-module _ (a : ℕ) (name : List ℕ) (n : ℕ) (r : Record) where
-  pub verdict-next : (o : Option (List Record)) → recordSound a name r ≡ true →
-      bookVerdict a name n (also r o) ≡ bookVerdict (r .kind) (cond (eqb (r .kind) 1) (r .body) name) (counted (storedKind (r .kind)) n) o
+module _ (w : Bool) (a : ℕ) (name : List ℕ) (n : ℕ) (r : Record) where
+  pub verdict-next : (o : Option (List Record)) → recordSound w a name r ≡ true →
+      bookVerdict w a name n (also r o) ≡ bookVerdict w (r .kind) (cond (eqb (r .kind) 1) (r .body) name) (counted (storedKind (r .kind)) n) o
   unfolding bookVerdict also soundRecords recordSound
   verdict-next none h = refl
   verdict-next (some rs) h = rw (h, texts-cons n r rs)
 
-  pub verdict-bad : (o : Option (List Record)) → recordSound a name r ≡ false → bookVerdict a name n (also r o) ≡ refused
+  pub verdict-bad : (o : Option (List Record)) → recordSound w a name r ≡ false → bookVerdict w a name n (also r o) ≡ refused
   unfolding bookVerdict also soundRecords recordSound
   verdict-bad none h = refl
   verdict-bad (some rs) h = rw h
 
-  pub verdict-over : (o : Option (List Record)) → storedMost < counted (storedKind (r .kind)) n → bookVerdict a name n (also r o) ≡ refused
+  pub verdict-over : (o : Option (List Record)) → storedMost < counted (storedKind (r .kind)) n → bookVerdict w a name n (also r o) ≡ refused
   unfolding bookVerdict also
   verdict-over none h = refl
   verdict-over (some rs) h =
       let all = n + length (storedIn 0 [] (r ∷ rs)) in
       rw (lt-leb all storedMost (omega (arith, texts-cons n r rs)), and-false)
 
-pub verdict-end : (a : ℕ) (name : List ℕ) (n : ℕ) → n ≤ storedMost → bookVerdict a name n (some []) ≡ cond (not (eqb a 1)) (found n) refused
+pub verdict-end : (w : Bool) (a : ℕ) (name : List ℕ) (n : ℕ) → n ≤ storedMost → bookVerdict w a name n (some []) ≡ cond (not (eqb a 1)) (found n) refused
 unfolding bookVerdict soundRecords storedIn
-verdict-end a name n h = rw (add-zero n, le-leb n storedMost h) (at (not (eqb a 1)))
+verdict-end w a name n h = rw (add-zero n, le-leb n storedMost h) (at (not (eqb a 1)))
   where
     at : (t : Bool) → cond (t && true) (found n) refused ≡ cond t (found n) refused
     at true = refl
@@ -103,15 +104,15 @@ pub verdict-long : (book : List ℕ) → bookMost < length book → check book �
 unfolding answer
 verdict-long book h = check-is book ∙ rw (book-too-long book h)
 
-pub verdict-start : (book : List ℕ) → length book ≤ bookMost → check book ≡ bookVerdict 0 [] 0 (recordsOf book)
+pub verdict-start : (book : List ℕ) → length book ≤ bookMost → check book ≡ bookVerdict (wide (edition book)) 0 [] 0 (recordsOf book)
 unfolding sound stored storedFrom filled storedOf bookVerdict
 verdict-start book h = check-is book ∙ rw (le-leb (length book) bookMost h) (at (recordsOf book))
   where
-    at : (o : Option (List Record)) → answer (true && filled o && leb (length (storedOf 0 o)) storedMost) (length (storedOf 0 o)) ≡ bookVerdict 0 [] 0 o
+    at : (o : Option (List Record)) → answer (true && filled (wide (edition book)) o && leb (length (storedOf 0 o)) storedMost) (length (storedOf 0 o)) ≡ bookVerdict (wide (edition book)) 0 [] 0 o
     at none = answer-is false 0
     at (some rs) =
         let all = length (storedIn 0 [] rs) in
-        answer-is (soundRecords 0 [] rs && leb all storedMost) all ∙ rw (zero-add all)
+        answer-is (soundRecords (wide (edition book)) 0 [] rs && leb all storedMost) all ∙ rw (zero-add all)
 
 -- ---- a step of the walk
 module _ (book : List ℕ) (w : Walk) (kind start len : ℕ) where
@@ -128,11 +129,11 @@ module _ (book : List ℕ) (w : Walk) (kind start len : ℕ) where
   abbrev Stepping : Step → Type 0
   Stepping r = Stepped book w (verdictBefore book w this (start + len)) r
 
-  pub step-bad : (c : Checked) → c ≡ refused → recordSound (w .kind) (nameIn book w) lentRecord ≡ false → Stepping (Done c)
+  pub step-bad : (c : Checked) → c ≡ refused → recordSound (w .wide) (w .kind) (nameIn book w) lentRecord ≡ false → Stepping (Done c)
   unfolding verdictOf verdictBefore
   step-bad c e h =
       record {
-        same = e ∙ sym (verdict-bad (w .kind) (nameIn book w) (w .texts) this (recordsOf (drop (start + len) book)) (rw same at h));
+        same = e ∙ sym (verdict-bad (w .wide) (w .kind) (nameIn book w) (w .texts) this (recordsOf (drop (start + len) book)) (rw same at h));
         on = ended c;
       }
 
@@ -140,31 +141,31 @@ module _ (book : List ℕ) (w : Walk) (kind start len : ℕ) where
   unfolding verdictOf verdictBefore
   step-over c n e q h =
       record {
-        same = e ∙ sym (verdict-over (w .kind) (nameIn book w) (w .texts) this (recordsOf (drop (start + len) book)) (omega arith));
+        same = e ∙ sym (verdict-over (w .wide) (w .kind) (nameIn book w) (w .texts) this (recordsOf (drop (start + len) book)) (omega arith));
         on = ended c;
       }
 
-  module _ (n : ℕ) (q : n ≡ counted (storedKind kind) (w .texts)) (most : n ≤ storedMost) (h : recordSound (w .kind) (nameIn book w) lentRecord ≡ true)
+  module _ (n : ℕ) (q : n ≡ counted (storedKind kind) (w .texts)) (most : n ≤ storedMost) (h : recordSound (w .wide) (w .kind) (nameIn book w) lentRecord ≡ true)
       (within : Within book w) (later : w .at < start + len) (fits : start + len ≤ length book) where
     moved : verdictBefore book w this (start + len) ≡
-        bookVerdict kind (cond (eqb kind 1) (take len (drop start book)) (nameIn book w)) n (recordsOf (drop (start + len) book))
+        bookVerdict (w .wide) kind (cond (eqb kind 1) (take len (drop start book)) (nameIn book w)) n (recordsOf (drop (start + len) book))
     unfolding verdictBefore
     moved =
-        verdict-next (w .kind) (nameIn book w) (w .texts) this (recordsOf (drop (start + len) book)) (rw same at h) ∙
-        ap (λ (k : ℕ). bookVerdict kind (cond (eqb kind 1) (take len (drop start book)) (nameIn book w)) k (recordsOf (drop (start + len) book))) (sym q)
+        verdict-next (w .wide) (w .kind) (nameIn book w) (w .texts) this (recordsOf (drop (start + len) book)) (rw same at h) ∙
+        ap (λ (k : ℕ). bookVerdict (w .wide) kind (cond (eqb kind 1) (take len (drop start book)) (nameIn book w)) k (recordsOf (drop (start + len) book))) (sym q)
 
-    pub step-name : kind ≡ 1 → Stepping (Next (record { at = start + len; kind = kind; name = start; past = start + len; texts = n }))
+    pub step-name : kind ≡ 1 → Stepping (Next (record { at = start + len; kind = kind; name = start; past = start + len; texts = n; wide = w .wide }))
     unfolding verdictOf verdictAt
     step-name e =
         let k : start + len - start ≡ len = omega arith in
-        record { same = rw k (sym (moved ∙ rw (eq-eqb kind 1 e))); on = onward (record { at = start + len; kind = kind; name = start; past = start + len; texts = n }) (record { at = fits; name = omega arith; past = fits; texts = most }) later }
+        record { same = rw k (sym (moved ∙ rw (eq-eqb kind 1 e))); on = onward (record { at = start + len; kind = kind; name = start; past = start + len; texts = n; wide = w .wide }) (record { at = fits; name = omega arith; past = fits; texts = most }) later }
 
-    pub step-other : (kind ≡ 1 → ⊥) → Stepping (Next (record { at = start + len; kind = kind; name = w .name; past = w .past; texts = n }))
+    pub step-other : (kind ≡ 1 → ⊥) → Stepping (Next (record { at = start + len; kind = kind; name = w .name; past = w .past; texts = n; wide = w .wide }))
     unfolding verdictOf verdictAt
     step-other e =
         record {
           same = sym (moved ∙ rw (ne-eqb kind 1 e));
-          on = onward (record { at = start + len; kind = kind; name = w .name; past = w .past; texts = n }) (record { at = fits; name = within .name; past = within .past; texts = most }) later;
+          on = onward (record { at = start + len; kind = kind; name = w .name; past = w .past; texts = n; wide = w .wide }) (record { at = fits; name = within .name; past = within .past; texts = most }) later;
         }
 
 -- what stands at the walk's place
@@ -173,27 +174,27 @@ module _ (book : List ℕ) (w : Walk) where
       Stepped book w (verdictBefore book w (record { kind = kind; body = take len (drop start book) }) (start + len)) r → Stepped book w (verdictAt book w) r
   unfolding verdictAt verdictBefore
   step-record kind start len r h s =
-      record { same = s .same ∙ sym (ap (bookVerdict (w .kind) (nameIn book w) (w .texts)) (h .is)); on = s .on }
+      record { same = s .same ∙ sym (ap (bookVerdict (w .wide) (w .kind) (nameIn book w) (w .texts)) (h .is)); on = s .on }
 
   pub step-end : (c : Checked) → w .texts ≤ storedMost → recordsOf (drop (w .at) book) ≡ some [] → c ≡ cond (not (eqb (w .kind) 1)) (found (w .texts)) refused →
       Stepped book w (verdictAt book w) (Done c)
   unfolding verdictOf verdictAt
   step-end c most h e =
       record {
-        same = e ∙ sym (verdict-end (w .kind) (nameIn book w) (w .texts) most) ∙ sym (ap (bookVerdict (w .kind) (nameIn book w) (w .texts)) h);
+        same = e ∙ sym (verdict-end (w .wide) (w .kind) (nameIn book w) (w .texts) most) ∙ sym (ap (bookVerdict (w .wide) (w .kind) (nameIn book w) (w .texts)) h);
         on = ended c;
       }
 
   pub step-broken : (c : Checked) → recordsOf (drop (w .at) book) ≡ none → c ≡ refused → Stepped book w (verdictAt book w) (Done c)
   unfolding verdictOf verdictAt bookVerdict
-  step-broken c h e = record { same = e ∙ sym (ap (bookVerdict (w .kind) (nameIn book w) (w .texts)) h); on = ended c }
+  step-broken c h e = record { same = e ∙ sym (ap (bookVerdict (w .wide) (w .kind) (nameIn book w) (w .texts)) h); on = ended c }
 
 -- ---- the walk: its verdict is the book's
 pub record CheckWalk (book : List ℕ) (w : Walk) : Type 0 where
   pub within : Within book w
   pub all : verdictAt book w ≡ check book
 
-pub walked-start : (book : List ℕ) → length book ≤ bookMost → CheckWalk book (record { at = 0; kind = 0; name = 0; past = 0; texts = 0 })
+pub walked-start : (book : List ℕ) → length book ≤ bookMost → CheckWalk book (record { at = 0; kind = 0; name = 0; past = 0; texts = 0; wide = wide (edition book) })
 unfolding verdictAt
 walked-start book h =
     record {

@@ -22,16 +22,16 @@ refused = record { refusal = 4; texts = 0 }
 abbrev pub found : ℕ → Checked
 found n = record { refusal = 0; texts = n }
 
--- a record after one of kind a, under the licence `name`
-unfoldable pub recordSound : ℕ → List ℕ → Record → Bool
-recordSound a name r = follows a (r .kind) && soundBody r && (not (eqb (r .kind) 1) || rises name (r .body))
+-- a record after one of kind a, under the licence `name`; `w`: words may be UTF-8
+unfoldable pub recordSound : Bool → ℕ → List ℕ → Record → Bool
+recordSound w a name r = follows a (r .kind) && soundBody w r && (not (eqb (r .kind) 1) || rises name (r .body))
 
 -- after a record of kind a, under `name`, with n stored texts before: the answer by what is still to come
-unfoldable pub bookVerdict : ℕ → List ℕ → ℕ → Option (List Record) → Checked
-bookVerdict a name n none = refused
-bookVerdict a name n (some rs) =
+unfoldable pub bookVerdict : Bool → ℕ → List ℕ → ℕ → Option (List Record) → Checked
+bookVerdict w a name n none = refused
+bookVerdict w a name n (some rs) =
     let all = n + length (storedIn 0 [] rs) in
-    cond (soundRecords a name rs && leb all storedMost) (found all) refused
+    cond (soundRecords w a name rs && leb all storedMost) (found all) refused
 
 -- a walk's places are the book's
 pub record Within (book : List ℕ) (w : Walk) : Type 0 where
@@ -44,11 +44,11 @@ abbrev pub nameIn : List ℕ → Walk → List ℕ
 nameIn book w = take (w .past - w .name) (drop (w .name) book)
 
 unfoldable pub verdictAt : List ℕ → Walk → Checked
-verdictAt book w = bookVerdict (w .kind) (nameIn book w) (w .texts) (recordsOf (drop (w .at) book))
+verdictAt book w = bookVerdict (w .wide) (w .kind) (nameIn book w) (w .texts) (recordsOf (drop (w .at) book))
 
 -- the same where the record r stands at the walk's place, and the next at `to`
 unfoldable pub verdictBefore : List ℕ → Walk → Record → ℕ → Checked
-verdictBefore book w r to = bookVerdict (w .kind) (nameIn book w) (w .texts) (also r (recordsOf (drop to book)))
+verdictBefore book w r to = bookVerdict (w .wide) (w .kind) (nameIn book w) (w .texts) (also r (recordsOf (drop to book)))
 
 -- a step keeps the verdict, and goes on
 unfoldable pub verdictOf : List ℕ → Step → Checked

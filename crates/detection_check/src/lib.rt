@@ -12,24 +12,27 @@ ghost use Rattle.rules.specs.Jobs.{CheckDone};
 ghost use Rattle.detection_check.specs.Walks.{refused, found, Within, recordSound, verdictAt, verdictBefore, Stepped};
 use detection_bodies::name_sound;
 use detection_bodies::table_sound;
-use detection_bodies::within;
 use detection_edition::EDITION_KIND;
+use detection_edition::edition_of;
 use detection_edition::edition_sound;
+use detection_terms::within;
 use records::pieces::RecordAt;
 use records::reader::read;
 use rules::BOOK_MOST;
 use rules::Checked;
+use rules::EDITION_WIDE;
 use rules::STORED_MOST;
 use slices_order::above;
 
 // Before the record at `at`: the kind of the record before (0 at the start), the name that it stands under, book[name..past],
-// and how many stored texts came before.
+// how many stored texts came before, and whether words may be UTF-8.
 pub struct Walk {
     pub at: usize,
     pub kind: u16,
     pub name: usize,
     pub past: usize,
     pub texts: u32,
+    pub wide: bool,
 }
 
 pub enum Step {
@@ -72,11 +75,11 @@ fn follows(a: u16, b: u16) -> bool
     within(2, b, a)
 }
 
-fn body_sound(kind: u16, body: &[u8]) -> bool
-    ensures { λ r. ⌜ r ≡ soundBody (record { kind = kind; body = now (body .entry) }) ⌝ }
+fn body_sound(wide: bool, kind: u16, body: &[u8]) -> bool
+    ensures { λ r. ⌜ r ≡ soundBody wide (record { kind = kind; body = now (body .entry) }) ⌝ }
 {
     if stored_kind(kind) {
-        return table_sound(body);
+        return table_sound(wide, body);
     }
     if kind == EDITION_KIND {
         return edition_sound(body);
@@ -85,13 +88,13 @@ fn body_sound(kind: u16, body: &[u8]) -> bool
 }
 
 // A record after one of kind `before`, under `name`.
-fn record_sound(before: u16, name: &[u8], kind: u16, body: &[u8]) -> bool
-    ensures { λ r. ⌜ r ≡ recordSound before (now (name .entry)) (record { kind = kind; body = now (body .entry) }) ⌝ }
+fn record_sound(wide: bool, before: u16, name: &[u8], kind: u16, body: &[u8]) -> bool
+    ensures { λ r. ⌜ r ≡ recordSound wide before (now (name .entry)) (record { kind = kind; body = now (body .entry) }) ⌝ }
 {
     if !follows(before, kind) {
         return false;
     }
-    if !body_sound(kind, body) {
+    if !body_sound(wide, kind, body) {
         return false;
     }
     if kind != 1 {
@@ -125,7 +128,8 @@ fn check_record(book: &[u8], walk: Walk, kind: u16, start: usize, len: usize) ->
     let from = walk.name;
     let to = walk.past;
     let end = start + len;
-    if !record_sound(walk.kind, &book[from..to], kind, &book[start..end]) {
+    let wide = walk.wide;
+    if !record_sound(wide, walk.kind, &book[from..to], kind, &book[start..end]) {
         return Step::Done(unsound());
     }
     let texts = texts_after(walk.texts, kind);
@@ -139,6 +143,7 @@ fn check_record(book: &[u8], walk: Walk, kind: u16, start: usize, len: usize) ->
             name: start,
             past: end,
             texts,
+            wide,
         });
     }
     Step::Next(Walk {
@@ -147,6 +152,7 @@ fn check_record(book: &[u8], walk: Walk, kind: u16, start: usize, len: usize) ->
         name: from,
         past: to,
         texts,
+        wide,
     })
 }
 
@@ -175,6 +181,7 @@ pub fn check_book(book: &[u8]) -> Checked
         name: 0,
         past: 0,
         texts: 0,
+        wide: edition_of(book) == EDITION_WIDE,
     };
     loop {
         match check_next(book, walk) {

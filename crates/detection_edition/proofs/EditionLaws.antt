@@ -56,10 +56,10 @@ edition-known book = at (recordAt book 0)
     at At.broken = omega arith
 
 -- ---- in a sound book only the first record is of kind 6
-pub only-first : (a : ℕ) (name : List ℕ) (rs : List Record) → (eqb a 0 ≡ false) → soundRecords a name rs ≡ true → Each (λ r. eqb (r .kind) 6 ≡ false) rs
+pub only-first : (w : Bool) (a : ℕ) (name : List ℕ) (rs : List Record) → (eqb a 0 ≡ false) → soundRecords w a name rs ≡ true → Each (λ r. eqb (r .kind) 6 ≡ false) rs
 unfolding soundRecords follows within
-only-first a name [] l h = tt
-only-first a name (r ∷ rs) l h = (at (eqb (r .kind) 6) refl, only-first (r .kind) under rs (kind (eqb (r .kind) 0) refl) (and-right (f && b && o) m h))
+only-first w a name [] l h = tt
+only-first w a name (r ∷ rs) l h = (at (eqb (r .kind) 6) refl, only-first w (r .kind) under rs (kind (eqb (r .kind) 0) refl) (and-right (f && b && o) m h))
   where
     under : List ℕ
     under = cond (eqb (r .kind) 1) (r .body) name
@@ -68,13 +68,13 @@ only-first a name (r ∷ rs) l h = (at (eqb (r .kind) 6) refl, only-first (r .ki
     f = follows a (r .kind)
 
     b : Bool
-    b = soundBody r
+    b = soundBody w r
 
     o : Bool
     o = not (eqb (r .kind) 1) || rises name (r .body)
 
     m : Bool
-    m = soundRecords (r .kind) under rs
+    m = soundRecords w (r .kind) under rs
 
     may : f ≡ true
     may = and-left f b (and-left (f && b) o (and-left (f && b && o) m h))
@@ -88,6 +88,6 @@ only-first a name (r ∷ rs) l h = (at (eqb (r .kind) 6) refl, only-first (r .ki
     kind false q = refl
 
 -- and where it is, the edition is what it says
-pub sound-said : (kind : ℕ) (body : List ℕ) → eqb kind 6 ≡ true → soundBody (record { kind = kind; body = body }) ≡ true → saidBy kind body ≡ number 2 body
+pub sound-said : (w : Bool) (kind : ℕ) (body : List ℕ) → eqb kind 6 ≡ true → soundBody w (record { kind = kind; body = body }) ≡ true → saidBy kind body ≡ number 2 body
 unfolding saidBy soundBody storedKind within
-sound-said kind body q h = let e : soundEdition body ≡ true = simp (eqb-true kind 6 q) at h in rw (q, e)
+sound-said w kind body q h = let e : soundEdition body ≡ true = simp (eqb-true kind 6 q) at h in rw (q, e)

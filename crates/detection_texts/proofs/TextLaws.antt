@@ -18,13 +18,14 @@ use lib.ListN.{length, getD, take, drop, length-drop}
 use lib.Seq.{drop-drop, getD-drop, length-take-le}
 use borrow.Author.Tests.{leb-true, ne-eqb}
 use Rattle.rules.specs.Sizes.{bookMost, storedMost, nameMost}
+use Rattle.rules.specs.Points.{wide}
 use Rattle.rules.specs.Search.{Stored, noText}
 use Rattle.rules.specs.Bytes.{within, rises}
-use Rattle.rules.specs.Book.{number, Record, recordsOf, also, entriesOf, soundBody, storedKind, follows, soundRecords, tableIn, storedIn, storedOf, storedFrom, stored, namesIn, noPart, namesOf, filled, sound, At, recordAt, nextPlace}
+use Rattle.rules.specs.Book.{number, Record, recordsOf, also, entriesOf, soundBody, storedKind, follows, soundRecords, tableIn, storedIn, storedOf, storedFrom, stored, namesIn, noPart, namesOf, edition, filled, sound, At, recordAt, nextPlace}
 use Rattle.rules.specs.declared.Named.{Named}
 use Rattle.rules.proofs.BoolLaws.{and-left, and-right}
 use Rattle.rules.proofs.DownLaws.{each-at}
-use Rattle.rules.proofs.SoundLaws.{StoredSound, sound-stored, sound-some, body-total, table-size}
+use Rattle.rules.proofs.SoundLaws.{StoredSound, sound-stored, sound-some, body-total, table-size, body-shaped}
 use Rattle.records.proofs.StepLaws.{RecordHere, record-here, record-end, record-broken}
 use Rattle.lists.specs.Parts.{part}
 use Rattle.detection_texts.specs.Texts.{storedLeft, nameAt, namesFrom, eachBodySound, soundBodies, Before, firstPlace, passedBy, setOut, atRecord, pastRecord, Found, Under}
@@ -33,22 +34,23 @@ use Rattle.detection_texts.specs.declared.texts.Text.{Text}
 use Rattle.detection_texts.specs.declared.texts.Way.{Way}
 
 -- ---- a sound book's records have sound bodies
-all-sound : (rs : List Record) (a : ℕ) (name : List ℕ) → soundRecords a name rs ≡ true → eachBodySound rs ≡ true
+all-sound : (w : Bool) (rs : List Record) (a : ℕ) (name : List ℕ) → soundRecords w a name rs ≡ true → eachBodySound w rs ≡ true
 unfolding soundRecords eachBodySound
-all-sound [] a name h = refl
-all-sound (r ∷ rs) a name h =
+all-sound w [] a name h = refl
+all-sound w (r ∷ rs) a name h =
     let f = follows a (r .kind) in
     let n = not (eqb (r .kind) 1) || rises name (r .body) in
     let under = cond (eqb (r .kind) 1) (r .body) name in
-    let more = soundRecords (r .kind) under rs in
-    let b : soundBody r ≡ true = and-right f (soundBody r) (and-left (f && soundBody r) n (and-left (f && soundBody r && n) more h)) in
-    rw b (all-sound rs (r .kind) under (and-right (f && soundBody r && n) more h))
+    let more = soundRecords w (r .kind) under rs in
+    let s = soundBody w r in
+    let b : s ≡ true = and-right f s (and-left (f && s) n (and-left (f && s && n) more h)) in
+    rw b (all-sound w rs (r .kind) under (and-right (f && s && n) more h))
 
 pub before-first : (book : List ℕ) → sound book ≡ true → Before book firstPlace
 unfolding sound stored storedFrom soundBodies filled storedOf storedLeft namesOf namesFrom
 before-first book h =
     let l = leb (length book) bookMost in
-    let f = filled (recordsOf book) in
+    let f = filled (wide (edition book)) (recordsOf book) in
     let m = leb (length (stored book)) storedMost in
     record {
       at = omega arith;
@@ -60,9 +62,9 @@ before-first book h =
       names = λ second. names second (recordsOf book);
     }
   where
-    bodies : (o : Option (List Record)) → filled o ≡ true → soundBodies o ≡ true
+    bodies : (o : Option (List Record)) → filled (wide (edition book)) o ≡ true → soundBodies (wide (edition book)) o ≡ true
     bodies none h = h
-    bodies (some rs) h = all-sound rs 0 [] h
+    bodies (some rs) h = all-sound (wide (edition book)) rs 0 [] h
 
     texts : (o : Option (List Record)) → storedLeft 0 [] o ≡ storedOf 0 o
     texts none = refl
@@ -73,29 +75,29 @@ before-first book h =
     names second (some rs) = refl
 
 -- ---- one record, and what is left
-bodies-cons : (r : Record) (o : Option (List Record)) → soundBodies (also r o) ≡ true → (soundBody r ≡ true) × (soundBodies o ≡ true)
+bodies-cons : (w : Bool) (r : Record) (o : Option (List Record)) → soundBodies w (also r o) ≡ true → (soundBody w r ≡ true) × (soundBodies w o ≡ true)
 unfolding soundBodies also eachBodySound
-bodies-cons r none h = absurd (false≢true h)
-bodies-cons r (some rs) h = (and-left (soundBody r) (eachBodySound rs) h, and-right (soundBody r) (eachBodySound rs) h)
+bodies-cons w r none h = absurd (false≢true h)
+bodies-cons w r (some rs) h = (and-left (soundBody w r) (eachBodySound w rs) h, and-right (soundBody w r) (eachBodySound w rs) h)
 
 abbrev storedAs : ℕ → List ℕ → Record → Stored
 storedAs n name r = record { number = n; name = name; kind = r .kind; table = tableIn (r .body) (entriesOf (r .body)) }
 
-stored-cons : (n : ℕ) (name : List ℕ) (r : Record) (o : Option (List Record)) → soundBodies o ≡ true →
+stored-cons : (w : Bool) (n : ℕ) (name : List ℕ) (r : Record) (o : Option (List Record)) → soundBodies w o ≡ true →
     storedLeft n name (also r o) ≡
     cond (storedKind (r .kind)) (storedAs n name r ∷ []) [] ++
     storedLeft (cond (storedKind (r .kind)) (suc n) n) (cond (eqb (r .kind) 1) (r .body) name) o
 unfolding storedLeft also storedIn soundBodies
-stored-cons n name r none h = absurd (false≢true h)
-stored-cons n name r (some rs) h = refl
+stored-cons w n name r none h = absurd (false≢true h)
+stored-cons w n name r (some rs) h = refl
 
-names-cons : (second : Bool) (place : ℕ) (p : Named) (r : Record) (o : Option (List Record)) → soundBodies o ≡ true →
+names-cons : (w : Bool) (second : Bool) (place : ℕ) (p : Named) (r : Record) (o : Option (List Record)) → soundBodies w o ≡ true →
     namesFrom second place p (also r o) ≡
     cond (storedKind (r .kind)) (p ∷ []) [] ++
     namesFrom second (place + 6 + length (r .body)) (cond (eqb (r .kind) 1) (record { second = second; at = place + 6; len = length (r .body) }) p) o
 unfolding namesFrom also namesIn soundBodies
-names-cons second place p r none h = absurd (false≢true h)
-names-cons second place p r (some rs) h = refl
+names-cons w second place p r none h = absurd (false≢true h)
+names-cons w second place p r (some rs) h = refl
 
 module _ (book : List ℕ) (p : Place) (b : Before book p) where
   pub not-done : p .number < length (stored book) → recordsOf (drop (p .at) book) ≡ some [] → ⊥
@@ -106,7 +108,7 @@ module _ (book : List ℕ) (p : Place) (b : Before book p) where
 
   pub not-broken : recordsOf (drop (p .at) book) ≡ none → ⊥
   unfolding soundBodies
-  not-broken e = false≢true (ap soundBodies (sym e) ∙ b .bodies)
+  not-broken e = false≢true (ap (soundBodies (wide (edition book))) (sym e) ∙ b .bodies)
 
   module _ (kind start len : ℕ) (h : RecordHere book (p .at) kind start len) where
     abbrev this : Record
@@ -118,15 +120,15 @@ module _ (book : List ℕ) (p : Place) (b : Before book p) where
     lent : part book start (start + len) ≡ take len (drop start book)
     lent = let k : start + len - start ≡ len = omega arith in rw k
 
-    sounds : (soundBody this ≡ true) × (soundBodies left ≡ true)
-    sounds = bodies-cons this left (ap soundBodies (sym (h .is)) ∙ b .bodies)
+    sounds : (soundBody (wide (edition book)) this ≡ true) × (soundBodies (wide (edition book)) left ≡ true)
+    sounds = bodies-cons (wide (edition book)) this left (ap (soundBodies (wide (edition book))) (sym (h .is)) ∙ b .bodies)
 
     after : drop (p .number) (stored book) ≡
         cond (storedKind kind) (storedAs (p .number) (part book (p .name) (p .past)) this ∷ []) [] ++
         storedLeft (cond (storedKind kind) (suc (p .number)) (p .number)) (cond (eqb kind 1) (take len (drop start book)) (part book (p .name) (p .past))) left
     after =
         sym (b .texts) ∙ ap (storedLeft (p .number) (part book (p .name) (p .past))) (h .is) ∙
-        stored-cons (p .number) (part book (p .name) (p .past)) this left (sounds .1)
+        stored-cons (wide (edition book)) (p .number) (part book (p .name) (p .past)) this left (sounds .1)
 
     long : length (take len (drop start book)) ≡ len
     long = length-take-le len (drop start book) (omega (arith, length-drop start book, h .fits))
@@ -139,7 +141,7 @@ module _ (book : List ℕ) (p : Place) (b : Before book p) where
         let name = nameAt second (p .name) (p .past) in
         let n = length (take len (drop start book)) in
         let k : len ≡ start + len - start = omega arith in
-        sym (b .names second) ∙ ap (namesFrom second (p .at) name) (h .is) ∙ names-cons second (p .at) name this left (sounds .1) ∙
+        sym (b .names second) ∙ ap (namesFrom second (p .at) name) (h .is) ∙ names-cons (wide (edition book)) second (p .at) name this left (sounds .1) ∙
         ap (λ (s : ℕ). stands s n n) (h .begins) ∙ ap (λ (m : ℕ). stands start m m) long ∙ ap (stands start len) k
       where
         stands : ℕ → ℕ → ℕ → List Named
@@ -216,10 +218,9 @@ module _ (book : List ℕ) (p : Place) (b : Before book p) where
       here = record { number = p .number; kind = kind; name = p .name; past = p .past; body = start; end = start + len }
 
       found-here : Found book (p .number) here
-      unfolding soundBody
       found-here =
           let body = take len (drop start book) in
-          let s = rw q at (sounds .0) in
+          let s = body-shaped (wide (edition book)) this (sounds .0) q in
           let m : length body ≡ len = long in
           record {
             is = rw first

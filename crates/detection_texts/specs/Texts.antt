@@ -9,8 +9,9 @@ use lib.Dec.{eqb}
 use lib.ListN.{length, getD, drop}
 use Rattle.lists.specs.Parts.{part}
 use Rattle.rules.specs.Sizes.{storedMost}
+use Rattle.rules.specs.Points.{wide}
 use Rattle.rules.specs.Search.{Stored, noText}
-use Rattle.rules.specs.Book.{number, Record, recordsOf, entriesOf, soundTable, soundBody, storedIn, storedKind, stored, At, namesIn, noPart, namesOf}
+use Rattle.rules.specs.Book.{number, Record, recordsOf, entriesOf, shaped, soundBody, edition, storedIn, storedKind, stored, At, namesIn, noPart, namesOf}
 use Rattle.rules.specs.declared.Named.{Named}
 use Rattle.detection_texts.specs.declared.texts.Place.{Place}
 use Rattle.detection_texts.specs.declared.texts.Text.{Text}
@@ -29,14 +30,14 @@ unfoldable pub namesFrom : Bool → ℕ → Named → Option (List Record) → L
 namesFrom second place p none = []
 namesFrom second place p (some rs) = namesIn second place p rs
 
--- each of them has a sound body
-unfoldable pub eachBodySound : List Record → Bool
-eachBodySound [] = true
-eachBodySound (r ∷ rs) = soundBody r && eachBodySound rs
+-- each of them has a sound body, `w`: with words in UTF-8
+unfoldable pub eachBodySound : Bool → List Record → Bool
+eachBodySound w [] = true
+eachBodySound w (r ∷ rs) = soundBody w r && eachBodySound w rs
 
-unfoldable pub soundBodies : Option (List Record) → Bool
-soundBodies none = false
-soundBodies (some rs) = eachBodySound rs
+unfoldable pub soundBodies : Bool → Option (List Record) → Bool
+soundBodies w none = false
+soundBodies w (some rs) = eachBodySound w rs
 
 -- p stands before stored text p.number: those that are left are those from there on
 pub record Before (book : List ℕ) (p : Place) : Type 0 where
@@ -44,11 +45,11 @@ pub record Before (book : List ℕ) (p : Place) : Type 0 where
   pub name : p .name ≤ p .past
   pub past : p .past ≤ length book
   pub few : length (stored book) ≤ storedMost
-  pub bodies : soundBodies (recordsOf (drop (p .at) book)) ≡ true
+  pub bodies : soundBodies (wide (edition book)) (recordsOf (drop (p .at) book)) ≡ true
   pub texts : storedLeft (p .number) (part book (p .name) (p .past)) (recordsOf (drop (p .at) book)) ≡ drop (p .number) (stored book)
   pub names : (second : Bool) → namesFrom second (p .at) (nameAt second (p .name) (p .past)) (recordsOf (drop (p .at) book)) ≡ drop (p .number) (namesOf second (recordsOf book))
 
--- r is the stored text t: its table's body lent as a part gives t's table
+-- r is the stored text t: its table's body, which is in shape, lent as a part gives t's table
 pub record TextIs (book : List ℕ) (t : Stored) (r : Text) : Type 0 where
   pub name-from : r .name ≤ r .past
   pub name-to : r .past ≤ length book
@@ -59,7 +60,7 @@ pub record TextIs (book : List ℕ) (t : Stored) (r : Text) : Type 0 where
   pub body-to : r .end ≤ length book
   pub total : number 4 (part book (r .body) (r .end)) ≡ t .table .total
   pub entries : entriesOf (part book (r .body) (r .end)) ≡ some (t .table .entries)
-  pub sound : soundTable (part book (r .body) (r .end)) (entriesOf (part book (r .body) (r .end))) ≡ true
+  pub sound : shaped (part book (r .body) (r .end)) (entriesOf (part book (r .body) (r .end))) ≡ true
 
 abbrev pub firstPlace : Place
 firstPlace = record { number = 0; at = 0; name = 0; past = 0 }

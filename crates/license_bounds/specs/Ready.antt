@@ -8,7 +8,7 @@ use lib.ListN.{length}
 use Rattle.rules.specs.declared.View.{View}
 use Rattle.rules.specs.declared.Value.{Value}
 use Rattle.rules.specs.Search.{Made, Stored, view, scoreView}
-use Rattle.rules.specs.Book.{entriesOf, soundTable}
+use Rattle.rules.specs.Book.{entriesOf, shaped}
 use Rattle.slices.specs.Classes.{Classes}
 use Rattle.preproc_table.specs.Entries.{linesAt}
 use Rattle.license_notes.specs.Laid.{Laid}
@@ -26,7 +26,7 @@ scoreAt ls s ends fixed i = scoreView ls s (viewBetween ends fixed i)
 pub record Working (n lines : ℕ) (class area words body : List ℕ) : Type 0 where
   pub laid : Laid n lines area words
   pub classes : Classes class
-  pub sound : soundTable body (entriesOf body) ≡ true
+  pub sound : shaped body (entriesOf body) ≡ true
 
 -- indexes from l to r make views within the note
 unfoldable pub Spans : ℕ → Bool → ℕ → ℕ → ℕ → Type 0

@@ -5,7 +5,7 @@ ghost use mathlib.Core.Path.{_≡_};
 ghost use mathlib.Core.Bool.{true};
 ghost use Prim.Native.Nat.{_-_, _<_};
 ghost use Rattle.rules.specs.Table.{valueOf};
-ghost use Rattle.rules.specs.Book.{soundTable, entriesOf};
+ghost use Rattle.rules.specs.Book.{shaped, entriesOf};
 ghost use Rattle.floors.specs.Floors.{Judged};
 ghost use Rattle.license_charge.specs.Pay.{Spent};
 ghost use Rattle.license_views.specs.Tabled.{Tabled, tableOver};
@@ -62,7 +62,7 @@ pub fn charge(
     left: Scorings,
 ) -> Charged
     requires { ⌜ Tabled n (now area) (now words) t ⌝ }
-    requires { ⌜ soundTable (now body) (entriesOf (now body)) ≡ true ⌝ }
+    requires { ⌜ shaped (now body) (entriesOf (now body)) ≡ true ⌝ }
     requires { ⌜ 0 < left .count ⌝ }
     ensures value { λ r. ⌜ Judged floor (valueOf (tableOver (now (area .entry)) t) (tableOfBody (now (body .entry)))) (r .value) ⌝ }
     ensures left { λ r. ⌜ r .left .count ≡ left .count - 1 ⌝ }
@@ -92,7 +92,7 @@ pub fn charge_exact(
     left: Scorings,
 ) -> Charged
     requires { ⌜ Tabled n (now area) (now words) t ⌝ }
-    requires { ⌜ soundTable (now body) (entriesOf (now body)) ≡ true ⌝ }
+    requires { ⌜ shaped (now body) (entriesOf (now body)) ≡ true ⌝ }
     requires { ⌜ 0 < left .count ⌝ }
     ensures value { λ r. ⌜ r .value ≡ valueOf (tableOver (now (area .entry)) t) (tableOfBody (now (body .entry))) ⌝ }
     ensures left { λ r. ⌜ r .left .count ≡ left .count - 1 ⌝ }

@@ -1,24 +1,27 @@
 -- The lines of a note as `lay` leaves them: they hold no newline, they are few and short enough; and so are they after white-out.
 -- Assumes nothing.
-use mathlib.Core.Path.{_≡_, refl, ap, _∙_}
-use mathlib.Core.Bool.{Bool, true, false, cond, not, _&&_, _||_}
+use mathlib.Core.Path.{_≡_, refl, sym, ap, _∙_}
+use mathlib.Core.Bool.{Bool, true, false, cond, not, _&&_, _||_, false≢true}
 use mathlib.Core.List.{List, [], _∷_, _++_, map}
-use Prim.Native.Nat.{ℕ, zero, suc, _+_, _*_, _≤_}
+use Prim.Native.Nat.{ℕ, zero, suc, _+_, _-_, _*_, _%_, _≤_}
+use borrow.Author.Tests.{ne-eqb}
 use native.Mathlib.Omega.{arith}
 use lib.Dec.{eqb}
 use lib.ListN.{length}
 use Rattle.rules.specs.Bytes.{text, newline, space, dropped, every, keep, runs, trimStart, addFront, trimEnd, trim, onFirst, split}
+use Rattle.rules.specs.Points.{opens, pointsOn, points}
 use Rattle.rules.specs.Lines.{url, urls, signs, lineBy, linesBy, lines, lineCount, size}
 use Rattle.rules.specs.Search.{blank}
 use Rattle.rules.specs.Sizes.{byteArea, wordArea}
-use Rattle.rules.specs.Refusal.{refusal, ofText}
 use Rattle.rules.proofs.BoolLaws.{and-left, and-right, and-both, cond-of}
+use Rattle.rules.proofs.PointLaws.{opens-range}
 use Rattle.rules.proofs.GrowthLaws.{linesBy-size, blank-size}
 use Rattle.slices.specs.Classes.{gapIn, classTable}
 use Rattle.slices.proofs.KindLaws.{edition-lines}
 use Rattle.preproc_table.specs.Entries.{linesAt, Blanked}
 use Rattle.preproc_lines.specs.Normalised.{Normalised}
-use Rattle.preproc_test.proofs.CountLaws.{first-length, split-some, passed-length}
+use Rattle.preproc_test.specs.Counts.{Passed}
+use Rattle.preproc_test.proofs.CountLaws.{first-length, split-some}
 use Rattle.prefix_list.specs.Listing.{plain, plainLines}
 use Rattle.license_notes.specs.Laid.{Laid}
 
@@ -93,14 +96,35 @@ unfolding trimEnd
 trimEnd-plain [] h = h
 trimEnd-plain (x ∷ xs) h = addFront-plain x (trimEnd xs) (one-plain x xs h) (trimEnd-plain xs (rest-plain x xs h))
 
+-- nor does reading UTF-8 make one: a code point of two bytes is above it
+points-none : (high : ℕ) (s : List ℕ) → (eqb high 0 ≡ false → 128 ≤ high) → plain s ≡ true → plain (pointsOn high s) ≡ true
+unfolding pointsOn plain every newline
+points-none high [] k h = refl
+points-none high (x ∷ xs) k h = at (eqb high 0) refl (opens x) refl (λ n m. points-none n xs m (and-right (other x) (every other xs) h))
+  where
+    x-plain : other x ≡ true
+    x-plain = and-left (other x) (every other xs) h
+
+    at : (z : Bool) → eqb high 0 ≡ z → (o : Bool) → opens x ≡ o → ((n : ℕ) → (eqb n 0 ≡ false → 128 ≤ n) → plain (pointsOn n xs) ≡ true) →
+        plain (cond (z && o) [] (cond z x (high + x % 64) ∷ []) ++ pointsOn (cond (z && o) (64 * (x - 192)) 0) xs) ≡ true
+    at true q true o go = let r = opens-range x o in go (64 * (x - 192)) (λ e. omega (arith, r .0))
+    at true q false o go = and-both (other x) (every other (pointsOn 0 xs)) x-plain (go 0 (λ e. absurd (false≢true (sym e))))
+    at false q o p go =
+        and-both (other (high + x % 64)) (every other (pointsOn 0 xs)) (ap not (ne-eqb (high + x % 64) 10 (λ e. omega (arith, k q))))
+        (go 0 (λ e. absurd (false≢true (sym e))))
+
+points-plain : (s : List ℕ) → plain s ≡ true → plain (points s) ≡ true
+unfolding points
+points-plain s h = points-none 0 s (λ e. absurd (false≢true (sym e))) h
+
 line-plain : (set : ℕ → Bool) (s : List ℕ) → plain s ≡ true → plain (lineBy set s) ≡ true
 unfolding lineBy trim plain every newline
 line-plain set s h =
-    let two = keep (λ x. not (dropped x)) s in
+    let two = keep (λ x. not (dropped x)) (points s) in
     let three = urls false two in
     let four = runs set 32 false three in
     trimEnd-plain (trimStart (signs four)) (trimStart-plain (signs four) (signs-plain four
-    (runs-plain set 32 false three refl (urls-plain false two (keep-plain (λ x. not (dropped x)) s h)))))
+    (runs-plain set 32 false three refl (urls-plain false two (keep-plain (λ x. not (dropped x)) (points s) (points-plain s h))))))
 
 -- ---- the pieces between newlines hold none
 first-plain : (x : ℕ) (ls : List (List ℕ)) → plain (x ∷ []) ≡ true → plainLines ls ≡ true → plainLines (onFirst x ls) ≡ true
@@ -144,17 +168,17 @@ unfolding lineCount
 lines-few t = omega (arith, split-few t)
 
 -- ---- what `normalise` leaves is laid
-pub laid-lines : (set : ℕ → Bool) (t area words : List ℕ) (r : ℕ) → refusal (ofText t) ≡ 0 → byteArea (length t) ≤ length area → wordArea (length t) ≤ length words →
+pub laid-lines : (set : ℕ → Bool) (t area words : List ℕ) (r : ℕ) → Passed t → byteArea (length t) ≤ length area → wordArea (length t) ≤ length words →
     Normalised set t area words r → Laid (length t) r area words
 laid-lines set t area words r e p q d =
     record {
       apart = d .apart;
       few = omega (arith, d .count, lines-few t);
-      small = passed-length t e;
+      small = e .short;
       area-room = p;
       words-room = q;
       plain = ap plainLines (d .lines) ∙ lines-plain set t;
-      bytes = omega (arith, ap size (d .lines), linesBy-size set t);
+      bytes = omega (arith, ap size (d .lines), linesBy-size set t (e .bytes));
     }
 
 -- by the table of an edition they are that edition's

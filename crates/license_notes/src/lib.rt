@@ -6,8 +6,8 @@ ghost use Prim.Native.Nat.{_≤_};
 ghost use lib.ListN.{length, replicate};
 ghost use Rattle.rules.specs.Sizes.{byteArea, wordArea};
 ghost use Rattle.rules.specs.Lines.{linesBy, lineCount};
-ghost use Rattle.rules.specs.Refusal.{refusal, ofText};
 ghost use Rattle.slices.specs.Classes.{Classes, gapIn};
+ghost use Rattle.preproc_test.specs.Counts.{Passed};
 ghost use Rattle.preproc_table.specs.Entries.{linesAt};
 ghost use Rattle.license_notes.specs.Laid.{Laid};
 use preproc_lines::whole::normalise;
@@ -16,7 +16,7 @@ use slices::zero::zero_words;
 
 // The note's lines stand in the areas, pass 4 by the table's edition; answers how many.
 pub fn lay(class: &[u8; 256], text: &[u8], area: &mut [u8], words: &mut [u32]) -> usize
-    requires { ⌜ Classes (now class) × (refusal (ofText (now text)) ≡ 0) × (byteArea (length (now text)) ≤ length (now area)) × (wordArea (length (now text)) ≤ length (now words)) ⌝ }
+    requires { ⌜ Classes (now class) × Passed (now text) × (byteArea (length (now text)) ≤ length (now area)) × (wordArea (length (now text)) ≤ length (now words)) ⌝ }
     ensures laid { λ r. ⌜ Laid (length (now (text .entry))) r (now (area .exit)) (now (words .exit)) ⌝ }
     ensures lines { λ r. ⌜ linesAt (now (area .exit)) (now (words .exit)) r ≡ linesBy (gapIn (now (class .entry))) (now (text .entry)) ⌝ }
     ensures count { λ r. ⌜ r ≡ lineCount (now (text .entry)) ⌝ }

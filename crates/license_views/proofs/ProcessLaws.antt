@@ -7,10 +7,12 @@ use native.Mathlib.Omega.{arith}
 use lib.ListN.{length, take, drop}
 use lib.Seq.{slice}
 use Rattle.rules.specs.declared.View.{View}
+use Rattle.rules.specs.Points.{encoded}
 use Rattle.rules.specs.Prefix.{strip, withoutPrefix}
 use Rattle.rules.specs.Passes.{aggressive}
 use Rattle.rules.specs.Search.{viewed}
 use Rattle.rules.specs.Lines.{size}
+use Rattle.rules.proofs.GrowthLaws.{viewed-size}
 use Rattle.slices.specs.declared.ends.ByteSpan.{ByteSpan}
 use Rattle.slices.specs.Classes.{Classes}
 use Rattle.preproc_table.specs.Entries.{tableEnd, viewStart, linesAt, Apart}
@@ -72,6 +74,7 @@ view-ready n lines class area words v c laid o h =
         apart = λ i j l m. laid .apart .apart i j l (omega arith);
       };
       order = o;
+      bytes = omega (arith, ap size (view-is n lines area words v o h), viewed-size (linesAt area words lines) v, laid .bytes);
     }
 
 -- after pass 1 has chosen in area₁ and words₁, the rest of the passes leaves its text in area
@@ -83,7 +86,7 @@ process-done n lines v area₀ words₀ area₁ words₁ area r o h held long p 
     record {
       order = p .stands .from;
       high = p .stands .to;
-      bytes = p .stands .bytes ∙ ap aggressive (view-is n lines area₁ words₁ v o h ∙ ap (λ (ls : List (List ℕ)). viewed ls v) (held .same));
+      bytes = p .stands .bytes ∙ ap (λ (ls : List (List ℕ)). encoded (aggressive ls)) (view-is n lines area₁ words₁ v o h ∙ ap (λ (ls : List (List ℕ)). viewed ls v) (held .same));
       held = record {
         laid = again .laid;
         area-long = long ∙ held .area-long;

@@ -6,6 +6,7 @@ use Prim.Native.Nat.{ℕ, _+_, _*_, _≤_}
 use lib.ListN.{length, drop}
 use lib.Seq.{slice}
 use Rattle.rules.specs.declared.View.{View}
+use Rattle.rules.specs.Points.{encoded}
 use Rattle.rules.specs.Search.{viewed}
 use Rattle.rules.specs.Table.{Table, bigrams, tableOf}
 use Rattle.rules.specs.Sizes.{textMost, totalMost}
@@ -16,11 +17,11 @@ use Rattle.license_views.specs.declared.Viewed.{Viewed}
 use Rattle.slices.specs.declared.ends.ByteSpan.{ByteSpan}
 use Rattle.license_notes.specs.Laid.{Held}
 
--- the processed text of a view is area[start..end], above the lines; the areas still hold the lines
+-- the processed text of a view is area[start..end] as UTF-8, above the lines; the areas still hold the lines
 pub record Processed (n lines : ℕ) (v : View) (area₀ words₀ : List ℕ) (r : ByteSpan) (area words : List ℕ) : Type 0 where
   pub order : r .start ≤ r .end
   pub high : r .end ≤ length area
-  pub bytes : slice (r .start) (r .end) area ≡ aggressive (viewed (linesAt area₀ words₀ lines) v)
+  pub bytes : slice (r .start) (r .end) area ≡ encoded (aggressive (viewed (linesAt area₀ words₀ lines) v))
   pub held : Held n lines area₀ words₀ area words
 
 -- the processed text of a view is area[start..end], and its table stands over it in the words behind the line table

@@ -24,11 +24,11 @@ use Rattle.rules.specs.declared.Named.{Named}
 use Rattle.rules.specs.declared.Scanned.{Scanned}
 use Rattle.rules.specs.declared.NamedText.{NamedText}
 use Rattle.rules.specs.Sizes.{textMost, linesMost, nameMost}
-use Rattle.rules.specs.Bytes.{every}
+use Rattle.rules.specs.Points.{wide, taken}
 use Rattle.rules.specs.Lines.{lineCount}
 use Rattle.rules.specs.Search.{Stored, noText, noBest}
 use Rattle.rules.specs.Scan.{names, records, verdict}
-use Rattle.rules.specs.Book.{allSound, shelved, differ, noPart, nameParts, partIn, Lies, ReadAs}
+use Rattle.rules.specs.Book.{allSound, shelved, editionOf, differ, noPart, nameParts, partIn, Lies, ReadAs}
 use Rattle.rules.specs.Refusal.{refusal, Areas, ofText, ofBooks, ofName, beforeScan, ofScan}
 use Rattle.rules.specs.Jobs.{lent, happened, named, namePart, answered, scan, numbered, nameJob, ScanDone, NameDone}
 use Rattle.rules.proofs.DownLaws.{Each, each-at, each-of}
@@ -144,7 +144,7 @@ module _ (t : List ℕ) (bs : List (List ℕ)) (lim : Limits) (mode : Mode) (bud
   unfolding beforeScan ofText ofBooks
   books-read h =
       let one = row-passes 0 (ltb textMost (length t)) _ (begun (eqb result 0) refl h) in
-      let two = row-passes 1 (not (every (λ x. ltb x 128) t)) _ (one .1) in
+      let two = row-passes 1 (not (taken (wide (editionOf bs)) t)) _ (one .1) in
       let three = row-passes 2 (ltb linesMost (lineCount t)) _ (two .1) in
       let four = row-passes 3 (not (allSound bs)) _ (three .1) in
       let five = row-passes 4 (eqb (length (shelved 0 bs)) 0) _ (four .1) in

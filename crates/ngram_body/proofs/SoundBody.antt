@@ -1,24 +1,27 @@
--- What `put_body` writes for the table of a processed text, whose words are runs of a-z, 0-9 and `_` (`Words`), is a sound table body
--- (`body-sound`), and reading it back gives the table (`body-again`).
+-- What `put_body` writes for the table of a text is a table body in shape (`body-shaped`), and a sound one where its words are those of a table
+-- (`body-sound`); reading it back gives the table (`body-again`).
 -- Assumes nothing.
-use mathlib.Core.Path.{_≡_, refl, sym, ap, ap₂, _∙_}
-use mathlib.Core.Bool.{Bool, true, false, _||_, false≢true}
+use mathlib.Core.Path.{_≡_, refl, sym, ap, ap₂, subst, _∙_}
+use mathlib.Core.Bool.{Bool, true, false, _&&_, _||_, false≢true}
 use mathlib.Core.List.{List, [], _∷_, _++_, append-assoc, append-nil}
 use mathlib.Core.Option.{some}
-use Prim.Native.Nat.{ℕ, _+_, _^_, _≤_, _<_, Ordering, Ordering·lt, Ordering·eq, Ordering·gt}
+use Prim.Native.Nat.{ℕ, _+_, _/_, _%_, _^_, _≤_, _<_, Ordering, Ordering·lt, Ordering·eq, Ordering·gt}
+use native.Mathlib.Nat.{not-suc-le-zero}
 use native.Mathlib.Omega.{arith}
 use lib.Dec.{eqb, ltb}
 use lib.ListN.{length, take, drop, length-append}
 use lib.Seq.{drop-at, take-at, drop-drop}
-use borrow.Author.Tests.{eq-eqb, le-leb, lt-ltb, eqb-true}
+use borrow.Author.Tests.{eq-eqb, ne-eqb, le-leb, lt-ltb, eqb-true}
 use Rattle.rules.specs.Sizes.{totalMost}
-use Rattle.rules.specs.Bytes.{within, lower, digit, every, rises, order, split}
+use Rattle.rules.specs.Bytes.{within, among, lower, digit, every, rises, order, split}
+use Rattle.rules.specs.Points.{taken, points, encoded}
 use Rattle.rules.specs.Prefix.{Counted}
 use Rattle.rules.specs.Table.{Table, pairs, bigrams, tally, tallied, tableOf}
-use Rattle.rules.specs.Book.{number, written, Piece, whole, front, also, goOn, pieces, entryForm, entryOf, entriesOf, sum, term, twoTerms, soundEntries, soundTable, tableIn, entriesOut, tableOut, Above, Rising}
+use Rattle.rules.specs.Book.{number, written, Piece, whole, front, also, goOn, pieces, entryForm, entryOf, entriesOf, sum, term, twoTerms, allTerms, soundEntries, shaped, soundTable, tableIn, entriesOut, tableOut, Above, Rising}
 use Rattle.rules.proofs.BoolLaws.{and-left, and-right, and-both}
 use Rattle.rules.proofs.DownLaws.{Each}
-use Rattle.rules.proofs.WordLaws.{Words}
+use Rattle.rules.proofs.PointLaws.{encoded-points, taken-utf8}
+use Rattle.rules.proofs.TermLaws.{TableWords}
 use Rattle.rules.proofs.Steps.{pieces-step}
 use Rattle.rules.proofs.TableLaws.{tallied-rising, tallied-sum}
 use Rattle.records.proofs.NumberLaws.{length-written, number-again}
@@ -131,30 +134,52 @@ module _ (t : Table) (f : Each FitsFour (t .entries)) (h : t .total < 256 ^ 4) (
   unfolding tableIn
   table-again = rw out-entries (λ i. record { total = out-total i; entries = t .entries })
 
-  pub out-sound : t .total ≡ sum (t .entries) → t .total ≤ totalMost → soundEntries [] (t .entries) ≡ true → soundTable out (entriesOf out) ≡ true
-  unfolding soundTable
-  out-sound n m q =
+  pub out-shaped : t .total ≡ sum (t .entries) → t .total ≤ totalMost → soundEntries [] (t .entries) ≡ true → shaped out (entriesOf out) ≡ true
+  unfolding shaped
+  out-shaped n m q =
       rw (out-entries, le-leb 8 (length out) out-size, eq-eqb (number 4 out) (sum (t .entries)) (out-total ∙ n), eq-eqb (number 4 (drop 4 out)) (length (t .entries)) out-distinct, q)
       (le-leb (sum (t .entries)) totalMost (omega arith))
 
--- ---- two terms each
-abbrev pub Two : List ℕ → Type 0
-Two g = twoTerms (split 32 g) ≡ true
+  pub out-sound : (w : Bool) → shaped out (entriesOf out) ≡ true → allTerms w (t .entries) ≡ true → soundTable w out (entriesOf out) ≡ true
+  unfolding soundTable
+  out-sound w k q =
+      let h : shaped out (some (t .entries)) ≡ true = ap (shaped out) (sym out-entries) ∙ k in
+      rw (out-entries, h, q)
 
-entries-sound : (last : List ℕ) (es : List Counted) → Above last es → Rising es → Each (λ (e : Counted). Two (e .bytes)) es → soundEntries last es ≡ true
+-- ---- two terms each
+abbrev pub Two : Bool → List ℕ → Type 0
+Two w g = twoTerms w (split 32 g) ≡ true
+
+entries-sound : (last : List ℕ) (es : List Counted) → Above last es → Rising es → soundEntries last es ≡ true
 unfolding soundEntries
-entries-sound last [] a r t = refl
-entries-sound last (e ∷ es) a r t = rw (lt-ltb 0 (e .count) (r .0), t .0, a) (entries-sound (e .bytes) es (r .1) (r .2) (t .1))
+entries-sound last [] a r = refl
+entries-sound last (e ∷ es) a r = rw (lt-ltb 0 (e .count) (r .0), a) (entries-sound (e .bytes) es (r .1) (r .2))
+
+entries-terms : (w : Bool) (es : List Counted) → Each (λ (e : Counted). Two w (e .bytes)) es → allTerms w es ≡ true
+unfolding allTerms
+entries-terms w [] t = refl
+entries-terms w (e ∷ es) t = rw (t .0) (entries-terms w es (t .1))
 
 -- what is not empty stands above what is
-two-above : (g : List ℕ) → Two g → rises [] g ≡ true
-unfolding rises order twoTerms split
-two-above [] t = absurd (false≢true t)
-two-above (x ∷ g) t = refl
+some-above : (g : List ℕ) → 0 < length g → rises [] g ≡ true
+unfolding rises order
+some-above [] t = absurd (not-suc-le-zero t)
+some-above (x ∷ g) t = refl
 
-above-none : (es : List Counted) → Each (λ (e : Counted). Two (e .bytes)) es → Above [] es
+above-none : (es : List Counted) → Each (λ (e : Counted). 0 < length (e .bytes)) es → Above [] es
 above-none [] t = tt
-above-none (e ∷ es) t = two-above (e .bytes) (t .0)
+above-none (e ∷ es) t = some-above (e .bytes) (t .0)
+
+-- a bigram has a space
+pairs-some : (ws : List (List ℕ)) → Each (λ (g : List ℕ). 0 < length g) (pairs ws)
+unfolding pairs
+pairs-some [] = tt
+pairs-some (a ∷ []) = tt
+pairs-some (a ∷ b ∷ ws) = (omega (arith, length-append a (32 ∷ b)), pairs-some (b ∷ ws))
+
+bigrams-some : (s : List ℕ) → Each (λ (g : List ℕ). 0 < length g) (bigrams s)
+unfolding bigrams
+bigrams-some s = pairs-some (split 32 s)
 
 -- ---- what holds of each bigram holds of each entry
 module _ (P : List ℕ → Type 0) where
@@ -191,16 +216,14 @@ entries-few (e ∷ es) r = let h = r .0 in omega (arith, entries-few es (r .2))
 
 -- ---- words
 space-no : lower 32 || digit 32 || eqb 32 95 ≡ false
-unfolding lower digit within
+unfolding lower digit within among
 space-no = refl
 
-every-free : (w : List ℕ) → every (λ x. lower x || digit x || eqb x 95) w ≡ true → Free w
-unfolding every
-every-free [] h = tt
-every-free (x ∷ w) h = (
-  no-space (eqb x 32) refl (and-left (lower x || digit x || eqb x 95) (every (λ x. lower x || digit x || eqb x 95) w) h),
-  every-free w (and-right (lower x || digit x || eqb x 95) (every (λ x. lower x || digit x || eqb x 95) w) h),
-)
+-- of code points that are no space, the UTF-8 holds none
+encoded-free : (p : List ℕ) → every (λ x. lower x || digit x || eqb x 95) p ≡ true → Free (encoded p)
+unfolding every encoded
+encoded-free [] h = tt
+encoded-free (x ∷ p) h = at (ltb x 128) refl (and-left (lower x || digit x || eqb x 95) (every (λ x. lower x || digit x || eqb x 95) p) h) (encoded-free p (and-right (lower x || digit x || eqb x 95) (every (λ x. lower x || digit x || eqb x 95) p) h))
   where
     no-space : (t : Bool) → eqb x 32 ≡ t → lower x || digit x || eqb x 95 ≡ true → eqb x 32 ≡ false
     no-space true e q =
@@ -208,9 +231,16 @@ every-free (x ∷ w) h = (
         absurd (false≢true (sym space-no ∙ z))
     no-space false e q = e
 
-term-free : (w : List ℕ) → term w ≡ true → Free w
+    at : (t : Bool) → ltb x 128 ≡ t → lower x || digit x || eqb x 95 ≡ true → Free (encoded p) → Free (encoded (x ∷ p))
+    at true q k more = rw q (no-space (eqb x 32) refl k, more)
+    at false q k more = rw q (ne-eqb (192 + x / 64) 32 (λ e. omega arith), (ne-eqb (128 + x % 64) 32 (λ e. omega arith), more))
+
+term-free : (w : Bool) (s : List ℕ) → term w s ≡ true → Free s
 unfolding term
-term-free w h = every-free w (and-right (ltb 0 (length w)) (every (λ x. lower x || digit x || eqb x 95) w) h)
+term-free w s h =
+    let rest = and-right (ltb 0 (length s)) (taken w s && every (λ x. lower x || digit x || eqb x 95) (points s)) h in
+    let u = taken-utf8 w s (and-left (taken w s) (every (λ x. lower x || digit x || eqb x 95) (points s)) rest) in
+    subst Free (encoded-points s u) (encoded-free (points s) (and-right (taken w s) (every (λ x. lower x || digit x || eqb x 95) (points s)) rest))
 
 split-one : (w : List ℕ) → Free w → split 32 w ≡ w ∷ []
 split-one w f = rw append-nil at (split-word w [] [] [] f (unfold split in refl))
@@ -220,19 +250,19 @@ split-two a b f g =
     let e : split 32 (32 ∷ b) ≡ [] ∷ b ∷ [] = unfold split in ap (λ (ws : List (List ℕ)). [] ∷ ws) (split-one b g) in
     split-word a (32 ∷ b) [] (b ∷ []) f e ∙ rw append-nil
 
-pairs-two : (ws : List (List ℕ)) → Each (λ (w : List ℕ). term w ≡ true) ws → Each Two (pairs ws)
+pairs-two : (w : Bool) (ws : List (List ℕ)) → Each (λ (s : List ℕ). term w s ≡ true) ws → Each (Two w) (pairs ws)
 unfolding pairs
-pairs-two [] t = tt
-pairs-two (a ∷ []) t = tt
-pairs-two (a ∷ b ∷ ws) t = (two, pairs-two (b ∷ ws) (t .1))
+pairs-two w [] t = tt
+pairs-two w (a ∷ []) t = tt
+pairs-two w (a ∷ b ∷ ws) t = (two, pairs-two w (b ∷ ws) (t .1))
   where
-    two : Two (a ++ 32 ∷ b)
-    two = rw (split-two a b (term-free a (t .0)) (term-free b (t .1 .0))) (unfold twoTerms in and-both (term a) (term b) (t .0) (t .1 .0))
+    two : Two w (a ++ 32 ∷ b)
+    two = rw (split-two a b (term-free w a (t .0)) (term-free w b (t .1 .0))) (unfold twoTerms in and-both (term w a) (term w b) (t .0) (t .1 .0))
 
-bigrams-two : (s : List ℕ) → Words s → Each Two (bigrams s)
+bigrams-two : (w : Bool) (s : List ℕ) → TableWords w s → Each (Two w) (bigrams s)
 unfolding bigrams split pairs
-bigrams-two [] w = tt
-bigrams-two (x ∷ s) w = pairs-two (split 32 (x ∷ s)) w
+bigrams-two w [] t = tt
+bigrams-two w (x ∷ s) t = pairs-two w (split 32 (x ∷ s)) t
 
 -- ---- the table of a processed text
 module _ (s : List ℕ) (h : length s < 256 ^ 4) (n : length (bigrams s) ≤ totalMost) where
@@ -251,9 +281,15 @@ module _ (s : List ℕ) (h : length s < 256 ^ 4) (n : length (bigrams s) ≤ tot
   unfolding tableOf
   body-again = table-again (tableOf (bigrams s)) fit (omega arith) (omega (arith, entries-few (tallied (bigrams s)) rising, summed))
 
-  pub body-sound : Words s → soundTable (tableOut (tableOf (bigrams s))) (entriesOf (tableOut (tableOf (bigrams s)))) ≡ true
+  pub body-shaped : shaped (tableOut (tableOf (bigrams s))) (entriesOf (tableOut (tableOf (bigrams s)))) ≡ true
   unfolding tableOf
-  body-sound w =
-      let two = tallied-each Two (bigrams s) (bigrams-two s w) in
-      out-sound (tableOf (bigrams s)) fit (omega arith) (omega (arith, entries-few (tallied (bigrams s)) rising, summed)) (sym summed) n
-      (entries-sound [] (tallied (bigrams s)) (above-none (tallied (bigrams s)) two) rising two)
+  body-shaped =
+      let some = tallied-each (λ g. 0 < length g) (bigrams s) (bigrams-some s) in
+      out-shaped (tableOf (bigrams s)) fit (omega arith) (omega (arith, entries-few (tallied (bigrams s)) rising, summed)) (sym summed) n
+      (entries-sound [] (tallied (bigrams s)) (above-none (tallied (bigrams s)) some) rising)
+
+  pub body-sound : (w : Bool) → TableWords w s → soundTable w (tableOut (tableOf (bigrams s))) (entriesOf (tableOut (tableOf (bigrams s)))) ≡ true
+  unfolding tableOf
+  body-sound w t =
+      out-sound (tableOf (bigrams s)) fit (omega arith) (omega (arith, entries-few (tallied (bigrams s)) rising, summed)) w body-shaped
+      (entries-terms w (tallied (bigrams s)) (tallied-each (Two w) (bigrams s) (bigrams-two w s t)))

@@ -21,7 +21,7 @@ use Rattle.rules.specs.Bytes.{order}
 use Rattle.rules.specs.Prefix.{Counted}
 use Rattle.rules.specs.declared.Value.{Value}
 use Rattle.rules.specs.Table.{Table, valueOf, score, countIn, meet, tallied, tableOf, bigrams}
-use Rattle.rules.specs.Book.{number, Piece, whole, broken, end, front, entryForm, entryOf, entriesOf, also, goOn, pieces, soundTable, tableIn, sum, Rising}
+use Rattle.rules.specs.Book.{number, Piece, whole, broken, end, front, entryForm, entryOf, entriesOf, also, goOn, pieces, shaped, tableIn, sum, Rising}
 use Rattle.rules.proofs.Steps.{pieces-step}
 use Rattle.rules.proofs.OrderLaws.{flip, order-eq, order-flip, rises-is}
 use Rattle.rules.proofs.TableLaws.{meet-left, meet-right, meet-both, meet-le, tallied-rising, tallied-sum, sound-entries-rising}
@@ -268,7 +268,7 @@ unfolding tableAt tableOf
 view-total s p k d t = ap (λ (x : Table). x .total) t
 
 pub meeting-start : (s p body : List ℕ) (k d left : ℕ) → d ≤ k → k + k ≤ length p → k ≤ totalMost → tableAt s p k d ≡ tableOf (bigrams s) →
-    soundTable body (entriesOf body) ≡ true → left ≡ number 4 body →
+    shaped body (entriesOf body) ≡ true → left ≡ number 4 body →
     Meeting s p body k d (meet (tallied (bigrams s)) (tableIn body (entriesOf body) .entries)) k left 0 0 8
 unfolding tableAt tableOf entriesAt entriesOf
 meeting-start s p body k d left l r b t h q =
@@ -294,7 +294,7 @@ meeting-start s p body k d left l r b t h q =
     }
 
 -- ---- the value of the two tables
-module _ (s p body : List ℕ) (k d b : ℕ) (t : tableAt s p k d ≡ tableOf (bigrams s)) (h : soundTable body (entriesOf body) ≡ true)
+module _ (s p body : List ℕ) (k d b : ℕ) (t : tableAt s p k d ≡ tableOf (bigrams s)) (h : shaped body (entriesOf body) ≡ true)
     (q : b ≡ number 4 body) where
   abbrev pub sharedCount : ℕ
   sharedCount = meet (tallied (bigrams s)) (tableIn body (entriesOf body) .entries)

@@ -7,7 +7,7 @@ ghost use Prim.Native.Nat.{_+_, _≤_};
 ghost use lib.ListN.{length};
 ghost use Rattle.rules.specs.Sizes.{totalMost};
 ghost use Rattle.rules.specs.Table as words;
-ghost use Rattle.rules.specs.Book.{soundTable, entriesOf, tableIn};
+ghost use Rattle.rules.specs.Book.{shaped, entriesOf, tableIn};
 ghost use Rattle.ngram_table.specs.Tables.{tableAt};
 ghost use Rattle.ngram_score.specs.Shares.{Reached};
 ghost use Rattle.floors.specs.Floors.{Judged};
@@ -28,7 +28,7 @@ use slices::wide::wide;
 pub fn meet(text: &[u8], p: &[u32], size: TableSize, body: &[u8], least: u32) -> u32
     requires { ⌜ (size .distinct ≤ size .total) × (size .total + size .total ≤ length (now p)) × (size .total ≤ totalMost) ⌝ }
     requires { ⌜ tableAt (now text) (now p) (size .total) (size .distinct) ≡ words.tableOf (words.bigrams (now text)) ⌝ }
-    requires { ⌜ soundTable (now body) (entriesOf (now body)) ≡ true ⌝ }
+    requires { ⌜ shaped (now body) (entriesOf (now body)) ≡ true ⌝ }
     ensures { λ r. ⌜ Reached least (words.meet (words.tallied (words.bigrams (now (text .entry)))) (tableIn (now (body .entry)) (entriesOf (now (body .entry))) .entries)) r ⌝ }
 {
     let total = size.total;
@@ -74,7 +74,7 @@ pub fn meet(text: &[u8], p: &[u32], size: TableSize, body: &[u8], least: u32) ->
 pub fn scoring(text: &[u8], p: &[u32], size: TableSize, body: &[u8], floor: Floor) -> Value
     requires { ⌜ (size .distinct ≤ size .total) × (size .total + size .total ≤ length (now p)) × (size .total ≤ totalMost) ⌝ }
     requires { ⌜ tableAt (now text) (now p) (size .total) (size .distinct) ≡ words.tableOf (words.bigrams (now text)) ⌝ }
-    requires { ⌜ soundTable (now body) (entriesOf (now body)) ≡ true ⌝ }
+    requires { ⌜ shaped (now body) (entriesOf (now body)) ≡ true ⌝ }
     ensures { λ r. ⌜ Judged floor (words.valueOf (words.tableOf (words.bigrams (now (text .entry)))) (tableIn (now (body .entry)) (entriesOf (now (body .entry))))) r ⌝ }
 {
     let total = size.total as u32;

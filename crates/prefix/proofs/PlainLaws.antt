@@ -7,6 +7,7 @@ use Prim.Native.Nat.{ℕ, zero, suc, _-_}
 use lib.Dec.{ltb}
 use lib.ListN.{length, take, drop}
 use Rattle.rules.specs.Bytes.{newline, every, lead, trim, space}
+use Rattle.rules.specs.Points.{encoded}
 use Rattle.rules.specs.Prefix.{common, prefixes}
 use Rattle.rules.specs.declared.View.{View}
 use Rattle.rules.specs.Search.{viewed}
@@ -44,7 +45,7 @@ unfolding plainLines prefixes
 plain-prefixes [] h = refl
 plain-prefixes (a ∷ []) h = refl
 plain-prefixes (a ∷ b ∷ ls) h =
-    go (ltb 3 (length (trim (common a b)))) (plain-trim (common a b) (plain-common a b (and-left (plain a) (plainLines (b ∷ ls)) h)))
+    go (ltb 3 (length (encoded (trim (common a b))))) (plain-trim (common a b) (plain-common a b (and-left (plain a) (plainLines (b ∷ ls)) h)))
     (plain-prefixes (b ∷ ls) (and-right (plain a) (plainLines (b ∷ ls)) h))
   where
     go : (t : Bool) → plain (trim (common a b)) ≡ true → plainLines (prefixes (b ∷ ls)) ≡ true →

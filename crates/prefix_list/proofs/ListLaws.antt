@@ -10,8 +10,8 @@ use native.Mathlib.Omega.{arith}
 use lib.Dec.{ltb}
 use lib.ListN.{length, take, drop, set, length-set, length-drop}
 use lib.Seq.{slice, slice-empty, paste, length-paste, take-paste, take-suc-set, take-take, drop-append-le, length-take-le, take-append-le}
-use borrow.Author.Tests.{lt-ltb, le-ltb}
 use Rattle.lists.proofs.SliceLaws.{part-at}
+use Rattle.rules.specs.Points.{encoded}
 use Rattle.slices.specs.declared.ends.ByteSpan.{ByteSpan}
 use Rattle.preproc_table.specs.Entries.{startAt, endAt, lineAt, Apart}
 use Rattle.preproc_table.proofs.EntryLaws.{start-same, end-same, line-same}
@@ -109,9 +109,9 @@ module _ (n count stop : ℕ) (area₀ table₀ : List ℕ) (apart : Apart n (4 
           )
 
       -- too short: nothing is listed
-      pub listing-skip : s .end - s .start ≤ 3 → Listing n i₀ stop area₀ table₀ area table k w (i + 1)
+      pub listing-skip : ltb 3 (length (encoded (slice (s .start) (s .end) area))) ≡ false → Listing n i₀ stop area₀ table₀ area table k w (i + 1)
       listing-skip short =
-          let e : ltb 3 (length (both area₀ table₀ i)) ≡ false = le-ltb 3 (length (both area₀ table₀ i)) (omega (arith, taken-long)) in
+          let e : ltb 3 (length (encoded (both area₀ table₀ i))) ≡ false = ap (λ (p : List ℕ). ltb 3 (length (encoded p))) (sym taken) ∙ short in
           let q : rest area₀ table₀ stop i ≡ rest area₀ table₀ stop (i + 1) = rw e at (prefixes-step area₀ table₀ i stop h) in
           record {
             few = omega (arith, l .few);
@@ -127,11 +127,11 @@ module _ (n count stop : ℕ) (area₀ table₀ : List ℕ) (apart : Apart n (4 
             starts = rw q at (l .starts);
           }
 
-      module _ (len : ℕ) (el : len ≡ s .end - s .start) (long : 3 < len) (area′ : List ℕ) (same-long : length area′ ≡ length area)
+      module _ (len : ℕ) (el : len ≡ s .end - s .start) (long : ltb 3 (length (encoded (slice (s .start) (s .end) area))) ≡ true) (area′ : List ℕ) (same-long : length area′ ≡ length area)
           (put : take (w + len + 1) area′ ≡ take w area ++ (slice (s .start) (s .start + len) area ++ 10 ∷ [])) where
         more : rest area₀ table₀ stop i ≡ both area₀ table₀ i ∷ rest area₀ table₀ stop (i + 1)
         more =
-            let e : ltb 3 (length (both area₀ table₀ i)) ≡ true = lt-ltb 3 (length (both area₀ table₀ i)) (omega (arith, taken-long)) in
+            let e : ltb 3 (length (encoded (both area₀ table₀ i))) ≡ true = ap (λ (p : List ℕ). ltb 3 (length (encoded p))) (sym taken) ∙ long in
             rw e at (prefixes-step area₀ table₀ i stop h)
 
         copied : slice (s .start) (s .start + len) area ≡ both area₀ table₀ i

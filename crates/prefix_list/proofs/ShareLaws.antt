@@ -11,6 +11,7 @@ use lib.ListN.{length, take, drop, length-drop}
 use lib.Seq.{slice, take-take, length-take-le}
 use Rattle.lists.proofs.SliceLaws.{part-slice, slice-part}
 use Rattle.rules.specs.Bytes.{space, trim, same}
+use Rattle.rules.specs.Points.{encoded}
 use Rattle.rules.specs.Prefix.{common, prefixes}
 use Rattle.rules.specs.Table.{occurs}
 use Rattle.slices.specs.Ends.{Bare}
@@ -92,7 +93,7 @@ both area table i = trim (common (lineAt area table i) (lineAt area table (i + 1
 
 module _ (area table : List ℕ) (i stop : ℕ) where
   abbrev first : List (List ℕ)
-  first = cond (ltb 3 (length (both area table i))) (both area table i ∷ []) []
+  first = cond (ltb 3 (length (encoded (both area table i)))) (both area table i ∷ []) []
 
   pub prefixes-step : i + 1 < stop → rest area table stop i ≡ first ++ rest area table stop (i + 1)
   unfolding linesFrom prefixes
@@ -117,7 +118,7 @@ module _ (area table : List ℕ) (i stop : ℕ) where
   -- another one than w does not count
   pub occurs-step : (w : List ℕ) → i + 1 < stop → same (both area table i) w ≡ false → occurs w (rest area table stop i) ≡ occurs w (rest area table stop (i + 1))
   unfolding occurs
-  occurs-step w h n = ap (occurs w) (prefixes-step h) ∙ go (ltb 3 (length (both area table i)))
+  occurs-step w h n = ap (occurs w) (prefixes-step h) ∙ go (ltb 3 (length (encoded (both area table i))))
     where
       go : (t : Bool) → occurs w (cond t (both area table i ∷ []) [] ++ rest area table stop (i + 1)) ≡ occurs w (rest area table stop (i + 1))
       go true = rw n (omega arith)

@@ -12,6 +12,7 @@ ghost use Rattle.preproc_table.specs.Entries.{viewStart, linesFrom, Apart};
 ghost use Rattle.prefix_list.specs.Listing.{Home, PairLies, Shared, ListStands};
 ghost use mathlib.Core.List.{[], _∷_, _++_};
 ghost use Rattle.rules.specs.Sizes.{textMost, byteArea, wordArea};
+use points::encode::longer_than;
 use preproc_table::line_end;
 use preproc_table::line_start;
 use preproc_table::table_end;
@@ -90,7 +91,10 @@ fn put_prefix(area: &mut [u8], from: usize, k: usize, to: usize)
     area[end] = 10;
 }
 
-// The prefixes longer than 3 bytes of the view's adjacent lines, where a view begins in the area; their starts behind the line table. Linear in the
+// A common prefix of so many bytes is too short.
+const PREFIX_SHORT: usize = 3;
+
+// The prefixes longer than 3 bytes of UTF-8 of the view's adjacent lines, where a view begins in the area; their starts behind the line table. Linear in the
 // view's lines: each is compared with its neighbours alone.
 pub fn list_prefixes(
     class: &[u8; 256],
@@ -112,9 +116,10 @@ pub fn list_prefixes(
     while i + 1 < stop {
         let s = shared(class, area, words, i);
         let from = s.start;
-        let len = s.end - s.start;
+        let end = s.end;
+        let len = end - from;
         i = i + 1;
-        if 3 < len {
+        if longer_than(PREFIX_SHORT, &area[from..end]) {
             put_prefix(area, from, len, w);
             let j = at + k;
             words[j] = w as u32;

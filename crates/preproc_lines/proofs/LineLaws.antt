@@ -10,41 +10,30 @@ use lib.Seq.{slice, length-take-le, take-at, drop-at, take-append-le}
 use Rattle.lists.specs.Wrote.{Wrote, InFront}
 use Rattle.lists.proofs.SliceLaws.{part-rest, part-slice, part-at, slice-part}
 use Rattle.lists.proofs.ChainLaws.{front-of, wrote-behind, wrote-before, wrote-from, wrote-end}
-use Rattle.rules.specs.Bytes.{text, among, space, dropped, keep, runs, trim}
+use Rattle.rules.specs.Bytes.{space, dropped, keep, runs, trim}
+use Rattle.rules.specs.Points.{points}
 use Rattle.rules.specs.Lines.{urls, signs, lineBy}
-use Rattle.rules.proofs.GrowthLaws.{keep-length, runs-length, urls-length}
+use Rattle.rules.proofs.GrowthLaws.{keep-length, runs-length, signs-length, urls-length}
+use Rattle.points.proofs.ReadLaws.{points-length}
 use Rattle.slices.specs.declared.ends.ByteSpan.{ByteSpan}
 use Rattle.slices.specs.Ends.{Bare}
 use Rattle.slices.proofs.EndLaws.{bare-within, bare-trim}
 use Rattle.preproc_lines.specs.Placed.{untrimmed, Filled, Placed}
-
-pub signs-length : (s : List ℕ) → length (signs s) ≤ length s
-unfolding signs
-signs-length s =
-    let a = runs (among (text "\"'")) 39 false s in
-    let b = runs (among (text "-")) 45 false a in
-    let d = runs (among (text "([{")) 40 false b in
-    let e = runs (among (text ")]}")) 41 false d in
-    omega (
-      arith,
-      runs-length (among (text "\"'")) 39 false s,
-      runs-length (among (text "-")) 45 false a,
-      runs-length (among (text "([{")) 40 false b,
-      runs-length (among (text ")]}")) 41 false d,
-      runs-length (among (text "_")) 95 false e,
-    )
 
 line-trim : (set : ℕ → Bool) (s : List ℕ) → trim (untrimmed set s) ≡ lineBy set s
 unfolding lineBy untrimmed
 line-trim set s = refl
 
 abbrev kept : List ℕ → List ℕ
-kept s = keep (λ x. not (dropped x)) s
+kept s = keep (λ x. not (dropped x)) (points s)
+
+kept-length : (s : List ℕ) → length (kept s) ≤ length s
+kept-length s = omega (arith, keep-length (λ x. not (dropped x)) (points s), points-length s)
 
 -- ---- passes 2 and 3: the line in the scratch front, then from `to` on
 module _ (src : List ℕ) (to : ℕ) {d₀ d₁ : List ℕ} {n₂ : ℕ} (fits : length src ≤ to) (room : to + 3 * length src ≤ length d₁) (two : Wrote (kept src) d₀ n₂ d₁) where
   pub kept-short : n₂ ≤ length src
-  kept-short = omega (arith, two .count, keep-length (λ x. not (dropped x)) src)
+  kept-short = omega (arith, two .count, kept-length src)
 
   pub urls-room : to + length (urls false (take n₂ d₁)) ≤ length d₁
   urls-room = omega (arith, urls-length (take n₂ d₁), length-take-le n₂ d₁ (omega (arith, kept-short)), kept-short)
@@ -67,7 +56,7 @@ module _ (src : List ℕ) (to : ℕ) {d₀ d₁ : List ℕ} {n₂ : ℕ} (fits :
     three-part = rw (part-rest to d₂) (part-slice to e d₂ ∙ three-bytes)
 
     three-length : length (urls false (kept src)) ≤ 3 * length src
-    three-length = omega (arith, urls-length (kept src), keep-length (λ x. not (dropped x)) src)
+    three-length = omega (arith, urls-length (kept src), kept-length src)
 
     three-same : slice (length src) to d₂ ≡ slice (length src) to d₀
     three-same =
@@ -85,7 +74,7 @@ module _ (src : List ℕ) (to : ℕ) {d₀ d₁ : List ℕ} {n₂ : ℕ} (fits :
         let g : InFront (signs (runs set 32 false (urls false (kept src)))) n₅ ys = rw three-part at f in
         record {
           low = omega arith;
-          high = omega (arith, g .count, signs-length (runs set 32 false (urls false (kept src))), runs-length set 32 false (urls false (kept src)), three-length);
+          high = omega (arith, g .count, signs-length (runs set 32 false (urls false (kept src))), runs-length set 32 (omega arith) false (urls false (kept src)), three-length);
           bytes = sym (part-at to n₅ (take to d₂ ++ (ys ++ post))) ∙ ap (take n₅) (drop-at (take to d₂) (ys ++ post) to l) ∙ take-append-le n₅ ys post (g .within) ∙ g .bytes;
           same = ap (drop (length src)) (take-at (take to d₂) (ys ++ post) to l) ∙ three-same;
         }

@@ -7,12 +7,13 @@ use Prim.Native.Nat.{ℕ, _+_, _*_, _≤_}
 use lib.ListN.{length}
 use lib.Seq.{slice}
 use Rattle.rules.specs.Bytes.{dropped, keep, runs}
+use Rattle.rules.specs.Points.{points}
 use Rattle.rules.specs.Lines.{urls, signs, lineBy}
 use Rattle.slices.specs.declared.ends.ByteSpan.{ByteSpan}
 
 -- what line passes 2 to 5 make of a line
 unfoldable pub untrimmed : (ℕ → Bool) → List ℕ → List ℕ
-untrimmed set s = signs (runs set 32 false (urls false (keep (λ x. not (dropped x)) s)))
+untrimmed set s = signs (runs set 32 false (urls false (keep (λ x. not (dropped x)) (points s))))
 
 -- from `to` up to r stands what passes 2 to 5 make of src; between the scratch front and `to` nothing changed
 pub record Filled (set : ℕ → Bool) (src d₀ : List ℕ) (to r : ℕ) (d : List ℕ) : Type 0 where

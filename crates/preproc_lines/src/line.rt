@@ -5,7 +5,7 @@ ghost use Prim.Native.Nat.{_+_, _*_, _≤_};
 ghost use lib.ListN.{length};
 ghost use Rattle.slices.specs.Classes.{Classes, gapIn};
 ghost use Rattle.preproc_lines.specs.Placed.{Filled, Placed};
-use preproc_runs::drop_into;
+use preproc_runs::read_into;
 use preproc_signs::join_signs;
 use preproc_urls::blackbox_urls;
 use slices::class::DROPPED_HIGH;
@@ -20,7 +20,7 @@ pub fn fill_line(class: &[u8; 256], src: &[u8], area: &mut [u8], to: usize) -> u
     requires { ⌜ Classes (now class) × (length (now src) ≤ to) × (to + 3 * length (now src) ≤ length (now area)) ⌝ }
     ensures { λ r. ⌜ Filled (gapIn (now (class .entry))) (now (src .entry)) (now (area .entry)) to r (now (area .exit)) ⌝ }
 {
-    let n2 = drop_into(class, DROPPED_LOW, DROPPED_HIGH, src, area);
+    let n2 = read_into(class, DROPPED_LOW, DROPPED_HIGH, src, area);
     let end = blackbox_urls(class, area, n2, to);
     let n3 = end - to;
     let n5 = join_signs(class, &mut area[to..], n3);

@@ -18,7 +18,7 @@ kind lo hi rep = record { lo = lo; hi = hi; rep = rep }
 
 -- pass 4, and the five of pass 5, in order
 unfoldable pub kinds : List Kind
-kinds = kind 2 5 32 ∷ kind 12 12 39 ∷ kind 13 13 45 ∷ kind 14 14 40 ∷ kind 15 15 41 ∷ kind 11 11 95 ∷ []
+kinds = kind 2 5 32 ∷ kind 13 13 39 ∷ kind 14 14 45 ∷ kind 15 15 40 ∷ kind 16 16 41 ∷ kind 12 12 95 ∷ []
 
 -- what a byte of class c becomes: the byte of its kind, or 0 where it is of none
 unfoldable pub signIn : List Kind → ℕ → ℕ

@@ -18,7 +18,7 @@ use slices::class::OPENING;
 use slices::class::QUOTE;
 use slices::class::UNDERSCORE;
 
-// What b becomes, by its class, or 0 where it stays. Most bytes are letters, classes 9 and 10: they are told by two tests.
+// What b becomes, by its class, or 0 where it stays. Most are letters, classes 10 and 11: they are told by two tests.
 fn sign_of(class: &[u8; 256], b: u8) -> u8
     ensures { λ r. ⌜ r ≡ signIn kinds (getD (now (class .entry)) b 0) ⌝ }
 {

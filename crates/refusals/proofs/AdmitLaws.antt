@@ -22,7 +22,8 @@ use Rattle.rules.specs.declared.Mode.{Mode}
 use Rattle.rules.specs.declared.View.{View}
 use Rattle.rules.specs.declared.Checked.{Checked}
 use Rattle.rules.specs.Sizes.{storedMost, textMost, linesMost, editionMost, byteArea, wordArea}
-use Rattle.rules.specs.Bytes.{within, every}
+use Rattle.rules.specs.Bytes.{within}
+use Rattle.rules.specs.Points.{wide, taken}
 use Rattle.rules.specs.Lines.{lineCount}
 use Rattle.rules.specs.Book as Book
 use Rattle.rules.specs.Book.{stored}
@@ -34,7 +35,8 @@ use Rattle.rules.proofs.ShelfLaws.{two-length}
 use Rattle.rules.proofs.BoolLaws.{and-left, and-right}
 use Rattle.rules.proofs.RefusalLaws.{early, allEarly, Numbered, refusal-first, refusal-then, refusal-early, compile-numbered, scan-numbered}
 use Rattle.preproc_test.specs.declared.Tested.{Tested}
-use Rattle.preproc_test.specs.Counts.{AsTested}
+use Rattle.preproc_test.specs.Counts.{AsTested, Passed}
+use Rattle.preproc_test.proofs.CountLaws.{passed-text}
 use Rattle.detection_shelf.specs.declared.Counts.{Counts}
 use Rattle.detection_shelf.specs.Shelves.{Shelf, booksOf, Lends, texts, CountsOf}
 use Rattle.detection_shelf.proofs.ShelfLaws.{lent-read}
@@ -64,23 +66,23 @@ neither true b h = absurd (none h)
     none h = let z : _≡_ {A = ℕ} 0 1 = cc in omega arith
 neither false b h = (refl, h)
 
--- ---- a text that is let through
-pub record TextThrough (t : List ℕ) : Type 0 where
-  pub short : length t ≤ textMost
-  pub plain : every (λ x. ltb x 128) t ≡ true
-  pub few : lineCount t ≤ linesMost
-
-pub text-through : (t : List ℕ) → refusal (ofText t) ≡ 0 → TextThrough t
+-- ---- a text that is let through under edition e
+text-few : (e : ℕ) (t : List ℕ) → refusal (ofText e t) ≡ 0 → lineCount t ≤ linesMost
 unfolding ofText
-text-through t h =
+text-few e t h =
     let a = row-passes 0 (ltb textMost (length t)) _ h in
-    let b = row-passes 1 (not (every (λ x. ltb x 128) t)) _ (a .1) in
-    let c = row-passes 2 (ltb linesMost (lineCount t)) _ (b .1) in
-    record { short = ltb-false _ _ (a .0); plain = not-false _ (b .0); few = ltb-false _ _ (c .0) }
+    let b = row-passes 1 (not (taken (wide e) t)) _ (a .1) in
+    ltb-false _ _ (row-passes 2 (ltb linesMost (lineCount t)) _ (b .1) .0)
 
 -- L, of a text that is let through
-pub tested-lines : (t : List ℕ) (r : Tested) → AsTested t r → r .refusal ≡ 0 → r .lines ≡ lineCount t
-tested-lines t r h z = h .lines ∙ rw (eq-eqb (refusal (ofText t)) 0 (sym (h .number) ∙ z))
+pub tested-lines : (e : ℕ) (t : List ℕ) (r : Tested) → AsTested e t r → r .refusal ≡ 0 → r .lines ≡ lineCount t
+tested-lines e t r h z = h .lines ∙ rw (eq-eqb (refusal (ofText e t)) 0 (sym (h .number) ∙ z))
+
+-- the edition that a text is read by beside lent books: what the first says
+pub first-said : (books : Shelf) (two : Bool) → Book.editionOf (booksOf books two) ≡ Book.edition (books .first)
+unfolding Book.editionOf
+first-said books true = refl
+first-said books false = refl
 
 -- ---- the answer of `check`, as the rows of a book
 abbrev firstOf : (isSound isEmpty isApart : Bool) → ℕ
@@ -200,23 +202,31 @@ unfolding Book.differ Book.allOf
 lent-both first second two e m n p q = rw (e, p, q) (ap not (sym (and-true (eqb (Book.edition second) (Book.edition first)))))
 
 -- ---- refusals 1 to 5 and 15, then the others
-text-numbered : (t : List ℕ) → Numbered (ofText t)
+text-numbered : (e : ℕ) (t : List ℕ) → Numbered (ofText e t)
 unfolding ofText allEarly early
-text-numbered t = refl
+text-numbered e t = refl
 
 module _ (t : List ℕ) (books : Shelf) (two : Bool) where
+  abbrev said : ℕ
+  said = Book.editionOf (booksOf books two)
+
   abbrev both : List Row
-  both = ofText t ++ ofBooks (booksOf books two)
+  both = ofText said t ++ ofBooks (booksOf books two)
 
   both-numbered : Numbered both
   unfolding ofText ofBooks allEarly early
   both-numbered = refl
 
-  pub text-first : (refusal (ofText t) ≡ 0 → ⊥) → refusal (ofText t) ≡ refusal both
-  text-first k = sym (refusal-first (ofText t) (ofBooks (booksOf books two)) k)
+  -- whose number is that of the text, tested under the first book's edition
+  module _ {n : ℕ} (e : n ≡ refusal (ofText (Book.edition (books .first)) t)) where
+    tested : n ≡ refusal (ofText said t)
+    tested = e ∙ ap (λ (m : ℕ). refusal (ofText m t)) (sym (first-said books two))
 
-  pub text-then : refusal (ofText t) ≡ 0 → refusal (ofBooks (booksOf books two)) ≡ refusal both
-  text-then z = sym (refusal-then (ofText t) (ofBooks (booksOf books two)) (text-numbered t) z)
+    pub text-first : (n ≡ 0 → ⊥) → n ≡ refusal both
+    text-first k = tested ∙ sym (refusal-first (ofText said t) (ofBooks (booksOf books two)) (λ z. k (tested ∙ z)))
+
+    pub text-then : n ≡ 0 → refusal (ofBooks (booksOf books two)) ≡ refusal both
+    text-then z = sym (refusal-then (ofText said t) (ofBooks (booksOf books two)) (text-numbered said t) (sym tested ∙ z))
 
   pub text-refused : (n l : ℕ) (x : Counts) → n ≡ refusal both → (n ≡ 0 → ⊥) → AdmitsBooks t books two (record { refusal = n; lines = l; texts = x })
   text-refused n l x e k = record { number = e; lines = λ z. absurd (k z); texts = λ z. absurd (k z) }
@@ -258,60 +268,60 @@ none-first rs qs h = at (eqb (refusal rs) 0) refl
     at true q = eqb-true _ _ q
     at false q = let k = eqb-false (refusal rs) 0 q in absurd (k (sym (refusal-first rs qs k) ∙ h))
 
-pub through : (t : List ℕ) (books : Shelf) (two : Bool) → Lends books two → refusal (ofText t ++ ofBooks (booksOf books two)) ≡ 0 → Through t books
+pub through : (t : List ℕ) (books : Shelf) (two : Bool) → Lends books two → refusal (ofText (Book.editionOf (booksOf books two)) t ++ ofBooks (booksOf books two)) ≡ 0 → Through t books
 unfolding ofBooks
 through t books two lends h =
+    let e = Book.editionOf (booksOf books two) in
     let all = Book.shelved 0 (booksOf books two) in
-    let z = none-first (ofText t) (ofBooks (booksOf books two)) h in
-    let p = text-through t z in
-    let a = row-passes 3 (not (Book.allSound (booksOf books two))) _ (text-then t books two z ∙ h) in
+    let z = none-first (ofText e t) (ofBooks (booksOf books two)) h in
+    let a = row-passes 3 (not (Book.allSound (booksOf books two))) _ (sym (refusal-then (ofText e t) (ofBooks (booksOf books two)) (text-numbered e t) z) ∙ h) in
     let b = row-passes 4 (eqb (length all) 0) _ (a .1) in
     let k = eqb-false (length all) 0 (b .0) in
-    record { text = z; short = p .short; few = p .few; some = omega (arith, k, ap length (lent-read books two lends .texts)) }
+    record { text = passed-text e t z; few = text-few e t z; some = omega (arith, k, ap length (lent-read books two lends .texts)) }
 
 pub both-through : (t : List ℕ) (books : Shelf) (two : Bool) → Lends books two → {a : Admitted} → AdmitsBooks t books two a → a .refusal ≡ 0 → Through t books
 both-through t books two lends h z = through t books two lends (sym (h .number) ∙ z)
 
 -- ---- compile
 module _ (e : ℕ) (t : List ℕ) (a : Areas) where
-  compile-rows : beforeCompile e t a ≡ ofText t ++ compileRows (length t) e a
+  compile-rows : beforeCompile e t a ≡ ofText e t ++ compileRows (length t) e a
   unfolding beforeCompile compileRows small
   compile-rows = refl
 
-  pub compile-first : (refusal (ofText t) ≡ 0 → ⊥) → refusal (ofText t) ≡ refusal (beforeCompile e t a)
-  compile-first k = sym (ap refusal compile-rows ∙ refusal-first (ofText t) (compileRows (length t) e a) k)
+  pub compile-first : (refusal (ofText e t) ≡ 0 → ⊥) → refusal (ofText e t) ≡ refusal (beforeCompile e t a)
+  compile-first k = sym (ap refusal compile-rows ∙ refusal-first (ofText e t) (compileRows (length t) e a) k)
 
-  pub compile-then : refusal (ofText t) ≡ 0 → refusal (compileRows (length t) e a) ≡ refusal (beforeCompile e t a)
-  compile-then z = sym (ap refusal compile-rows ∙ refusal-then (ofText t) (compileRows (length t) e a) (text-numbered t) z)
+  pub compile-then : refusal (ofText e t) ≡ 0 → refusal (compileRows (length t) e a) ≡ refusal (beforeCompile e t a)
+  compile-then z = sym (ap refusal compile-rows ∙ refusal-then (ofText e t) (compileRows (length t) e a) (text-numbered e t) z)
 
   pub compile-early : (refusal (beforeCompile e t a) ≡ 0 → ⊥) → early (refusal (beforeCompile e t a)) ≡ true
   compile-early = refusal-early (beforeCompile e t a) (compile-numbered e t a)
 
   pub record CompileThrough : Type 0 where
-    pub text : refusal (ofText t) ≡ 0
+    pub text : Passed t
     pub bytes : byteArea (length t) ≤ a .bytes
     pub words : wordArea (length t) ≤ a .words
 
   pub compile-through : refusal (beforeCompile e t a) ≡ 0 → CompileThrough
   unfolding compileRows
   compile-through h =
-      let z = none-first (ofText t) (compileRows (length t) e a) (sym (ap refusal compile-rows) ∙ h) in
+      let z = none-first (ofText e t) (compileRows (length t) e a) (sym (ap refusal compile-rows) ∙ h) in
       let x = row-passes 3 (not (within 1 editionMost e)) _ (compile-then z ∙ h) in
       let w = neither _ _ (row-passes 9 (smallFor (length t) a) [] (x .1) .0) in
-      record { text = z; bytes = ltb-false _ _ (w .0); words = ltb-false _ _ (w .1) }
+      record { text = passed-text e t z; bytes = ltb-false _ _ (w .0); words = ltb-false _ _ (w .1) }
 
 -- ---- a view
 module _ (t : List ℕ) (books : Shelf) (two : Bool) (lends : Lends books two) (v : View) (k : ℕ) (a : Areas) where
-  pub view-rows : ofView t (booksOf books two) v k a ≡ (ofText t ++ ofBooks (booksOf books two)) ++ viewRows (length t) (lineCount t) (length (texts books)) v k a
+  pub view-rows : ofView t (booksOf books two) v k a ≡ (ofText (Book.editionOf (booksOf books two)) t ++ ofBooks (booksOf books two)) ++ viewRows (length t) (lineCount t) (length (texts books)) v k a
   unfolding ofView ofText ofBooks viewRows small
   view-rows =
-      ap (λ (n : ℕ). (ofText t ++ ofBooks (booksOf books two)) ++ viewRows (length t) (lineCount t) n v k a) (ap length (lent-read books two lends .texts))
+      ap (λ (n : ℕ). (ofText (Book.editionOf (booksOf books two)) t ++ ofBooks (booksOf books two)) ++ viewRows (length t) (lineCount t) n v k a) (ap length (lent-read books two lends .texts))
 
 pub view-through : (t : List ℕ) (books : Shelf) (two : Bool) → Lends books two → (v : View) (k : ℕ) (a : Areas) → refusal (ofView t (booksOf books two) v k a) ≡ 0 →
     ViewThrough t books v k a
 unfolding viewRows
 view-through t books two lends v k a h =
-    let first = ofText t ++ ofBooks (booksOf books two) in
+    let first = ofText (Book.editionOf (booksOf books two)) t ++ ofBooks (booksOf books two) in
     let rest = viewRows (length t) (lineCount t) (length (texts books)) v k a in
     let e = ap refusal (sym (view-rows t books two lends v k a)) ∙ h in
     let z = none-first first rest e in
@@ -341,7 +351,7 @@ view-kept t bs v k b w n e q =
 
 -- ---- a scan
 module _ (t : List ℕ) (books : Shelf) (two : Bool) (lim : Limits) (mode : Mode) (a : Areas) (results : ℕ) where
-  pub scan-rows : beforeScan t (booksOf books two) lim mode a results ≡ (ofText t ++ ofBooks (booksOf books two)) ++ scanRows (length t) (lineCount t) lim mode a results
+  pub scan-rows : beforeScan t (booksOf books two) lim mode a results ≡ (ofText (Book.editionOf (booksOf books two)) t ++ ofBooks (booksOf books two)) ++ scanRows (length t) (lineCount t) lim mode a results
   unfolding beforeScan ofText ofBooks scanRows small
   scan-rows = refl
 
@@ -349,7 +359,7 @@ pub scan-through : (t : List ℕ) (books : Shelf) (two : Bool) → Lends books t
     refusal (beforeScan t (booksOf books two) lim mode a results) ≡ 0 → ScanThrough t books lim mode a results
 unfolding scanRows
 scan-through t books two lends lim mode a results h =
-    let first = ofText t ++ ofBooks (booksOf books two) in
+    let first = ofText (Book.editionOf (booksOf books two)) t ++ ofBooks (booksOf books two) in
     let rest = scanRows (length t) (lineCount t) lim mode a results in
     let e = ap refusal (sym (scan-rows t books two lim mode a results)) ∙ h in
     let z = none-first first rest e in

@@ -8,9 +8,11 @@ use lib.ListN.{length}
 use Rattle.rules.specs.declared.Limits.{Limits}
 use Rattle.rules.specs.declared.Mode.{Mode}
 use Rattle.rules.specs.declared.View.{View}
-use Rattle.rules.specs.Sizes.{textMost, linesMost, byteArea, wordArea}
+use Rattle.rules.specs.Sizes.{linesMost, byteArea, wordArea}
 use Rattle.rules.specs.Lines.{lineCount}
+use Rattle.rules.specs.Book.{editionOf}
 use Rattle.rules.specs.Refusal.{Row, refusal, Areas, ofText, ofBooks, ofView, beforeScan, unit, stepZero, resultsNeed}
+use Rattle.preproc_test.specs.Counts.{Passed}
 use Rattle.detection_shelf.specs.Shelves.{Shelf, booksOf, texts, CountsOf}
 use Rattle.refusals.specs.declared.Admitted.{Admitted}
 use Rattle.refusals.specs.declared.BooksAdmitted.{BooksAdmitted}
@@ -27,7 +29,7 @@ pub record Admits (t : List ℕ) (books : Shelf) (rows : List Row) (r : Admitted
 
 -- refusals 1 to 5 and 15, which the jobs share: the rows of the books that are lent
 abbrev pub AdmitsBooks : (t : List ℕ) (books : Shelf) (two : Bool) (r : Admitted) → Type 0
-AdmitsBooks t books two r = Admits t books (ofText t ++ ofBooks (booksOf books two)) r
+AdmitsBooks t books two r = Admits t books (ofText (editionOf (booksOf books two)) t ++ ofBooks (booksOf books two)) r
 
 abbrev pub AdmitsView : (t : List ℕ) (books : Shelf) (two : Bool) (v : View) (k : ℕ) (a : Areas) (r : Admitted) → Type 0
 AdmitsView t books two v k a r = Admits t books (ofView t (booksOf books two) v k a) r
@@ -37,8 +39,7 @@ AdmitsScan t books two lim mode a results r = Admits t books (beforeScan t (book
 
 -- ---- what holds of what is let through, whichever rows it passed: below the refusals the work asks this and no more
 pub record Through (t : List ℕ) (books : Shelf) : Type 0 where
-  pub text : refusal (ofText t) ≡ 0
-  pub short : length t ≤ textMost
+  pub text : Passed t
   pub few : lineCount t ≤ linesMost
   pub some : 0 < length (texts books)
 

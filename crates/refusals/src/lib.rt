@@ -93,12 +93,12 @@ pub fn admit_books(book: &[u8], second: &[u8], two: bool) -> BooksAdmitted
     BooksAdmitted { refusal: 0, texts }
 }
 
-// Refusals 1 to 5 and 15: one walk over the text, and the books where the text is taken.
+// Refusals 1 to 5 and 15: one walk over the text, which is read by what the first book's first record says, and the books where the text is taken.
 fn admit_text_books(text: &[u8], book: &[u8], second: &[u8], two: bool) -> Admitted
     requires { ⌜ Lends (shelf (now book) (now second)) two ⌝ }
     ensures { λ r. ⌜ AdmitsBooks (now (text .entry)) (shelf (now (book .entry)) (now (second .entry))) two r ⌝ }
 {
-    let tested = test_text(text);
+    let tested = test_text(edition_of(book), text);
     let lines = tested.lines;
     if tested.refusal != 0 {
         let texts = Counts { first: 0, all: 0 };
@@ -121,7 +121,7 @@ fn admit_text_books(text: &[u8], book: &[u8], second: &[u8], two: bool) -> Admit
 pub fn admit_compile(text: &[u8], edition: u32, bytes: usize, words: usize) -> u32
     ensures { λ r. ⌜ r ≡ refusal (beforeCompile edition (now (text .entry)) (record { bytes = bytes; words = words })) ⌝ }
 {
-    let tested = test_text(text);
+    let tested = test_text(edition, text);
     let number = tested.refusal;
     if number != 0 {
         return number;

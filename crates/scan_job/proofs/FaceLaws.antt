@@ -25,7 +25,7 @@ use Rattle.rules.specs.declared.Mode.{Mode}
 use Rattle.rules.specs.declared.Mode.the-variants.{Elimination, TopDown}
 use Rattle.rules.specs.declared.Scanned.{Scanned}
 use Rattle.rules.specs.Sizes.{textMost, linesMost, storedMost}
-use Rattle.rules.specs.Bytes.{every}
+use Rattle.rules.specs.Points.{utf8, wide, taken}
 use Rattle.rules.specs.Lines.{lines, lineCount, size}
 use Rattle.rules.specs.declared.View.{View}
 use Rattle.rules.specs.Search.{noText, scoreView}
@@ -37,6 +37,7 @@ use Rattle.rules.specs.Jobs.{lent, over, answered, scan, resultsAfter, ScanDone
 use Rattle.rules.proofs.DownLaws.{each-at}
 use Rattle.rules.proofs.SoundLaws.{StoredSound}
 use Rattle.rules.proofs.ShelfLaws.{shelved-sound, shelved-most}
+use Rattle.rules.proofs.PointLaws.{taken-utf8}
 use Rattle.rules.proofs.GrowthLaws.{scoring-t}
 use Rattle.rules.proofs.NameLaws.{answer-lies, answer-named, answer-length}
 use Rattle.rules.proofs.BudgetLaws.{afford-all, records-begins}
@@ -109,6 +110,7 @@ module _ {t : List ℕ} {bs : List (List ℕ)} {lim : Limits} {mode : Mode} {bud
   -- ---- what is not refused before any work
   record Passed : Type 0 where
     short : length t ≤ textMost
+    bytes : utf8 false t ≡ true
     few : lineCount t ≤ linesMost
     sound : allSound bs ≡ true
     step : stepZero mode ≡ false
@@ -117,14 +119,14 @@ module _ {t : List ℕ} {bs : List (List ℕ)} {lim : Limits} {mode : Mode} {bud
   unfolding beforeScan ofText ofBooks
   passed z =
       let one = row-passes 0 (ltb textMost (length t)) _ z in
-      let two = row-passes 1 (not (every (λ x. ltb x 128) t)) _ (one .1) in
+      let two = row-passes 1 (not (taken (wide (editionOf bs)) t)) _ (one .1) in
       let three = row-passes 2 (ltb linesMost (lineCount t)) _ (two .1) in
       let four = row-passes 3 (not (allSound bs)) _ (three .1) in
       let five = row-passes 4 (eqb (length (shelved 0 bs)) 0) _ (four .1) in
       let fifteen = row-passes 14 (differ bs) _ (five .1) in
       let six = row-passes 5 (not (unit (lim .threshold) && unit (lim .shallow))) _ (fifteen .1) in
       let seven = row-passes 6 (stepZero mode) _ (six .1) in
-      record { short = ltb-false _ _ (one .0); few = ltb-false _ _ (three .0); sound = not-false _ (four .0); step = seven .0 }
+      record { short = ltb-false _ _ (one .0); bytes = taken-utf8 (wide (editionOf bs)) t (not-false _ (two .0)); few = ltb-false _ _ (three .0); sound = not-false _ (four .0); step = seven .0 }
 
   -- a limit on the list of what is not refused
   counted-within : (m : ℕ) → (before ≡ 0 → length (scorings full) ≤ m) → a .count ≤ m
@@ -142,7 +144,7 @@ module _ {t : List ℕ} {bs : List (List ℕ)} {lim : Limits} {mode : Mode} {bud
       scoreView ls (getD (shelved 0 bs) k noText) v .value .t < 2 ^ 24
   t-below z ls l v k h =
       let p = passed z in
-      scoring-t (editionOf bs) t ls v (getD (shelved 0 bs) k noText) (p .short) l (each-at StoredSound (shelved 0 bs) k noText h (shelved-sound 0 bs (p .sound)))
+      scoring-t (editionOf bs) t ls v (getD (shelved 0 bs) k noText) (p .bytes) (p .short) l (each-at StoredSound (shelved 0 bs) k noText h (shelved-sound 0 bs (p .sound)))
 
 -- ---- the two limits
 module _ {t : List ℕ} {bs : List (List ℕ)} {lim : Limits} {budget : ℕ} {b₀ b w₀ w r₀ r : List ℕ} {a : Scanned} where

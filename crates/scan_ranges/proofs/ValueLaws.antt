@@ -16,6 +16,7 @@ use Rattle.rules.specs.declared.Index.{Index}
 use Rattle.rules.specs.declared.Value.{Value}
 use Rattle.rules.specs.declared.View.{View}
 use Rattle.rules.specs.Sizes.{textMost}
+use Rattle.rules.specs.Points.{encoded}
 use Rattle.rules.specs.Passes.{aggressive}
 use Rattle.rules.specs.Table.{viewTable, bigrams}
 use Rattle.rules.specs.Search.{Made, Stored, noText, Span, width, low, high, higher, sweepFrom, sweep, search, scored, scoreView, view, viewed, bounds}
@@ -77,8 +78,8 @@ stands-sound books c t s h =
 view-proper : (ls : List (List ℕ)) (n : ℕ) (v : View) → n ≤ textMost → size ls ≤ 3 * n + 3 → Proper (viewTable (viewed ls v))
 unfolding viewTable
 view-proper ls n v h k =
-    table-proper (bigrams (aggressive (viewed ls v)))
-    (omega (arith, bigrams-length (aggressive (viewed ls v)), aggressive-length (viewed ls v), viewed-size ls v))
+    table-proper (bigrams (encoded (aggressive (viewed ls v))))
+    (omega (arith, bigrams-length (encoded (aggressive (viewed ls v))), aggressive-length (viewed ls v), viewed-size ls v))
 
 pub bounds-unit : (ls : List (List ℕ)) (n : ℕ) (v : View) (s : Stored) → n ≤ textMost → size ls ≤ 3 * n + 3 → StoredSound s →
     T (unit (bounds ls v s .value .value .score))

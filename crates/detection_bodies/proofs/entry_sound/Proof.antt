@@ -25,7 +25,7 @@ two-terms-requires c κs = search needs
 returns-2 : tie.Need-returns-2
 returns-2 c =
     let a = c .before .before .before .before .before .args in
-    let e : twoTerms (split 32 (now (a .bytes))) ≡ false = sym (c .before .two-terms .ensures) ∙ not-true _ (c .if2 .taken) in
+    let e : twoTerms (a .wide) (split 32 (now (a .bytes))) ≡ false = sym (c .before .two-terms .ensures) ∙ not-true _ (c .if2 .taken) in
     simp (e, and-false)
 
 above-requires : tie.Need-above-requires
@@ -35,7 +35,7 @@ returns-3 : tie.Need-returns-3
 returns-3 c =
     let a = c .before .before .before .before .before .before .args in
     let d : ltb 0 (a .count) ≡ true = lt-ltb 0 (a .count) (pos-of (a .count) (c .before .before .before .if1 .left)) in
-    let e : twoTerms (split 32 (now (a .bytes))) ≡ true = sym (c .before .before .two-terms .ensures) ∙ not-false _ (c .before .if2 .left) in
+    let e : twoTerms (a .wide) (split 32 (now (a .bytes))) ≡ true = sym (c .before .before .two-terms .ensures) ∙ not-false _ (c .before .if2 .left) in
     c .above .ensures ∙ simp (d, e)
 
 pub entry-sound-spec : {M : Type 1} → statement M

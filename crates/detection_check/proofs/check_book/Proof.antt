@@ -1,5 +1,6 @@
 -- `detection_check::check_book` meets its contract: the loop's invariant is `CheckWalk`: the verdict on what is still to come is the book's.
 -- Assumes nothing.
+use Rattle.rules.specs.Points.{wide}
 use Rattle.detection_check.proofs.CheckLaws.{verdict-long, CheckWalk, walked-start, walked-on, walked-next, walked-done}
 use lib.ListN.{length}
 use native.Mathlib.Omega.{arith}
@@ -21,8 +22,11 @@ module _ (x : tie.After-check-next Inv-loop μ-loop) where
   abbrev top : tie.At-loop Inv-loop μ-loop
   top = x .before
 
+  abbrev begin : tie.Start Inv-loop μ-loop
+  begin = search
+
   abbrev bytes : List ℕ
-  bytes = top .before .before .before .args .book .now
+  bytes = begin .args .book .now
 
 unsound-requires : tie.Need-unsound-requires Inv-loop μ-loop
 unsound-requires c κs = search needs
@@ -31,7 +35,11 @@ returns : tie.Need-returns Inv-loop μ-loop
 returns c = record { answer = c .unsound .ensures ∙ sym (verdict-long (c .before .before .before .args .book .now) (c .before .if1 .taken)) }
 
 loop-holds : tie.Need-loop-holds Inv-loop μ-loop
-loop-holds c = walked-start _ (c .if1 .left)
+unfolding wide
+loop-holds c =
+    let s : tie.Start Inv-loop μ-loop = search in
+    let book = s .args .book .now in
+    rw (c .edition-of .ensures) (walked-start book (c .before .if1 .left))
 
 check-next-requires : tie.Need-check-next-requires Inv-loop μ-loop
 check-next-requires c κs = c .loop .inv .within
@@ -66,6 +74,7 @@ check-book-spec =
     μ-loop
     unsound-requires
     returns
+    (λ c κs. search needs)
     loop-holds
     check-next-requires
     enum-known-w

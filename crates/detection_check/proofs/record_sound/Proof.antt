@@ -36,7 +36,7 @@ returns-2 : tie.Need-returns-2
 unfolding recordSound
 returns-2 c =
     let a = start (c .before) .args in
-    let e : soundBody (record { kind = a .kind; body = now (a .body) }) ≡ false = sym (c .before .body-sound .ensures) ∙ not-true _ (c .if2 .taken) in
+    let e : soundBody (a .wide) (record { kind = a .kind; body = now (a .body) }) ≡ false = sym (c .before .body-sound .ensures) ∙ not-true _ (c .if2 .taken) in
     simp (e, and-false)
 
 returns-3 : tie.Need-returns-3
@@ -44,7 +44,7 @@ unfolding recordSound
 returns-3 c =
     let x = c .before .before in
     let a = start x .args in
-    let e : soundBody (record { kind = a .kind; body = now (a .body) }) ≡ true = sym (x .body-sound .ensures) ∙ not-false _ (c .before .if2 .left) in
+    let e : soundBody (a .wide) (record { kind = a .kind; body = now (a .body) }) ≡ true = sym (x .body-sound .ensures) ∙ not-false _ (c .before .if2 .left) in
     simp (may x, e, ne-eqb (a .kind) 1 (c .if3 .taken))
 
 above-requires : tie.Need-above-requires
@@ -55,7 +55,7 @@ unfolding recordSound
 returns-4 c =
     let x = c .before .before .before in
     let a = start x .args in
-    let e : soundBody (record { kind = a .kind; body = now (a .body) }) ≡ true = sym (x .body-sound .ensures) ∙ not-false _ (c .before .before .if2 .left) in
+    let e : soundBody (a .wide) (record { kind = a .kind; body = now (a .body) }) ≡ true = sym (x .body-sound .ensures) ∙ not-false _ (c .before .before .if2 .left) in
     c .above .ensures ∙ simp (may x, e, eq-eqb (a .kind) 1 (c .before .if3 .left))
 
 pub record-sound-spec : {M : Type 1} → statement M

@@ -1,10 +1,15 @@
 -- `prefix_list::list_prefixes` meets its contract: its loop is `Listing`. The measure is what is left of the view.
 -- Assumes nothing.
-use mathlib.Core.Path.{refl}
+use mathlib.Core.Path.{_≡_, refl, sym, ap, _∙_}
 use mathlib.Core.List.{List}
 use Prim.Native.Nat.{ℕ, _+_, _-_, _*_, _≤_, _<_}
 use native.Mathlib.Omega.{arith}
 use denote.Ref.{now}
+use lib.Dec.{ltb}
+use lib.ListN.{length}
+use lib.Seq.{slice}
+use Rattle.lists.proofs.SliceLaws.{part-slice}
+use Rattle.rules.specs.Points.{encoded}
 use Rattle.slices.specs.declared.ends.ByteSpan.{ByteSpan}
 use Rattle.preproc_table.specs.Entries.{startAt}
 use Rattle.prefix_list.proofs.ListLaws.{Listing, listing-start, listing-lies, listing-room, listing-skip, listing-put, listing-end}
@@ -41,7 +46,7 @@ module _ (c : tie.In-loop Inv-loop μ-loop) where
 -- and once lines i and i + 1 are compared
 module _ (s : tie.After-shared Inv-loop μ-loop) where
   abbrev inside : tie.In-loop Inv-loop μ-loop
-  inside = s .before .before .before
+  inside = search
 
   abbrev span : ByteSpan
   span = s .shared .result
@@ -80,33 +85,59 @@ shared-requires c κs =
     )
 
 sub-len : tie.Need-sub-len Inv-loop μ-loop
-sub-len c = omega (arith, room (c .before))
+sub-len c =
+    let s : tie.After-shared Inv-loop μ-loop = search in
+    omega (arith, room s)
 
 add-i : tie.Need-add-i Inv-loop μ-loop
 add-i c = search needs
 
+sub-longer-than : tie.Need-sub-longer-than Inv-loop μ-loop
+sub-longer-than c =
+    let s : tie.After-shared Inv-loop μ-loop = search in
+    omega (arith, room s)
+
+part-longer-than-end : tie.Need-part-longer-than-end Inv-loop μ-loop
+part-longer-than-end c =
+    let s : tie.After-shared Inv-loop μ-loop = search in
+    let r = room s in
+    let d = inside s in
+    omega (arith, head d .loop .inv .area-long, head d .loop .inv .high, start d .pre .1 .1)
+
+-- what the test of the length says of the prefix
+module _ (l : tie.After-longer-than Inv-loop μ-loop) where
+  abbrev seen : tie.After-shared Inv-loop μ-loop
+  seen = search
+
+  long-as : ltb 3 (length (encoded (slice (span seen .start) (span seen .end) (head (inside seen) .loop .area)))) ≡ l .longer-than .result
+  long-as = ap (λ (p : List ℕ). ltb 3 (length (encoded p))) (sym (part-slice (span seen .start) (span seen .end) (head (inside seen) .loop .area))) ∙ sym (l .longer-than .ensures)
+
 put-prefix-requires : tie.Need-put-prefix-requires Inv-loop μ-loop
 put-prefix-requires c κs =
-    let s = c .before .before .before in
+    let s : tie.After-shared Inv-loop μ-loop = search in
     let r = room s in
     let d = inside s in
     (omega arith, omega (arith, head d .loop .inv .area-long, start d .pre .1 .1))
 
 add-j : tie.Need-add-j Inv-loop μ-loop
 add-j c =
-    let d = inside (c .before .before .before .before .before .before) in
+    let s : tie.After-shared Inv-loop μ-loop = search in
+    let d = inside s in
     let l = head d .loop .inv in
     omega (arith, ended d .table-end .ensures, l .few, l .within, start d .pre)
 
 cast-words : tie.Need-cast-words Inv-loop μ-loop
-cast-words c = omega (arith, head (inside (c .before .before .before .before .before .before)) .loop .inv .high, start (inside (c .before .before .before .before .before .before)) .pre .1 .0)
+cast-words c =
+    let s : tie.After-shared Inv-loop μ-loop = search in
+    omega (arith, head (inside s) .loop .inv .high, start (inside s) .pre .1 .0)
 
 mul-words : tie.Need-mul-words Inv-loop μ-loop
 mul-words c = search needs
 
 slice-write-words : tie.Need-slice-write-words Inv-loop μ-loop
 slice-write-words c =
-    let d = inside (c .before .before .before .before .before .before) in
+    let s : tie.After-shared Inv-loop μ-loop = search in
+    let d = inside s in
     let l = head d .loop .inv in
     omega (arith, ended d .table-end .ensures, l .few, l .within, l .table-long, start d .pre .0 .3, start d .pre .0 .4, start d .pre .1 .2)
 
@@ -114,33 +145,39 @@ add-k : tie.Need-add-k Inv-loop μ-loop
 add-k c = search needs
 
 add-w : tie.Need-add-w Inv-loop μ-loop
-add-w c = omega (arith, room (c .before .before .before .before .before .before), start (inside (c .before .before .before .before .before .before)) .pre .1 .0)
+add-w c =
+    let s : tie.After-shared Inv-loop μ-loop = search in
+    omega (arith, room s, start (inside s) .pre .1 .0)
 
 add-w-2 : tie.Need-add-w-2 Inv-loop μ-loop
-add-w-2 c = omega (arith, room (c .before .before .before .before .before .before), start (inside (c .before .before .before .before .before .before)) .pre .1 .0)
+add-w-2 c =
+    let s : tie.After-shared Inv-loop μ-loop = search in
+    omega (arith, room s, start (inside s) .pre .1 .0)
 
 loop-less : tie.Need-loop-less Inv-loop μ-loop
 loop-less c = search needs
 
 loop-again : tie.Need-loop-again Inv-loop μ-loop
 loop-again c =
-    let p = c .before .before in
-    let s = c .before .before .before .before .before .before in
+    let p : tie.After-put-prefix Inv-loop μ-loop = search in
+    let s : tie.After-shared Inv-loop μ-loop = search in
+    let l : tie.After-longer-than Inv-loop μ-loop = search in
     let d = inside s in
     rw (ended d .table-end .ensures)
     (listing-put (start d .args .n) (start d .args .count) (stop d) (area₀ d) (table₀ d) (start d .pre .0 .1) (start d .pre .0 .3) (start d .pre .0 .4) (start d .pre .1 .1) (start d .pre .1 .2)
     (start d .args .v .start) (head d .loop .area) (head d .loop .words) (head d .loop .k) (head d .loop .w) (head d .loop .i) (head d .loop .inv) (d .loop-test .taken) (span s) (s .shared .ensures)
-    (span s .end - span s .start) refl (c .before .before .before .before .if1 .taken) _ (p .put-prefix .kept .0) (p .put-prefix .ensures))
+    (span s .end - span s .start) refl (long-as l ∙ c .before .before .before .before .if1 .taken) _ (p .put-prefix .kept .0) (p .put-prefix .ensures))
 
 loop-less-2 : tie.Need-loop-less-2 Inv-loop μ-loop
 loop-less-2 c = search needs
 
 loop-again-2 : tie.Need-loop-again-2 Inv-loop μ-loop
 loop-again-2 c =
-    let s = c .before .before in
+    let s : tie.After-shared Inv-loop μ-loop = search in
+    let l : tie.After-longer-than Inv-loop μ-loop = search in
     let d = inside s in
     listing-skip (start d .args .n) (start d .args .count) (stop d) (area₀ d) (table₀ d) (start d .pre .0 .1) (start d .pre .0 .3) (start d .pre .0 .4) (start d .pre .1 .1) (start d .pre .1 .2)
-    (start d .args .v .start) (head d .loop .area) (head d .loop .words) (head d .loop .k) (head d .loop .w) (head d .loop .i) (head d .loop .inv) (d .loop-test .taken) (span s) (s .shared .ensures) (c .if1 .left)
+    (start d .args .v .start) (head d .loop .area) (head d .loop .words) (head d .loop .k) (head d .loop .w) (head d .loop .i) (head d .loop .inv) (d .loop-test .taken) (span s) (s .shared .ensures) (long-as l ∙ c .if1 .left)
 
 same-length : tie.Need-same-length Inv-loop μ-loop
 same-length c = c .before .loop .inv .area-long
@@ -166,6 +203,10 @@ list-prefixes-spec =
     shared-requires
     sub-len
     add-i
+    sub-longer-than
+    (λ c. search needs)
+    part-longer-than-end
+    (λ c κs. search needs)
     put-prefix-requires
     add-j
     cast-words

@@ -14,7 +14,7 @@ unfolding signIn kinds within
 returns c =
     let o = c .before .before .before .args in
     let a = getD (o .class .now) (o .b) 0 in
-    rw (lt-leb 2 a (omega arith), lt-leb 12 a (omega arith), lt-leb 13 a (omega arith), lt-leb 14 a (omega arith), lt-leb 15 a (omega arith), lt-leb 11 a (omega arith))
+    rw (lt-leb 2 a (omega arith), lt-leb 13 a (omega arith), lt-leb 14 a (omega arith), lt-leb 15 a (omega arith), lt-leb 16 a (omega arith), lt-leb 12 a (omega arith))
 
 returns-2 : tie.Need-returns-2
 unfolding signIn kinds within
@@ -28,7 +28,7 @@ unfolding signIn kinds within
 returns-3 c =
     let o = c .before .before .before .args in
     let a = getD (o .class .now) (o .b) 0 in
-    rw (le-leb 2 a (omega arith), lt-leb a 5 (omega arith), lt-leb 12 a (omega arith), lt-leb 13 a (omega arith), lt-leb 14 a (omega arith), lt-leb 15 a (omega arith), lt-leb 11 a (omega arith))
+    rw (le-leb 2 a (omega arith), lt-leb a 5 (omega arith), lt-leb 13 a (omega arith), lt-leb 14 a (omega arith), lt-leb 15 a (omega arith), lt-leb 16 a (omega arith), lt-leb 12 a (omega arith))
 
 returns-4 : tie.Need-returns-4
 unfolding signIn kinds within
@@ -55,7 +55,7 @@ unfolding signIn kinds within
 returns-9 c =
     let o = c .before .before .before .before .before .before .before .before .args in
     let a = getD (o .class .now) (o .b) 0 in
-    rw (le-leb 2 a (omega arith), lt-leb a 5 (omega arith), le-leb 12 a (omega arith), lt-leb a 12 (omega arith), le-leb 13 a (omega arith), lt-leb a 13 (omega arith), le-leb 14 a (omega arith), lt-leb a 14 (omega arith), le-leb 15 a (omega arith), lt-leb a 15 (omega arith), le-leb 11 a (omega arith), lt-leb a 11 (omega arith))
+    rw (le-leb 2 a (omega arith), lt-leb a 5 (omega arith), le-leb 13 a (omega arith), lt-leb a 13 (omega arith), le-leb 14 a (omega arith), lt-leb a 14 (omega arith), le-leb 15 a (omega arith), lt-leb a 15 (omega arith), le-leb 16 a (omega arith), lt-leb a 16 (omega arith), le-leb 12 a (omega arith), lt-leb a 12 (omega arith))
 
 pub sign-of-spec : {M : Type 1} → statement M
 sign-of-spec =

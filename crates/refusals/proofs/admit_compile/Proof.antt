@@ -15,7 +15,7 @@ returns c =
     e ∙ compile-first _ _ _ (λ z. c .if1 .taken (e ∙ z))
 
 refuse-compile-requires : tie.Need-refuse-compile-requires
-refuse-compile-requires c κs = omega (arith, passed-length _ (sym (c .before .test-text .ensures .number) ∙ c .if1 .left))
+refuse-compile-requires c κs = omega (arith, passed-length _ _ (sym (c .before .test-text .ensures .number) ∙ c .if1 .left))
 
 returns-2 : tie.Need-returns-2
 returns-2 c =

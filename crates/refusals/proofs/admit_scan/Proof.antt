@@ -19,7 +19,7 @@ refuse-scan-requires c κs =
     let i = c .before in
     let h = i .before .before .admit-text-books .ensures in
     let p = both-through _ _ _ (i .before .before .before .before .before .before .pre) h (i .if1 .left) in
-    (p .short, omega (arith, p .few, h .lines (i .if1 .left)))
+    (p .text .short, omega (arith, p .few, h .lines (i .if1 .left)))
 
 returns-2 : tie.Need-returns-2
 returns-2 c =

@@ -16,7 +16,7 @@ returns c =
 refuse-view-requires : tie.Need-refuse-view-requires
 refuse-view-requires c κs =
     let i = c .before in
-    both-through _ _ _ (i .before .before .before .before .before .before .pre) (i .before .before .admit-text-books .ensures) (i .if1 .left) .short
+    both-through _ _ _ (i .before .before .before .before .before .before .pre) (i .before .before .admit-text-books .ensures) (i .if1 .left) .text .short
 
 returns-2 : tie.Need-returns-2
 returns-2 c =

@@ -8,7 +8,6 @@ use denote.Ref.{now}
 use lib.ListN.{length, take, drop}
 use Rattle.rules.specs.Sizes.{textMost}
 use Rattle.slices.specs.Classes.{gapIn}
-use Rattle.preproc_test.proofs.CountLaws.{passed-length}
 use Rattle.preproc_lines.proofs.WholeLaws.{Normalising, going-start, piece-within, piece-length, end-top, going-on, going-end}
 use borrow.Author.Needs.{needs}
 use Rattle.preproc_lines.proofs.whole.normalise.Statement.{statement}
@@ -41,7 +40,7 @@ module _ (k : tie.After-line-len Inv-loop μ-loop) where
   going = head .loop .inv .3
 
   short : length source ≤ textMost
-  short = passed-length source (start .pre .1)
+  short = start .pre .1
 
   inside : head .loop .at ≤ length source
   inside = omega (arith, turn .loop-test .taken, head .loop .inv .0)

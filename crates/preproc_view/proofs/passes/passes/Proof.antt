@@ -1,14 +1,14 @@
 -- `passes`: the title goes by an offset.
 -- Assumes nothing.
-use mathlib.Core.Path.{sym}
+use mathlib.Core.Path.{sym, ap}
 use mathlib.Core.List.{List}
 use Prim.Native.Nat.{ℕ, _≤_}
 use native.Mathlib.Omega.{arith}
 use denote.Ref.{now}
-use lib.ListN.{take, length-drop}
+use lib.ListN.{length, take, length-drop}
 use lib.Seq.{length-take-le}
 use Rattle.lists.proofs.SliceLaws.{part-rest}
-use Rattle.preproc_view.proofs.RowLaws.{whole-row}
+use Rattle.preproc_view.proofs.RowLaws.{lent-room, whole-row}
 use borrow.Author.Needs.{needs}
 use Rattle.preproc_view.proofs.passes.passes.Statement.{statement}
 use Rattle.preproc_view.proofs.passes.passes.Tie as tie
@@ -40,15 +40,21 @@ last-passes-requires : tie.Need-last-passes-requires
 last-passes-requires c κs =
     let t = c .before in
     let a = t .title-len .result in
-    (F t .before .before .before .pre .0, rw (part-rest a (B t), length-drop) (omega (arith, less t, F t .first-passes .ensures .within)))
+    let o = F t .before .before .before in
+    let s = take (o .args .n) (now (o .args .buf)) in
+    let room = lent-room s (B t) (F t .first-passes .result) a (F t .first-passes .ensures) (t .title-len .ensures .0) (omega (arith, o .pre .2)) in (
+      o .pre .0,
+      rw (part-rest a (B t), length-drop) (omega (arith, less t, F t .first-passes .ensures .within)),
+      omega (arith, room, ap length (part-rest a (B t)), length-drop a (B t)),
+    )
 
 returns : tie.Need-returns
 returns c =
     let l = c .before .before .before .before in
     let t = l .before .before in
     let o = F t .before .before .before in
-    whole-row (take (o .args .n) (now (o .args .buf))) (B t) _ _ (F t .first-passes .result) (t .title-len .result) (l .last-passes .result)
-    (F t .first-passes .ensures) (t .title-len .ensures .0) (t .title-len .ensures .1) (l .last-passes .ensures)
+    whole-row (take (o .args .n) (now (o .args .buf))) (B t) (F t .first-passes .result) (t .title-len .result) (F t .first-passes .ensures) (t .title-len .ensures .0)
+    _ _ (l .last-passes .result) (t .title-len .ensures .1) (l .last-passes .ensures)
 
 pub passes-spec : {M : Type 1} → statement M
 passes-spec =

@@ -4,7 +4,7 @@ use mathlib.Core.List.{List}
 use Prim.Native.Nat.{ℕ}
 use native.Mathlib.Omega.{arith}
 use Rattle.lists.proofs.SliceLaws.{part-rest}
-use Rattle.preproc_view.proofs.WholeLaws.{ready-below, ready-room, all-passes}
+use Rattle.preproc_view.proofs.WholeLaws.{ready-below, ready-room, ready-encoded, all-passes}
 use borrow.Author.Needs.{needs}
 use Rattle.preproc_view.proofs.process.process_with.Statement.{statement}
 use Rattle.preproc_view.proofs.process.process_with.Tie as tie
@@ -29,7 +29,11 @@ join-lines-requires c κs =
 passes-requires : tie.Need-passes-requires
 passes-requires c κs =
     let j = c .before .before .before in
-    (start (begun j) .pre .0 .classes, rw (part-rest (begun j .view-start .result) (B j)) (j .join-lines .ensures .there .within))
+    let o = start (begun j) in (
+      o .pre .0 .classes,
+      rw (part-rest (begun j .view-start .result) (B j)) (j .join-lines .ensures .there .within),
+      ready-encoded (o .pre .0) (o .pre .1) (begun j .view-start .ensures) (B j) (j .join-lines .ensures) (omega arith),
+    )
 
 returns : tie.Need-returns
 returns c =
