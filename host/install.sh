@@ -16,7 +16,8 @@ Installs Chultarvi under PREFIX, an absolute path such as /usr/local or "$HOME/.
   lib/libchultarvi.a             the archive, for x86-64
   lib/pkgconfig/chultarvi.pc     cc app.c $(pkg-config --cflags --libs chultarvi)
   lib/cmake/chultarvi/           find_package(chultarvi), target chultarvi::chultarvi
-  share/chultarvi/debian-2.book  the default book, of edition 2
+  share/chultarvi/debian-3.book  the default book, of edition 3, which takes notes with accents
+  share/chultarvi/debian-2.book  the same of edition 2, for ASCII alone
   share/chultarvi/debian.book    the same of edition 1, in which the digit 4 counts as a space
   share/man/man1/chultarvi.1     man chultarvi
 
@@ -120,5 +121,5 @@ case ${RUN-} in
 '') ;;
 *) echo "  (the program is for x86-64, and this machine is $(uname -m): run it by $RUN $prefix/bin/chultarvi)" ;;
 esac
-echo "  chultarvi scan \"$prefix/share/chultarvi/debian-2.book\" NOTE..."
+echo "  chultarvi scan \"$prefix/share/chultarvi/debian-3.book\" NOTE..."
 echo "  cc app.c \$(PKG_CONFIG_PATH=\"$prefix/lib/pkgconfig\" pkg-config --cflags --libs chultarvi)"

@@ -7,6 +7,6 @@ root=$(cd "$(dirname "$(readlink -f "$0")")/.." && pwd)
 need_program
 if [ $# = 0 ]; then
     cd "$root"
-    set -- scan books/debian-2.book examples/note.txt
+    set -- scan books/debian-3.book examples/note.txt
 fi
 exec $RUN "$root/target/chultarvi" "$@"

@@ -1,8 +1,8 @@
 #!/bin/sh
 # shellcheck disable=SC1091,SC2086,SC2154
 # Passes all tests of the host: builds what is missing, runs host/tests/callers.sh, host/tests/face.c compiled as C and as C++,
-# oracle/rows.py --quick, and line.sh, desk.sh, commands.sh, editions.sh, drivers.sh, measure.sh and install.sh of host/tests. All that it makes stands in
-# a folder of its own under target/, so that several runs at once do not meet.
+# oracle/rows.py --quick, oracle/unicode.py, and line.sh, desk.sh, commands.sh, editions.sh, accents.sh, drivers.sh, measure.sh and install.sh of
+# host/tests. All that it makes stands in a folder of its own under target/, so that several runs at once do not meet.
 # The last line is 'N passed, M failed', the sum; the exit status is 0 only where M is 0.
 set -eu
 root=$(cd "$(dirname "$(readlink -f "$0")")/.." && pwd)
@@ -49,16 +49,18 @@ part 'the header from C++' $RUN "$folder/face_cxx"
 export RUN CC LINK
 if command -v python3 >/dev/null; then
     part 'answers and areas against a second reading' python3 oracle/rows.py --quick
+    part 'the classes of characters against Unicode' python3 oracle/unicode.py
 else
-    echo 'not run here: answers and areas against a second reading (no python3)'
+    echo 'not run here: answers and areas against a second reading, the classes of characters against Unicode (no python3)'
 fi
-set -- target/chultarvi "$folder/faulty" books/debian-2.book examples/note.txt
+set -- target/chultarvi "$folder/faulty" books/debian-3.book examples/note.txt
 part 'the command line: scan' sh host/tests/line.sh "$@"
 part 'the command line: for the desk' sh host/tests/desk.sh "$@"
 part 'the command line: the other commands' sh host/tests/commands.sh "$@"
 part 'the command line: editions' sh host/tests/editions.sh "$@"
+part 'the command line: accents' sh host/tests/accents.sh "$@"
 part 'the drivers' sh host/tests/drivers.sh
-part 'the measure of a book' sh host/tests/measure.sh target/chultarvi books/debian-2.book examples/note.txt
+part 'the measure of a book' sh host/tests/measure.sh target/chultarvi books/debian-3.book examples/note.txt
 part 'the installation' sh host/tests/install.sh
 echo "$passed passed, $failed failed"
 [ "$failed" = 0 ]

@@ -28,13 +28,16 @@
      kind 3   its alternates, each a table, any number
      kind 4   its headers, each a table, any number
      kind 5   its aliases, each like a name, any number; no scan reads them
-     kind 6   the edition of all its tables, u16: 2. Only as the very first record; a book without it is of edition 1, also an empty one
+     kind 6   the edition of all its tables, u16: 2 or 3. Only as the very first record; a book without it is of edition 1, also an empty one
      table    u32 total, u32 distinct, the entries, which fill it: distinct is how many, total the sum of their counts, at most 8,388,608
-     entry    u32 count, from 1 on, u32 length, the bytes: two words of a-z, 0-9 and _ with one space between. Entries strictly rise by their bytes
+     entry    u32 count, from 1 on, u32 length, the bytes: two words of a-z, 0-9 and _ with one space between. Entries strictly rise by their bytes.
+              Words of edition 3 may also have U+00AA, U+00B5, U+00BA and U+00DF to U+00FF but U+00F7, in UTF-8: letters as lower case leaves them
    Stored texts are the records of kinds 2 to 4, numbered from 0 as they stand. chultarvi_compile makes tables; `chultarvi book` makes books.
 
-   Editions. In edition 1 the digit 4 is a space, so that "version 4" and "version" read alike; from edition 2 on it stays. Nothing else differs. Every
-   call reads its text by the edition of the book that it is lent, so tables of one book are made by one edition, and two books are of the same (15).
+   Editions. In edition 1 the digit 4 is a space, so that "version 4" and "version" read alike; from edition 2 on it stays. Editions 1 and 2 take ASCII,
+   edition 3 takes UTF-8 up to U+00FF: bytes of 00 to 7F, or C2 or C3 and one of 80 to BF behind it; so no byte order mark. Nothing else differs: ASCII is
+   answered in edition 3 as in 2. Every call reads its text by the edition of the book that it is lent, of two by that of the first, as chultarvi_edition
+   says it; so tables of one book are made by one edition, and two books are of the same (15). Lengths, limits and areas count bytes, not characters.
 
    What a scoring costs, measured (docs/SPEED.md). Each call checks its books first: some 2 ns for each byte of them. Scoring some lines sorts them, in up
    to 60 ns for each of their bytes; against the next stored texts the same lines take 1 to 80 us each. Elimination scores the whole text against all
@@ -53,9 +56,9 @@
 extern "C" {
 #endif
 
-#define CHULTARVI_VERSION "0.3.0"
+#define CHULTARVI_VERSION "0.4.0"
 #define CHULTARVI_VERSION_MAJOR 0
-#define CHULTARVI_VERSION_MINOR 3
+#define CHULTARVI_VERSION_MINOR 4
 #define CHULTARVI_VERSION_PATCH 0
 
 #define CHULTARVI_TEXT_MOST 1048576u   /* bytes of a text */
@@ -63,7 +66,7 @@ extern "C" {
 #define CHULTARVI_BOOK_MOST 16777216u  /* bytes of a book */
 #define CHULTARVI_STORED_MOST 1024u    /* stored texts of a book */
 #define CHULTARVI_NAME_MOST 64u        /* bytes of a name */
-#define CHULTARVI_EDITION_MOST 2u      /* the last edition; the first is 1 */
+#define CHULTARVI_EDITION_MOST 3u      /* the last edition; the first is 1 */
 #define CHULTARVI_RECORD_WIDTH 4u      /* numbers of a record in the results */
 #define CHULTARVI_RECORD_HEAD 6u       /* bytes of a book's record before its body */
 
@@ -82,7 +85,8 @@ enum {
 enum chultarvi_refusal {
     CHULTARVI_ANSWERED = 0,
     CHULTARVI_REFUSED_TEXT_LONG = 1,
-    CHULTARVI_REFUSED_TEXT_NOT_ASCII = 2, /* a byte of 128 or more */
+    CHULTARVI_REFUSED_TEXT_BYTES = 2, /* editions 1 and 2: a byte of 128 or more; edition 3: no UTF-8, or a character above U+00FF */
+    CHULTARVI_REFUSED_TEXT_NOT_ASCII = CHULTARVI_REFUSED_TEXT_BYTES, /* its name before 0.4 */
     CHULTARVI_REFUSED_LINES_MANY = 3,
     CHULTARVI_REFUSED_BOOK_UNSOUND = 4, /* of compile, which is lent no book: no such edition */
     CHULTARVI_REFUSED_BOOK_EMPTY = 5,
@@ -102,7 +106,7 @@ static inline const char *chultarvi_refusal_text(uint32_t refusal)
     static const char *const refusal_texts[] = {
         "none",
         "the text is over 1,048,576 bytes",
-        "the text is not ASCII",
+        "the text is not ASCII, or for edition 3 not UTF-8 up to U+00FF",
         "the text is over 65,536 lines",
         "the book is not sound",
         "the book has no stored text",
@@ -134,11 +138,12 @@ static inline size_t chultarvi_top_down_results(size_t lines) { return CHULTARVI
 typedef struct { uint32_t refusal, texts; } chultarvi_book_checked;
 chultarvi_book_checked chultarvi_check_book(const uint8_t *book, size_t book_len);
 
-/* The edition of a sound book: 1 or 2. Of any other bytes it is 2 where they begin with the whole record of edition 2, else 1; nothing is refused. */
+/* The edition of a sound book: 1, 2 or 3. Of any other bytes it is 2 or 3 where they begin with the whole record of that, else 1; nothing is refused.
+   By it a text is refused (2), also where the book is refused behind that (4). */
 uint32_t chultarvi_edition(const uint8_t *book, size_t book_len);
 
-/* Compiles a text by an edition, 1 or 2, to its table, which is the body of a record of kind 2, 3 or 4 in a book of this edition. It is written at the
-   front of out; len: its length in bytes, at most chultarvi_table_bytes. Refusals 1 to 3, 4 for any other edition, 10, 11. */
+/* Compiles a text by an edition, 1 to 3, to its table, which is the body of a record of kind 2, 3 or 4 in a book of this edition. It is written at the
+   front of out; len: its length in bytes, at most chultarvi_table_bytes. Refusals 1 to 3, 4 for any other edition (before it 2 as of edition 1), 10, 11. */
 typedef struct { uint32_t refusal; size_t len; } chultarvi_text_compiled;
 chultarvi_text_compiled chultarvi_compile(const uint8_t *text, size_t text_len, uint32_t edition, uint8_t *area, size_t area_len, uint32_t *words,
                                           size_t words_len, uint8_t *out, size_t out_len);
@@ -199,7 +204,7 @@ chultarvi_note_scanned chultarvi_top_down(const uint8_t *text, size_t text_len, 
 
 /* The same five over two books: their stored texts count on from the first into the second, and N is the sum, also in the budget's "each stored
    text". Refusal 4 if either is unsound, 5 if neither has a text, 15 if their editions differ. An empty book, of length 0, may stand on either side of
-   one of edition 1; beside one of edition 2 it is refused by 15, so where there is no second book take the calls above, which never are. Each book has
+   one of edition 1; beside one of 2 or 3 it is refused by 15, so where there is no second book take the calls above, which never are. Each book has
    its own limits of bytes and texts. Both are only read, and may be the same memory. Names rise in each book for itself, and equal ones may stand in
    both: among equal scores the lower number wins, so the first book. */
 chultarvi_view_scored chultarvi_score_both(const uint8_t *text, size_t text_len, const uint8_t *book, size_t book_len, const uint8_t *second,

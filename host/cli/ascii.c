@@ -1,5 +1,5 @@
-/* A text as ASCII (--ascii of scan and of book): each character that is not ASCII becomes what stands for it there, or nothing. Bytes that are no UTF-8 are read as
-   Latin-1, which old notes are in. No line break is added or taken, so lines count as in the file. */
+/* A text as its edition takes it (--ascii of scan and of book): each character that the edition does not take becomes what stands for it in ASCII, or
+   nothing. Bytes that are no UTF-8 are read as Latin-1, which old notes are in. No line break is added or taken, so lines count as in the file. */
 #include "host.h"
 #include <string.h>
 
@@ -38,25 +38,7 @@ static const char *ascii_like(uint32_t code, size_t *len) {
     return extended + (code - 0x100);
 }
 
-/* The character at p and how many bytes it has; where that is no UTF-8, its byte. */
-static uint32_t read_character(const uint8_t *p, size_t left, size_t *bytes) {
-    static const struct { uint8_t head, bits; uint32_t least; size_t len; } form[] = {{0xc0, 0x1f, 0x80, 2}, {0xe0, 0x0f, 0x800, 3}, {0xf0, 0x07, 0x10000, 4}};
-    *bytes = 1;
-    for (size_t i = 0; i < sizeof form / sizeof *form; i++) {
-        if ((p[0] & ~form[i].bits & 0xff) != form[i].head || form[i].len > left) continue;
-        uint32_t code = p[0] & form[i].bits;
-        for (size_t k = 1; k < form[i].len; k++) {
-            if ((p[k] & 0xc0) != 0x80) return p[0];
-            code = code << 6 | (p[k] & 0x3f);
-        }
-        if (code < form[i].least || code > 0x10ffff) return p[0];
-        *bytes = form[i].len;
-        return code;
-    }
-    return p[0];
-}
-
-size_t to_ascii(const uint8_t *from, size_t from_len, uint8_t *to, size_t *len) {
+size_t to_taken(const uint8_t *from, size_t from_len, uint32_t edition, uint8_t *to, size_t *len) {
     const size_t most = CHULTARVI_TEXT_MOST + 1;
     size_t changed = 0;
     *len = 0;
@@ -66,17 +48,17 @@ size_t to_ascii(const uint8_t *from, size_t from_len, uint8_t *to, size_t *len) 
         return 0;
     }
     for (size_t at = 0, bytes; at < from_len && *len < most; at += bytes) {
-        bytes = 1;
-        if (from[at] < 128) {
-            to[(*len)++] = from[at];
-            continue;
-        }
-        size_t width;
-        const char *as = ascii_like(read_character(from + at, from_len - at, &bytes), &width);
+        uint32_t code = read_character(from + at, from_len - at, &bytes);
+        uint8_t latin[2]; /* for a byte that is no UTF-8 */
+        const void *as = bytes ? from + at : latin;
+        size_t width = bytes ? bytes : sizeof latin;
+        changed += !bytes || !is_taken(code, edition);
+        if (!is_taken(code, edition)) as = ascii_like(code, &width);
+        else if (!bytes) put_latin(latin, code);
+        if (!bytes) bytes = 1;
         if (width > most - *len) width = most - *len;
         memcpy(to + *len, as, width);
         *len += width;
-        changed++;
     }
     return changed;
 }

@@ -10,7 +10,7 @@ enum { LIST_MOST = 4194304 };
 
 /* One line of the list. file: the alias itself where the kind is alias. table, len: a text's table in the book, once it is compiled. */
 typedef struct { const char *name, *file; const uint8_t *table; size_t len, line; uint32_t kind; } entry;
-/* status: the worst that was met so far. ascii: texts that are not ASCII become it. edition: by which texts are read. */
+/* status: the worst that was met so far. ascii: texts become what the edition takes. edition: by which they are read. */
 typedef struct { entry *at; size_t count; const char *list; int status; bool ascii; uint32_t edition; } entries;
 
 /* The line is refused. */
@@ -167,6 +167,9 @@ static void put_word(book *b, uint32_t kind, const char *word, const entry *e, e
     b->len = (size_t)(put_record(b->bytes + b->len, kind, word, len) - b->bytes);
 }
 
+#define MAPPED "--ascii makes the book with such characters mapped or dropped"
+static const next_steps steps = {"--edition 3 takes it; " MAPPED, MAPPED, "--ascii makes the book with such bytes read as Latin-1"};
+
 /* Compiles the text that stands in the memory, right into its place. */
 static void put_text(book *b, entry *e, const memory *m, size_t len, entries *all) {
     if (!has_room(b, 0)) no_room(b, e, all);
@@ -176,7 +179,7 @@ static void put_text(book *b, entry *e, const memory *m, size_t len, entries *al
         no_room(b, e, all);
     } else if (c.refusal) {
         char why[MESSAGE_MOST];
-        refusal_message(why, c.refusal, m->text, len, "--ascii makes the book with such characters mapped or dropped");
+        refusal_message(why, c.refusal, m->text, len, all->edition, &steps);
         refuse_file(all, e, REFUSED, why);
     } else {
         /* a name that has headers alone says so by an original from /dev/null */
@@ -198,7 +201,7 @@ static void read_text(book *b, entry *e, const memory *m, uint8_t *raw, entries 
         refuse_file(all, e, TROUBLE, why);
         return;
     }
-    size_t changed = all->ascii ? to_ascii(raw, len, m->text, &len) : 0;
+    size_t changed = all->ascii ? to_taken(raw, len, all->edition, m->text, &len) : 0;
     snprintf(why, sizeof why, "--ascii changed %zu character%s", changed, plural(changed));
     if (changed) refuse_file(all, e, DONE, why);
     put_text(b, e, m, len, all);

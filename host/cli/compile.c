@@ -17,6 +17,12 @@ static int give_table(const char *text, uint32_t edition, const char *out, const
     return DONE;
 }
 
+static const next_steps steps = {
+    "--edition 3 takes it",
+    "nothing is filtered, so change it first",
+    "nothing is filtered, so change it to UTF-8 first, for --edition 3",
+};
+
 static int compile_to(const char *path, uint32_t edition, const char *out, const memory *m) {
     size_t len;
     const char *why = read_file(path, m->text, CHULTARVI_TEXT_MOST, &len);
@@ -26,7 +32,7 @@ static int compile_to(const char *path, uint32_t edition, const char *out, const
     int status = REFUSED;
     if (c.refusal) {
         char message[MESSAGE_MOST];
-        refusal_message(message, c.refusal, m->text, len, CHANGE_IT);
+        refusal_message(message, c.refusal, m->text, len, edition, &steps);
         say_of(path, "%s", message);
     } else {
         status = give_table(path, edition, out, table, c.len);

@@ -13,20 +13,15 @@ typedef struct { stanza *at; size_t count; } stanzas;
 /* Does a line part stanzas? */
 typedef bool parting(const worker *w, part text, uint32_t line);
 
-static bool is_blank(const worker *w, part text, uint32_t line) {
+/* Is each character of the line such, or none? The text was taken, so it is UTF-8. */
+static bool each_is(const worker *w, part text, uint32_t line, bool (*such)(uint32_t code), bool wanted) {
     part p = lines_part(w, text, line, line + 1);
-    for (size_t i = 0; i < p.len; i++) if (p.bytes[i] != ' ' && (p.bytes[i] < 9 || p.bytes[i] > 13)) return false;
+    for (size_t at = 0, bytes; at < p.len; at += bytes) if (such(read_character(p.bytes + at, p.len - at, &bytes)) != wanted) return false;
     return true;
 }
 
-static bool is_wordless(const worker *w, part text, uint32_t line) {
-    part p = lines_part(w, text, line, line + 1);
-    for (size_t i = 0; i < p.len; i++) {
-        uint8_t byte = p.bytes[i], low = byte | 32;
-        if ((low >= 'a' && low <= 'z') || (byte >= '0' && byte <= '9')) return false;
-    }
-    return true;
-}
+static bool is_blank(const worker *w, part text, uint32_t line) { return each_is(w, text, line, is_space, true); }
+static bool is_wordless(const worker *w, part text, uint32_t line) { return each_is(w, text, line, is_letter_or_digit, false); }
 
 static void hold(worker *w, const finding *f) {
     for (uint32_t line = f->first; line < f->after; line++) w->held[line] = true;

@@ -5,6 +5,8 @@
 #define STATUS "Exit status: 0 all is answered; 1 something was refused, or stopped by the budget; 2 wrong usage, or trouble with a file.\n"
 #define ENDING "Options stand before or behind the names; '--' ends them. -h and --help print this.\n" STATUS
 
+#define EDITIONS ": 1, the digit 4 counts as a space; 2, it stays; 3, it stays, and UTF-8 up to U+00FF is taken (1)"
+
 static const char program_help[] =
     "Chultarvi says which licence a note holds, its score and its lines.\n"
     "\n"
@@ -17,8 +19,9 @@ static const char program_help[] =
     "  chultarvi --help | --version\n"
     "\n"
     "'-' reads standard input, once. A name that begins with '-' stands after '--', or as ./-NAME.\n"
-    "Texts are ASCII of at most 1,048,576 bytes and 65,536 lines. Books have at most 16,777,216 bytes and 1,024 texts.\n"
-    "In a book of edition 1 the digit 4 counts as a space, in one of edition 2 as a digit; a note is read by the edition of its book.\n"
+    "Texts have at most 1,048,576 bytes and 65,536 lines. Books have at most 16,777,216 bytes and 1,024 texts.\n"
+    "A note is read by the edition of its book: in edition 1 the digit 4 counts as a space, from 2 on as a digit; editions 1 and 2 take\n"
+    "ASCII, edition 3 takes UTF-8 up to U+00FF, accents that is. The default book, " DEFAULT_BOOK ", is of edition 3.\n"
     "\n" STATUS;
 
 static const char scan_help[] =
@@ -36,7 +39,8 @@ static const char scan_help[] =
     "  --thorough        look for further licences in the lines that no range holds\n"
     "  --second          show the next licence too, and its score\n"
     "  --budget N        stop before scoring number N + 1 (no limit)\n"
-    "  --ascii           map or drop what is not ASCII, and say how many characters that were\n"
+    "  --ascii           map to ASCII or drop what BOOK's edition does not take, and say how many characters that were: in editions 1 and 2\n"
+    "                    what is not ASCII, in edition 3 what lies above U+00FF; bytes that are no UTF-8 are read as Latin-1\n"
     "  -r, --recursive   walk folders; .git, links to folders, large files and what is no file are skipped and counted\n"
     "  -j, --jobs N      scan with N threads, up to 256 (1)\n"
     "  --json            one line of JSON for each note\n"
@@ -72,8 +76,9 @@ static const char book_help[] =
     "with CR LF. A text without bigrams and two names with one text are warned of; an original from /dev/null is empty without a word,\n"
     "for a name that has headers alone.\n"
     "\n"
-    "  --ascii       map or drop what is not ASCII in the texts, as scan does, and say how many characters that were\n"
-    "  --edition N   the book's edition: 1, in which the digit 4 counts as a space, or 2, in which it stays (1)\n"
+    "  --ascii       map to ASCII or drop what the edition does not take in the texts, as scan does, and say how many characters that were\n"
+    "  --edition N   the book's edition" EDITIONS "\n"
+    "                A book that is to stand beside the default one is of its edition, 3\n"
     "\n" ENDING;
 
 static const char compile_help[] =
@@ -82,7 +87,7 @@ static const char compile_help[] =
     "Says how large the table of a text is, which is what a book stores of it.\n"
     "\n"
     "  -o OUT        write the table into this file; with '-o -' to standard output, and nothing else\n"
-    "  --edition N   for a book of this edition: 1, in which the digit 4 counts as a space, or 2, in which it stays (1)\n"
+    "  --edition N   for a book of this edition" EDITIONS "\n"
     "\n" ENDING;
 
 static const char *help_of(const char *command) {

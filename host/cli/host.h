@@ -40,23 +40,40 @@ void put_plain(FILE *to, const char *name);
 /* A JSON string with its quotes. A byte that is no UTF-8 is written as \udcHH, which says which byte it was. */
 void put_json(FILE *to, const char *bytes, size_t len);
 const char *kind_words(uint32_t kind);
-/* The file name of the default book of an edition, as it is installed. */
+/* The file name of the default book of an edition, as it is installed; the last edition's is the one to scan with. */
+#define DEFAULT_BOOK "debian-3.book"
 const char *default_book(uint32_t edition);
 bool read_number(const char *word, uint64_t most, uint64_t *number);
 bool read_limit(const char *word, float *limit);
-/* The first byte of 128 or more; len where there is none. */
-size_t first_not_ascii(const uint8_t *text, size_t len);
-enum { MESSAGE_MOST = 256 };
-/* A refusal in words, with its number and what to do next; where the text is not ASCII that is `next`, after the place. */
-void refusal_message(char to[MESSAGE_MOST], uint32_t refusal, const uint8_t *text, size_t len, const char *next);
-#define CHANGE_IT "nothing is filtered, so change it first"
+enum { MESSAGE_MOST = 320 };
+/* What to do next with a text that its edition does not take: where it has a character that edition 3 takes, one that none takes, or no UTF-8. */
+typedef struct { const char *wide, *beyond, *no_utf8; } next_steps;
+/* A refusal in words, with its number and what to do next; where it is of the text's bytes (2) that is of `next`, after the place. */
+void refusal_message(char to[MESSAGE_MOST], uint32_t refusal, const uint8_t *text, size_t len, uint32_t edition, const next_steps *next);
 #define MAKE_ANEW "; make it anew by chultarvi book"
+
+/* utf8.c */
+
+/* The edition that takes UTF-8 up to U+00FF; the others take ASCII. */
+enum { WIDE_EDITION = 3 };
+/* The character at p and how many bytes it has; where that is no UTF-8, 0 bytes and the byte as Latin-1 has it. A surrogate is read as a character. */
+uint32_t read_character(const uint8_t *p, size_t left, size_t *bytes);
+bool is_surrogate(uint32_t code);
+/* Writes a character from U+0080 to U+00FF. */
+void put_latin(uint8_t to[2], uint32_t code);
+bool is_taken(uint32_t code, uint32_t edition);
+/* The first byte of what the edition does not take, a character or a byte that is no UTF-8; len where there is none. */
+size_t first_refused(const uint8_t *text, size_t len, uint32_t edition);
+/* Of characters that are taken. */
+bool is_space(uint32_t code);
+bool is_letter_or_digit(uint32_t code);
 
 /* ascii.c */
 
-/* Writes a text as ASCII: what has a like in ASCII as that, the rest not at all. Lines stay. Gives how many characters it changed; `len` is the
-   length written. `to` has room for one byte more than a text may have; a text that is longer, or grows longer, fills it, to be refused by its length. */
-size_t to_ascii(const uint8_t *from, size_t from_len, uint8_t *to, size_t *len);
+/* Writes a text as its edition takes it: what is taken stays, what has a like in ASCII becomes that, the rest goes. Lines stay. Gives how many characters
+   it changed; `len` is the length written. `to` has room for one byte more than a text may have; a text that is longer, or grows longer, fills it, to be
+   refused by its length. */
+size_t to_taken(const uint8_t *from, size_t from_len, uint32_t edition, uint8_t *to, size_t *len);
 
 /* memory.c */
 

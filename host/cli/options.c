@@ -77,6 +77,6 @@ bool read_edition(const char *command, const char *word, uint32_t *edition) {
     uint64_t number = 1;
     bool good = !word || (read_number(word, CHULTARVI_EDITION_MOST, &number) && number > 0);
     *edition = (uint32_t)number;
-    if (!good) say("--edition wants 1 or 2, not '%s'; chultarvi %s --help tells more", word, command);
+    if (!good) say("--edition wants 1, 2 or 3, not '%s'; chultarvi %s --help tells more", word, command);
     return good;
 }

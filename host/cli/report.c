@@ -123,6 +123,13 @@ static bool is_of_books(uint32_t refusal) {
     return refusal == CHULTARVI_REFUSED_BOOK_UNSOUND || refusal == CHULTARVI_REFUSED_BOOK_EMPTY || refusal == CHULTARVI_REFUSED_EDITIONS_DIFFER;
 }
 
+#define MAPPED "--ascii scans it with such characters mapped or dropped"
+static const next_steps steps = {
+    "a BOOK of edition 3 takes it (" DEFAULT_BOOK ", or yours made anew by chultarvi book --edition 3); " MAPPED,
+    MAPPED,
+    "--ascii scans it with such bytes read as Latin-1",
+};
+
 /* What to say of the note's refusal; the caller frees it. */
 static char *message_of(const report *r) {
     uint32_t refusal = r->answer.refusal;
@@ -132,7 +139,7 @@ static char *message_of(const report *r) {
     if (to && r->from->with.beside && is_of_books(refusal)) put_books_message(to, r);
     else if (to) {
         char words[MESSAGE_MOST];
-        refusal_message(words, refusal, r->text, r->len, "--ascii scans it with such characters mapped or dropped");
+        refusal_message(words, refusal, r->text, r->len, r->from->books[0].edition, &steps);
         fputs(words, to);
     }
     if (to && fclose(to) == 0) return message;
@@ -147,7 +154,7 @@ static void report_json(const report *r, FILE *to) {
     fprintf(to, ",\"refusal\":%" PRIu32, refusal);
     if (message) json_word(to, ",\"message\":", message);
     free(message);
-    if (refusal == CHULTARVI_REFUSED_TEXT_NOT_ASCII) fprintf(to, ",\"offset\":%zu", first_not_ascii(r->text, r->len));
+    if (refusal == CHULTARVI_REFUSED_TEXT_BYTES) fprintf(to, ",\"offset\":%zu", first_refused(r->text, r->len, r->from->books[0].edition));
     if (r->from->with.ascii) fprintf(to, ",\"changed\":%zu", r->changed);
     if (is_answered(&r->answer)) json_answer(to, r);
     fputs("}\n", to);

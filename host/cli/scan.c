@@ -151,11 +151,11 @@ static void scan_text(worker *w, report *r) {
     if (r->further.count) qsort(r->further.at, r->further.count, sizeof *r->further.at, by_line);
 }
 
-/* The note into the text that is lent; with --ascii by way of `raw`. */
+/* The note into the text that is lent; with --ascii by way of `raw`. The first book's edition is the one that the text is refused by. */
 static const char *read_text(worker *w, const char *file, report *r) {
     bool ascii = w->from->with.ascii;
     const char *why = read_note(file, ascii ? w->raw : w->lent.text, CHULTARVI_TEXT_MOST, &r->len);
-    if (!why && ascii) r->changed = to_ascii(w->raw, r->len, w->lent.text, &r->len);
+    if (!why && ascii) r->changed = to_taken(w->raw, r->len, w->from->books[0].edition, w->lent.text, &r->len);
     return why;
 }
 

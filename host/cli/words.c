@@ -24,23 +24,12 @@ void say_of(const char *name, const char *format, ...) {
     va_end(rest);
 }
 
-/* How many bytes the character at p has in UTF-8; 0 where none stands. Overlong forms, surrogates and the controls U+0080 to U+009F are none:
-   the last would reach a terminal as commands. */
-static size_t utf8_len(const uint8_t *p, size_t left) {
-    static const struct { uint8_t from, to, second_from, second_to, len; } form[] = {
-        {0x00, 0x7f, 0, 0, 1},          {0xc2, 0xc2, 0xa0, 0xbf, 2},    {0xc3, 0xdf, 0x80, 0xbf, 2},
-        {0xe0, 0xe0, 0xa0, 0xbf, 3},    {0xe1, 0xec, 0x80, 0xbf, 3},    {0xed, 0xed, 0x80, 0x9f, 3},
-        {0xee, 0xef, 0x80, 0xbf, 3},    {0xf0, 0xf0, 0x90, 0xbf, 4},    {0xf1, 0xf3, 0x80, 0xbf, 4},
-        {0xf4, 0xf4, 0x80, 0x8f, 4},
-    };
-    for (size_t i = 0; i < sizeof form / sizeof *form; i++) {
-        size_t len = form[i].len;
-        if (p[0] < form[i].from || p[0] > form[i].to || len > left) continue;
-        if (len > 1 && (p[1] < form[i].second_from || p[1] > form[i].second_to)) return 0;
-        for (size_t k = 2; k < len; k++) if (p[k] < 0x80 || p[k] > 0xbf) return 0;
-        return len;
-    }
-    return 0;
+/* How many bytes the character at p has in UTF-8; 0 where none stands that may be shown. Surrogates are none, nor are the controls U+0080 to U+009F,
+   which would reach a terminal as commands. */
+static size_t shown_len(const uint8_t *p, size_t left) {
+    size_t bytes;
+    uint32_t code = read_character(p, left, &bytes);
+    return (code >= 0x80 && code <= 0x9f) || is_surrogate(code) ? 0 : bytes;
 }
 
 static bool control(uint8_t byte) { return byte < 32 || byte == 127; }
@@ -48,7 +37,7 @@ static bool control(uint8_t byte) { return byte < 32 || byte == 127; }
 void put_plain(FILE *to, const char *name) {
     const uint8_t *p = (const uint8_t *)name;
     for (size_t left = strlen(name), n; left > 0; p += n, left -= n) {
-        n = utf8_len(p, left);
+        n = shown_len(p, left);
         if (*p == '\\') fputs("\\\\", to);
         else if (*p == '\n') fputs("\\n", to);
         else if (*p == '\t') fputs("\\t", to);
@@ -62,7 +51,7 @@ void put_json(FILE *to, const char *bytes, size_t len) {
     const uint8_t *p = (const uint8_t *)bytes;
     fputc('"', to);
     for (size_t n; len > 0; p += n, len -= n) {
-        n = utf8_len(p, len);
+        n = shown_len(p, len);
         if (*p == '"' || *p == '\\') fprintf(to, "\\%c", *p);
         else if (*p == '\n') fputs("\\n", to);
         else if (*p == '\t') fputs("\\t", to);
@@ -84,7 +73,10 @@ const char *kind_words(uint32_t kind) {
     }
 }
 
-const char *default_book(uint32_t edition) { return edition == 1 ? "debian.book" : "debian-2.book"; }
+const char *default_book(uint32_t edition) {
+    static const char *const books[CHULTARVI_EDITION_MOST] = {"debian.book", "debian-2.book", DEFAULT_BOOK};
+    return books[edition - 1];
+}
 
 /* Digits only: strtoull alone would take a sign and leading spaces. */
 bool read_number(const char *word, uint64_t most, uint64_t *number) {
@@ -107,12 +99,6 @@ bool read_limit(const char *word, float *limit) {
     return end != word && *end == 0;
 }
 
-size_t first_not_ascii(const uint8_t *text, size_t len) {
-    size_t i = 0;
-    while (i < len && text[i] < 128) i++;
-    return i;
-}
-
 /* What to do next, where that does not depend on the command. */
 static const char *next_step(uint32_t refusal) {
     switch (refusal) {
@@ -124,18 +110,26 @@ static const char *next_step(uint32_t refusal) {
     }
 }
 
-void refusal_message(char to[MESSAGE_MOST], uint32_t refusal, const uint8_t *text, size_t len, const char *next) {
-    size_t at = refusal == CHULTARVI_REFUSED_TEXT_NOT_ASCII ? first_not_ascii(text, len) : len;
-    if (at == len) {
-        snprintf(to, MESSAGE_MOST, "refused (%" PRIu32 "): %s%s", refusal, chultarvi_refusal_text(refusal), next_step(refusal));
-        return;
-    }
-    size_t line = 1, byte = 1;
+/* Refusal 2: the place, the byte, which character it begins, and the step that goes with it. */
+static void bytes_message(char to[MESSAGE_MOST], const uint8_t *text, size_t len, size_t at, uint32_t edition, const next_steps *next) {
+    size_t line = 1, byte = 1, bytes;
     for (size_t i = 0; i < at; i++) {
         byte = text[i] == '\n' ? 1 : byte + 1;
         line += text[i] == '\n';
     }
-    snprintf(to, MESSAGE_MOST, "refused (2): %s: line %zu, byte %zu is 0x%02x; %s", chultarvi_refusal_text(refusal), line, byte, text[at], next);
+    uint32_t code = read_character(text + at, len - at, &bytes);
+    bool utf8 = bytes > 0 && !is_surrogate(code);
+    char which[16] = "no UTF-8";
+    if (utf8) snprintf(which, sizeof which, "of U+%04" PRIX32, code);
+    snprintf(to, MESSAGE_MOST, "refused (%d): the text is not %s: line %zu, byte %zu is 0x%02x, %s; %s", CHULTARVI_REFUSED_TEXT_BYTES,
+             edition == WIDE_EDITION ? "UTF-8 up to U+00FF" : "ASCII", line, byte, text[at], which,
+             !utf8 ? next->no_utf8 : is_taken(code, WIDE_EDITION) ? next->wide : next->beyond);
+}
+
+void refusal_message(char to[MESSAGE_MOST], uint32_t refusal, const uint8_t *text, size_t len, uint32_t edition, const next_steps *next) {
+    size_t at = refusal == CHULTARVI_REFUSED_TEXT_BYTES ? first_refused(text, len, edition) : len;
+    if (at < len) bytes_message(to, text, len, at, edition, next);
+    else snprintf(to, MESSAGE_MOST, "refused (%" PRIu32 "): %s%s", refusal, chultarvi_refusal_text(refusal), next_step(refusal));
 }
 
 int unreadable(const char *path, const char *why) {

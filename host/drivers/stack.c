@@ -5,7 +5,7 @@
 #include <stdio.h>
 #include <stdlib.h>
 
-enum { STACK = 1 << 20, PAINT = 0xa5, PASSES = 3 };
+enum { STACK = 1 << 20, PAINT = 0xa5, PASSES = 3, EDITION = CHULTARVI_EDITION_MOST };
 static const uint64_t WHOLE = UINT64_MAX;
 
 static void stop(const char *why) { fprintf(stderr, "stack: %s\n", why); exit(2); }
@@ -23,7 +23,7 @@ static size_t book_len;
 #define RESULTS c->results, chultarvi_top_down_results(c->text.lines) + chultarvi_elimination_results(true, PASSES)
 static void nothing(call_t *c) { c->refusal = 0; }
 static void check(call_t *c) { c->refusal = chultarvi_check_book(book, book_len).refusal; }
-static void compile(call_t *c) { c->refusal = chultarvi_compile(TEXT, 1, AREAS, c->out, chultarvi_table_bytes(c->text.len)).refusal; }
+static void compile(call_t *c) { c->refusal = chultarvi_compile(TEXT, EDITION, AREAS, c->out, chultarvi_table_bytes(c->text.len)).refusal; }
 static void score(call_t *c) { c->refusal = chultarvi_score(TEXT, book, book_len, 0, c->text.lines, 0, AREAS).refusal; }
 static void bounds(call_t *c) { c->refusal = chultarvi_bounds(TEXT, book, book_len, 0, c->text.lines, 0, AREAS).refusal; }
 static void eliminate(call_t *c) {
@@ -80,15 +80,26 @@ static text_t words_of(size_t n, uint32_t most, uint32_t row) {
     for (size_t i = 0; i < n; i++) t.lines += t.bytes[i] == '\n';
     return t;
 }
+/* the same with a letter of two bytes for each two letters that stand at an even place */
+static text_t accented(text_t from) {
+    text_t t = {room(from.len), from.len, from.lines};
+    memcpy(t.bytes, from.bytes, from.len);
+    for (size_t i = 0; i + 1 < t.len; i += 2) {
+        if (t.bytes[i] < 'a' || t.bytes[i + 1] < 'a') continue;
+        t.bytes[i + 1] = (uint8_t)(0xa0 + t.bytes[i] % 16);
+        t.bytes[i] = 0xc3;
+    }
+    return t;
+}
 /* two licences, the first a piece of the text, so that a scan finds what it must look at again */
 static void make_book(text_t text) {
     size_t area_len = chultarvi_area_bytes(text.len), words_len = chultarvi_area_words(text.len), out_len = chultarvi_table_bytes(text.len);
     uint32_t *words = room(4 * words_len);
     uint8_t *area = room(area_len), *out = room(out_len);
     size_t sizes[] = {text.len / 2, text.len / 64};
-    book = room(CHULTARVI_BOOK_MOST), book_len = 0;
+    book = room(CHULTARVI_BOOK_MOST), book_len = (size_t)(put_edition(book, EDITION) - book);
     for (int i = 0; i < 2; i++) {
-        chultarvi_text_compiled t = chultarvi_compile(text.bytes, sizes[i], 1, area, area_len, words, words_len, out, out_len);
+        chultarvi_text_compiled t = chultarvi_compile(text.bytes, sizes[i], EDITION, area, area_len, words, words_len, out, out_len);
         if (t.refusal) stop("a licence is refused");
         if (CHULTARVI_BOOK_MOST - book_len < 2 * CHULTARVI_RECORD_HEAD + 1 + t.len) stop("the book is too large");
         uint8_t *p = put_record(book + book_len, CHULTARVI_LICENCE_NAME, i == 0 ? "A" : "B", 1);
@@ -128,6 +139,7 @@ static void levels(void) {
 int main(void) {
     text_t lines = words_of(CHULTARVI_TEXT_MOST, 8, 12), letters = words_of(CHULTARVI_TEXT_MOST - 1, 1, 0);
     exports("words in lines", lines);
+    exports("words in lines, with accents", accented(lines));
     exports("524,288 random one-letter words", letters);
     levels();
     return 0;

@@ -41,7 +41,7 @@ err_is 'chultarvi: frob: no such command; chultarvi --help tells more'
 # usage
 run 0 --version
 out_is "chultarvi $(sed -n 's/^#define CHULTARVI_VERSION "\(.*\)"/\1/p' "$root/include/chultarvi.h")"
-out_is 'chultarvi 0.3.0'
+out_is 'chultarvi 0.4.0'
 run 2
 err_is "chultarvi: no command; $help"
 run 2 frob
@@ -160,10 +160,10 @@ counted=$(python3 -c 'import json; b = [json.loads(l) for l in open(".out")]; pr
 assert [t["number"] for l in b for t in l["texts"]] == list(range(sum(len(l["texts"]) for l in b)))')
 set -- $counted
 run 0 list default.book
-out_has "default.book: $1 licences, $2 stored texts, $3 aliases, $(wc -c <default.book) bytes, edition 2"
+out_has "default.book: $1 licences, $2 stored texts, $3 aliases, $(wc -c <default.book) bytes, edition 3"
 [ "$(wc -l <.out)" = $(($1 + 1)) ] && good || bad 'not a line for each licence'
 run 0 check default.book
-out_is "default.book: sound, $1 licences, $2 stored texts, edition 2"
+out_is "default.book: sound, $1 licences, $2 stored texts, edition 3"
 
 # compile
 run 0 compile license
@@ -182,7 +182,7 @@ err_is 'chultarvi: over: refused (1): the text is over 1,048,576 bytes; cut it i
 run 1 compile /dev/zero
 err_is 'chultarvi: /dev/zero: refused (1): the text is over 1,048,576 bytes; cut it into parts'
 run 1 compile umlaut -o made
-err_is 'chultarvi: umlaut: refused (2): the text is not ASCII: line 2, byte 5 is 0xc3; nothing is filtered, so change it first'
+err_is 'chultarvi: umlaut: refused (2): the text is not ASCII: line 2, byte 5 is 0xc3, of U+00E4; --edition 3 takes it'
 same made table
 run 0 compile lines
 run 1 compile lines-over
@@ -273,7 +273,7 @@ printf 'A original nowhere\n\nB original umlaut\n# x\nC original .\nD original l
 run 2 book stands.book list
 err_is 'chultarvi: list: line 8: F has no original
 chultarvi: list: line 1: nowhere: cannot be read: No such file or directory
-chultarvi: list: line 3: umlaut: refused (2): the text is not ASCII: line 2, byte 5 is 0xc3; --ascii makes the book with such characters mapped or dropped
+chultarvi: list: line 3: umlaut: refused (2): the text is not ASCII: line 2, byte 5 is 0xc3, of U+00E4; --edition 3 takes it; --ascii makes the book with such characters mapped or dropped
 chultarvi: list: line 5: .: cannot be read: Is a directory
 chultarvi: list: line 7: over: refused (1): the text is over 1,048,576 bytes; cut it into parts
 chultarvi: list: line 8: frob: cannot be read: No such file or directory
@@ -287,7 +287,7 @@ printf 'A frob license\nA header nowhere\nB original umlaut\n' >list
 run 2 book stands.book list
 err_is 'chultarvi: list: line 1: the kind is not original, alternate, header or alias; a line is NAME KIND FILE
 chultarvi: list: line 2: nowhere: cannot be read: No such file or directory
-chultarvi: list: line 3: umlaut: refused (2): the text is not ASCII: line 2, byte 5 is 0xc3; --ascii makes the book with such characters mapped or dropped
+chultarvi: list: line 3: umlaut: refused (2): the text is not ASCII: line 2, byte 5 is 0xc3, of U+00E4; --edition 3 takes it; --ascii makes the book with such characters mapped or dropped
 chultarvi: stands.book: no new book stands there'
 same stands.book a.book
 # neither does a book that is over
@@ -456,7 +456,7 @@ ln -s "$root/host/run.sh" chultarvi-link
 ln -s chultarvi-link again-link
 for link in ./chultarvi-link ./again-link "$work/again-link"; do
     so 0 "$link --version"
-    out_is 'chultarvi 0.3.0'
+    out_is 'chultarvi 0.4.0'
 done
 so 0 "$work/chultarvi-link check a.book"
 out_is 'a.book: sound, 1 licence, 1 stored text, edition 1'

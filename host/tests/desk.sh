@@ -135,7 +135,7 @@ json '[notes[0]["licence"], notes[0]["second"]["licence"], notes[0]["second"]["b
 # --ascii
 printf 'M\303\277 \342\200\234F\304\261rst\342\200\235\302\240L\303\255c\303\250ns\351\342\200\224\360\237\224\222\n' >letters
 run 1 scan a.book letters
-err_is 'chultarvi: letters: refused (2): the text is not ASCII: line 1, byte 2 is 0xc3; --ascii scans it with such characters mapped or dropped'
+err_is 'chultarvi: letters: refused (2): the text is not ASCII: line 1, byte 2 is 0xc3, of U+00FF; a BOOK of edition 3 takes it (debian-3.book, or yours made anew by chultarvi book --edition 3); --ascii scans it with such characters mapped or dropped'
 run 0 scan --ascii a.book letters
 out_is 'letters: A, original, score 1.0000
   --ascii changed 10 characters

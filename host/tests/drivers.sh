@@ -25,7 +25,7 @@ if grep -L 'records\.h\|chultarvi\.h' host/drivers/*.c | grep .; then bad 'a dri
 
 # answers_are WANT: to the questions in the file `asked`
 answers_are() {
-    $RUN target/answers <"$work/asked" >"$work/out" 2>"$work/err" && [ "$(cat "$work/out")" = "$1" ] && good || bad "answers are '$(cat "$work/out" "$work/err")', not: $1"
+    ${instead:-$RUN target/answers} <"$work/asked" >"$work/out" 2>"$work/err" && [ "$(cat "$work/out")" = "$1" ] && good || bad "answers are '$(cat "$work/out" "$work/err")', not: $1"
 }
 # stops MESSAGE: status 2, and the last line of what is said
 stops() {
@@ -54,6 +54,18 @@ ok
 ok
 0 1 00000000 none
 0"
+
+# in edition 3: letters of two bytes, over one book and over two
+ask "table $(printf '\303\211T\303\211 \303\240' | hex)" "add 41 2 $(printf '\303\251t\303\251 \303\240 la' | hex)" "add 42 2 $licence" \
+    "border 1 counteliminate 3f666666 3f7d70a4 0 10 1000 $(printf '\303\211t\303\251 \303\200 LA' | hex)"
+instead="$RUN target/answers 3" answers_are "1 1:c3a974c3a920c3a0
+ok
+ok
+0 2 3f800000 0"
+ask "table c3a9"
+stops 'the text is not ASCII, or for edition 3 not UTF-8 up to U+00FF'
+ask 'table 41'
+instead="$RUN target/answers 4" stops 'a number is none, or too large'
 
 ask "add $(name 65) 2 $licence"
 stops 'a name is not of 1 to 64 bytes'

@@ -10,15 +10,15 @@ bytes >just-2.book
 cat just-2.book a.book >a-2.book
 printf 'A original license\n' >list
 
-# --edition: 1 or 2, of compile and book alone, wherever options may stand; what is wrong is said, and nothing is written
+# --edition: 1, 2 or 3, of compile and book alone, wherever options may stand; what is wrong is said, and nothing is written
 for command in 'compile license -o made' 'book made list'; do
     name=${command%% *}
-    for wrong in 0 3 4 00 10 256 258 65537 65538 4294967297 4294967298 18446744073709551618 x 2x x2 -1 -2 +2 ' 2' '2 ' 2.0 1,2 two; do
+    for wrong in 0 4 5 00 10 256 258 259 65537 65538 65539 4294967297 4294967299 18446744073709551618 x 2x x2 -1 -2 +2 ' 2' '2 ' 2.0 1,2 two; do
         run 2 $command --edition "$wrong"
-        err_is "chultarvi: --edition wants 1 or 2, not '$wrong'; $(tells $name)"
+        err_is "chultarvi: --edition wants 1, 2 or 3, not '$wrong'; $(tells $name)"
         out_is ''
         run 2 $command "--edition=$wrong"
-        err_is "chultarvi: --edition wants 1 or 2, not '$wrong'; $(tells $name)"
+        err_is "chultarvi: --edition wants 1, 2 or 3, not '$wrong'; $(tells $name)"
     done
     run 2 $command --edition ''
     err_is "chultarvi: --edition: wants a value that is not empty; $(tells $name)"
@@ -77,7 +77,7 @@ run 0 compile four --edition 2 -o -
 tail -c 19 four-2 >want
 same .out want
 run 1 compile --edition 2 umlaut
-err_is 'chultarvi: umlaut: refused (2): the text is not ASCII: line 2, byte 5 is 0xc3; nothing is filtered, so change it first'
+err_is 'chultarvi: umlaut: refused (2): the text is not ASCII: line 2, byte 5 is 0xc3, of U+00E4; --edition 3 takes it'
 run 1 compile --edition 2 over
 err_has 'refused (1)'
 
@@ -151,7 +151,7 @@ unsound() { # unsound BYTES: before the book A
     err_is 'chultarvi: license: refused (4): the book is not sound; make it anew by chultarvi book'
 }
 unsound '\002\000\000\000\006\000\001\000'
-unsound '\002\000\000\000\006\000\003\000'
+unsound '\002\000\000\000\006\000\004\000'
 unsound '\002\000\000\000\006\000\000\002'
 unsound '\001\000\000\000\006\000\002'
 unsound '\003\000\000\000\006\000\002\000\000'
@@ -178,7 +178,7 @@ err_has 'stands.book: not written: No space left on device; what was there is un
 same stands.book a-2.book
 no_beside
 
-# scans of notes without the digit, by every way: a book of edition 2 answers as one of edition 1 does
+# scans of notes without the digit, by every way: books of editions 2 and 3 answer as one of edition 1 does
 words alpha 40 >alpha
 words beta 40 >beta
 { words gamma 16; echo; words delta 16; echo; words epsilon 16; } >gamma
@@ -190,7 +190,7 @@ words idle 24 >idle
 cp alpha twin
 printf 'Alpha original alpha\nBeta original beta\nGamma original gamma\nDecoy original decoy\nTwin original twin\nAlpha alias x\n' >desk.list
 printf 'Own original idle\nBeta original beta\nBeta header alpha\n' >own.list
-for edition in 1 2; do
+for edition in 1 2 3; do
     mkdir "by-$edition"
     $program book "by-$edition/desk.book" desk.list --edition $edition >/dev/null 2>&1
     $program book "by-$edition/own.book" own.list --edition $edition >/dev/null 2>&1
@@ -201,15 +201,17 @@ cp behind half folder
 for way in '' --thorough --second '--thorough --second' '--top-down 5' '--top-down 5 --thorough --second' --no-optimize '--threshold 0.5 --shallow 0.6 --thorough' \
     '--thorough -j 3' '--second -j 2' '--thorough --budget 60' '--second --budget 9'; do
     for beside in '' '--beside own.book'; do
-        for form in '' --json; do
+        for as in '' --json; do
             take_books 1
-            $program scan -r $form $way desk.book $beside all alpha idle folder >one.out 2>one.err
+            $program scan -r $as $way desk.book $beside all alpha idle folder >one.out 2>one.err
             status=$?
-            take_books 2
-            run $status scan -r $form $way desk.book $beside all alpha idle folder
-            same .out one.out
-            same .err one.err
             [ -s one.out ] && [ $status -lt 2 ] && good || bad 'not scanned'
+            for edition in 2 3; do
+                take_books $edition
+                run $status scan -r $as $way desk.book $beside all alpha idle folder
+                same .out one.out
+                same .err one.err
+            done
         done
     done
 done

@@ -1,5 +1,5 @@
 /* Tests of the library as C and C++ see it: this file is compiled as both. Layout of every answer; every export, over one book and over two, by
-   either edition; every refusal with the neighbour that is not refused; and after each call, what the lent areas hold and where the name stands. Prints
+   each edition; every refusal with the neighbour that is not refused; and after each call, what the lent areas hold and where the name stands. Prints
    what fails, then 'N passed, M failed'. */
 #include "../records.h"
 #include <assert.h>
@@ -102,7 +102,7 @@ static bool areas_right(const lent *l, uint32_t refusal, size_t written, size_t 
            all_are(words, 4 * l->words_len, 4 * (l->words_len + SPARE), 0xa5) && all_are(out, written, l->out_len + SPARE, 0xa5) &&
            all_are(results, 16 * recorded, 4 * (l->results_len + SPARE), 0xa5);
 }
-/* How `lend` lays the book: alone; beside an empty one; or as the second, beside an empty first. And by which edition: in edition 2 its record stands
+/* How `lend` lays the book: alone; beside an empty one; or as the second, beside an empty first. And by which edition: from edition 2 on its record stands
    before the book, and the empty one is that record alone. Every answer is the same but for `second` and for the place of the name, so the tests of one
    book run in each form and edition. */
 enum { ALONE, FIRST, SECOND, FORMS };
@@ -457,7 +457,8 @@ static void test_refusal_texts(void) {
     static const uint32_t none[] = {13, 14, 16, UINT32_MAX};
     for (size_t i = 0; i < sizeof none / sizeof *none; i++) check(strcmp(chultarvi_refusal_text(none[i]), "unknown") == 0, "13, 14 and above 15");
     lent l = lend("\x80", 1, book_a, BOOK_A);
-    check(score(&l, 0, 1, 0, "areas").refusal == CHULTARVI_REFUSED_TEXT_NOT_ASCII, "an answer's refusal is one of the enum");
+    check(score(&l, 0, 1, 0, "areas").refusal == CHULTARVI_REFUSED_TEXT_BYTES, "an answer's refusal is one of the enum");
+    static_assert(CHULTARVI_REFUSED_TEXT_NOT_ASCII == CHULTARVI_REFUSED_TEXT_BYTES, "the old name of 2");
     enum chultarvi_refusal small = CHULTARVI_REFUSED_AREA_SMALL;
     check(small == 10 && strstr(chultarvi_refusal_text(small), "area") != 0, "the enum as a type");
 }
@@ -771,23 +772,31 @@ static void test_both_budget(void) {
 
 /* ---- editions */
 
-/* The record of edition 2 before the marked book; that record alone; A and B in edition 2. */
-static const uint8_t record_2[] = {2, 0, 0, 0, 6, 0, 2, 0};
-static held just_2, a_2, b_2;
-static void make_editions(void) {
-    static uint8_t a[128], b[256];
-    edition = 2;
-    just_2 = hold(record_2, sizeof record_2);
-    a_2 = by_edition(a, book_a, BOOK_A);
-    b_2 = by_edition(b, only_b.at, only_b.len);
+/* Of editions 2 and 3: the record before the marked book; that record alone; A and B. */
+static const uint8_t record_2[] = {2, 0, 0, 0, 6, 0, 2, 0}, record_3[] = {2, 0, 0, 0, 6, 0, 3, 0};
+typedef struct { held just, a, b; } of_edition;
+static of_edition in_2, in_3;
+static of_edition make_edition(uint32_t by, const uint8_t record[8], uint8_t *a, uint8_t *b) {
+    of_edition made;
+    edition = by;
+    made.just = hold(record, 8);
+    made.a = by_edition(a, book_a, BOOK_A);
+    made.b = by_edition(b, only_b.at, only_b.len);
     edition = 1;
-    check(a_2.len == BOOK_A + 8 && memcmp(a_2.at, record_2, 8) == 0, "records.h writes the record of edition 2");
-    check(put_edition(a + 100, 1) == a + 100, "and none of edition 1");
+    check(made.a.len == BOOK_A + 8 && memcmp(made.a.at, record, 8) == 0, "records.h writes the record of an edition");
+    return made;
+}
+static void make_editions(void) {
+    static uint8_t a_2[128], b_2[256], a_3[128], b_3[256];
+    in_2 = make_edition(2, record_2, a_2, b_2);
+    in_3 = make_edition(3, record_3, a_3, b_3);
+    check(put_edition(a_2 + 100, 1) == a_2 + 100, "and none of edition 1");
 }
 
 /* Some bytes as a book: what check answers, and its edition. */
 typedef struct { const char *what; const char *bytes; size_t len; uint32_t refusal, texts, edition; } bytes_row;
 #define RECORD_2 "\x02\0\0\0\x06\0\x02\0"
+#define RECORD_3 "\x02\0\0\0\x06\0\x03\0"
 #define NAME_A "\x01\0\0\0\x01\0A"
 #define EMPTY_TEXT "\x08\0\0\0\x02\0\0\0\0\0\0\0\0\0"
 #define BYTES(text) text, sizeof(text) - 1
@@ -800,8 +809,17 @@ static const bytes_row edition_rows[] = {
     {"edition 0", BYTES("\x02\0\0\0\x06\0\0\0"), 4, 0, 1},
     {"edition 1 said", BYTES("\x02\0\0\0\x06\0\x01\0"), 4, 0, 1},
     {"edition 1 said, and a licence", BYTES("\x02\0\0\0\x06\0\x01\0" NAME_A EMPTY_TEXT), 4, 0, 1},
-    {"edition 3", BYTES("\x02\0\0\0\x06\0\x03\0"), 4, 0, 1},
+    {"edition 3 alone", BYTES(RECORD_3), 0, 0, 3},
+    {"edition 3 and a licence", BYTES(RECORD_3 NAME_A EMPTY_TEXT), 0, 1, 3},
+    {"edition 3 and one byte", BYTES(RECORD_3 "\x01"), 4, 0, 3},
+    {"edition 3 twice", BYTES(RECORD_3 RECORD_3), 4, 0, 3},
+    {"edition 3, then 2", BYTES(RECORD_3 RECORD_2), 4, 0, 3},
+    {"edition 3 behind a text", BYTES(NAME_A EMPTY_TEXT RECORD_3), 4, 0, 1},
+    {"edition 3 in one byte", BYTES("\x01\0\0\0\x06\0\x03"), 4, 0, 1},
+    {"edition 3 in three bytes", BYTES("\x03\0\0\0\x06\0\x03\0\0"), 4, 0, 1},
+    {"edition 4", BYTES("\x02\0\0\0\x06\0\x04\0"), 4, 0, 1},
     {"edition 512", BYTES("\x02\0\0\0\x06\0\0\x02"), 4, 0, 1},
+    {"edition 259", BYTES("\x02\0\0\0\x06\0\x03\x01"), 4, 0, 1},
     {"edition 258", BYTES("\x02\0\0\0\x06\0\x02\x01"), 4, 0, 1},
     {"a body of no bytes", BYTES("\0\0\0\0\x06\0"), 4, 0, 1},
     {"a body of one byte", BYTES("\x01\0\0\0\x06\0\x02"), 4, 0, 1},
@@ -830,27 +848,28 @@ static void test_edition_records(void) {
         check(chultarvi_edition(bytes, r->len) == r->edition, r->what);
     }
     check(chultarvi_edition(0, 0) == 1, "a null book of length 0 is of edition 1");
-    check(chultarvi_edition(book_a, BOOK_A) == 1 && chultarvi_edition(a_2.at, a_2.len) == 2, "the marked book, and behind the record");
-    check(CHULTARVI_EDITION_MOST == 2 && CHULTARVI_EDITION == 6, "the last edition, and its record's kind");
+    check(chultarvi_edition(book_a, BOOK_A) == 1 && chultarvi_edition(in_2.a.at, in_2.a.len) == 2, "the marked book, and behind the record of edition 2");
+    check(chultarvi_edition(in_3.a.at, in_3.a.len) == 3, "and of edition 3");
+    check(CHULTARVI_EDITION_MOST == 3 && CHULTARVI_EDITION == 6, "the last edition, and its record's kind");
 }
-static void test_cut_record(void) {
-    for (size_t n = 1; n < sizeof record_2; n++) {
-        check(chultarvi_check_book(record_2, n).refusal == 4, "a record of edition 2 cut short");
-        check(chultarvi_edition(record_2, n) == 1, "a record of edition 2 cut short is none");
+static void test_cut_record(const uint8_t record[8]) {
+    for (size_t n = 1; n < 8; n++) {
+        check(chultarvi_check_book(record, n).refusal == 4, "a record of an edition cut short");
+        check(chultarvi_edition(record, n) == 1, "a record of an edition cut short is none");
     }
 }
 
 /* The record counts in a book's bytes, and is no text. */
-static void test_edition_limits(void) {
-    memcpy(big, record_2, 8);
+static void test_edition_limits(const uint8_t record[8]) {
+    memcpy(big, record, 8);
     large_book(big + 8, CHULTARVI_BOOK_MOST - 8);
     chultarvi_book_checked c = chultarvi_check_book(big, CHULTARVI_BOOK_MOST);
-    check(c.refusal == 0 && c.texts == 1, "a book of edition 2 of 16,777,216 bytes");
+    check(c.refusal == 0 && c.texts == 1, "a book behind its edition of 16,777,216 bytes");
     large_book(big + 8, CHULTARVI_BOOK_MOST - 7);
-    check(chultarvi_check_book(big, CHULTARVI_BOOK_MOST + 1).refusal == 4, "one byte more in edition 2");
+    check(chultarvi_check_book(big, CHULTARVI_BOOK_MOST + 1).refusal == 4, "one byte more behind an edition");
     c = chultarvi_check_book(big, 8 + small_book(big + 8, 1, CHULTARVI_STORED_MOST - 1));
-    check(c.refusal == 0 && c.texts == CHULTARVI_STORED_MOST, "1,024 stored texts in edition 2");
-    check(chultarvi_check_book(big, 8 + small_book(big + 8, 1, CHULTARVI_STORED_MOST)).refusal == 4, "one text more in edition 2");
+    check(c.refusal == 0 && c.texts == CHULTARVI_STORED_MOST, "1,024 stored texts behind an edition");
+    check(chultarvi_check_book(big, 8 + small_book(big + 8, 1, CHULTARVI_STORED_MOST)).refusal == 4, "one text more behind an edition");
 }
 
 static void compiles(const char *text, uint32_t by, const char *table, size_t table_len, const char *what) {
@@ -871,11 +890,13 @@ static void test_compiled_editions(void) {
     compiles("4/4|4", 2, ONE_PAIR("\x04", "4 44"), "`4/4|4` in edition 2");
     compiles("a 5", 1, ONE_PAIR("\x03", "a 5"), "`a 5` in edition 1");
     compiles("a 5", 2, ONE_PAIR("\x03", "a 5"), "`a 5` in edition 2");
+    compiles("a 4", 3, ONE_PAIR("\x03", "a 4"), "`a 4` in edition 3");
+    compiles("4/4|4", 3, ONE_PAIR("\x04", "4 44"), "`4/4|4` in edition 3");
 }
 
-/* Compile takes 1 and 2, after what is wrong with the text and before what is wrong with the areas. */
+/* Compile takes 1 to 3, after what is wrong with the text and before what is wrong with the areas. By any other number a text is read as ASCII. */
 static void test_compile_refuses(void) {
-    static const uint32_t wrong[] = {0, 3, 9, 256, 257, 65537, 65538, 0x80000002u, UINT32_MAX};
+    static const uint32_t wrong[] = {0, 4, 9, 256, 257, 259, 65537, 65538, 65539, 0x80000002u, 0x80000003u, UINT32_MAX};
     for (size_t i = 0; i < sizeof wrong / sizeof *wrong; i++) {
         lent l = lend("a 4", 3, book_a, BOOK_A);
         l.edition = wrong[i];
@@ -888,17 +909,20 @@ static void test_compile_refuses(void) {
         l = lend("\x80", 1, book_a, BOOK_A);
         l.edition = wrong[i];
         check(compile(&l, "areas, 2 before 4").refusal == 2, "a byte of 128 comes before the edition");
+        l = lend("\xc3\xa9", 2, book_a, BOOK_A);
+        l.edition = wrong[i];
+        check(compile(&l, "areas, 2 before 4").refusal == 2, "so does a letter that edition 3 takes");
     }
     memset(big, '\n', CHULTARVI_TEXT_MOST + 1);
     lent l = lend(big, CHULTARVI_LINES_MOST, book_a, BOOK_A);
     l.edition = 0;
     check(compile(&l, "areas, 3 before 4").refusal == 3, "too many lines come before the edition");
     l = lend(big, CHULTARVI_TEXT_MOST + 1, book_a, BOOK_A);
-    l.edition = 3;
+    l.edition = 4;
     check(compile(&l, "areas, 1 before 4").refusal == 1, "a long text comes before the edition");
 }
 
-/* Two books of which one is of edition 2: each call is refused, whatever else is wrong behind it, and nothing has changed. */
+/* Two books of differing editions: each call is refused, whatever else is wrong behind it, and nothing has changed. */
 static void check_differing(held first, held second, const char *what) {
     lent l = lend_held(note_a, first, second);
     each_refuses(&l, 15, false, what);
@@ -915,50 +939,56 @@ static void check_differing(held first, held second, const char *what) {
     l = lend_held("\x80", first, second);
     each_refuses(&l, 2, false, "a byte of 128 comes before 15");
 }
-static void test_differing(void) {
+static void test_differing(const of_edition *in) {
     const held none = hold(0, 0);
-    check_differing(only_a, a_2, "edition 1, edition 2");
-    check_differing(a_2, only_a, "edition 2, edition 1");
-    check_differing(a_2, only_b, "edition 2, another book of edition 1");
-    check_differing(a_2, book_empty, "edition 2, an empty book");
-    check_differing(book_empty, a_2, "an empty book, edition 2");
-    check_differing(a_2, none, "edition 2, a null book");
-    check_differing(none, a_2, "a null book, edition 2");
-    check_differing(only_a, just_2, "edition 1, the record of edition 2 alone");
-    check_differing(just_2, only_a, "the record of edition 2 alone, edition 1");
-    lent l = lend_held(note_a, a_2, cut_a);
+    check_differing(only_a, in->a, "edition 1, another");
+    check_differing(in->a, only_a, "another edition, edition 1");
+    check_differing(in->a, only_b, "another edition, another book of edition 1");
+    check_differing(in->a, book_empty, "another edition, an empty book");
+    check_differing(book_empty, in->a, "an empty book, another edition");
+    check_differing(in->a, none, "another edition, a null book");
+    check_differing(none, in->a, "a null book, another edition");
+    check_differing(only_a, in->just, "edition 1, the record of another alone");
+    check_differing(in->just, only_a, "the record of another edition alone, edition 1");
+    lent l = lend_held(note_a, in->a, cut_a);
     each_refuses(&l, 4, false, "4 comes before 15");
-    l = lend_held(note_a, hold(a_2.at, a_2.len - 1), only_a);
-    each_refuses(&l, 4, false, "4 comes before 15, edition 2 cut short");
-    const held no_text[][2] = {{just_2, book_empty}, {book_empty, just_2}, {just_2, none}, {just_2, just_2}};
+    l = lend_held(note_a, hold(in->a.at, in->a.len - 1), only_a);
+    each_refuses(&l, 4, false, "4 comes before 15, another edition cut short");
+    const held no_text[][2] = {{in->just, book_empty}, {book_empty, in->just}, {in->just, none}, {in->just, in->just}};
     for (size_t i = 0; i < sizeof no_text / sizeof *no_text; i++) {
         l = lend_held(note_a, no_text[i][0], no_text[i][1]);
         each_refuses(&l, 5, false, "5 comes before 15");
         check(name_stored(no_text[i][0], no_text[i][1], true, 0).refusal == 5, "name: 5 comes before 15");
     }
 }
+static void test_2_and_3(void) {
+    check_differing(in_2.a, in_3.a, "edition 2, edition 3");
+    check_differing(in_3.a, in_2.a, "edition 3, edition 2");
+    check_differing(in_2.a, in_3.just, "edition 2, the record of edition 3 alone");
+    check_differing(in_3.just, in_2.a, "the record of edition 3 alone, edition 2");
+}
 
-/* Two books of edition 2 answer as two of edition 1 do, with their names eight bytes further on. */
-static void test_both_editions(void) {
+/* Two books of another edition answer as two of edition 1 do, with their names eight bytes further on. */
+static void test_both_editions(const of_edition *in) {
     const uint64_t all = UINT64_MAX;
     const row rows[] = {
-        {"A, B in edition 2", a_2, b_2, note_a, all, 0, 2, false, 14, 1},
-        {"B, A in edition 2", b_2, a_2, note_a, all, 0, 2, true, 14, 1},
-        {"A, A in edition 2: the same memory", a_2, a_2, note_a, all, 0, 2, false, 14, 1},
-        {"A, no text in edition 2", a_2, just_2, note_a, all, 0, 1, false, 14, 1},
-        {"no text, A in edition 2", just_2, a_2, note_a, all, 0, 1, true, 14, 1},
-        {"B, A in edition 2, a budget of 1", b_2, a_2, note_a, 1, 12, 1, false, 0, 0},
-        {"B, A in edition 2, another note", b_2, a_2, "none of it", all, 0, 2, false, 0, 0},
+        {"A, B in another edition", in->a, in->b, note_a, all, 0, 2, false, 14, 1},
+        {"B, A in another edition", in->b, in->a, note_a, all, 0, 2, true, 14, 1},
+        {"A, A in another edition: the same memory", in->a, in->a, note_a, all, 0, 2, false, 14, 1},
+        {"A, no text in another edition", in->a, in->just, note_a, all, 0, 1, false, 14, 1},
+        {"no text, A in another edition", in->just, in->a, note_a, all, 0, 1, true, 14, 1},
+        {"B, A in another edition, a budget of 1", in->b, in->a, note_a, 1, 12, 1, false, 0, 0},
+        {"B, A in another edition, another note", in->b, in->a, "none of it", all, 0, 2, false, 0, 0},
     };
     for (size_t i = 0; i < sizeof rows / sizeof *rows; i++) check_row(rows + i);
     const held none = hold(0, 0);
     const stored_row stored[] = {
-        {"stored, edition 2", a_2, none, false, 0, 0, CHULTARVI_ORIGINAL, false, 14, 1},
-        {"stored, edition 2: N", a_2, none, false, 1, 9, 0, false, 0, 0},
-        {"stored, edition 2: no text", just_2, none, false, 0, 5, 0, false, 0, 0},
-        {"stored, edition 2, both: the first of the second", a_2, b_2, true, 1, 0, CHULTARVI_ORIGINAL, true, 14, 1},
-        {"stored, edition 2, both: N", a_2, b_2, true, 2, 9, 0, false, 0, 0},
-        {"stored, edition 2, both: a first without a text", just_2, b_2, true, 0, 0, CHULTARVI_ORIGINAL, true, 14, 1},
+        {"stored, another edition", in->a, none, false, 0, 0, CHULTARVI_ORIGINAL, false, 14, 1},
+        {"stored, another edition: N", in->a, none, false, 1, 9, 0, false, 0, 0},
+        {"stored, another edition: no text", in->just, none, false, 0, 5, 0, false, 0, 0},
+        {"stored, another edition, both: the first of the second", in->a, in->b, true, 1, 0, CHULTARVI_ORIGINAL, true, 14, 1},
+        {"stored, another edition, both: N", in->a, in->b, true, 2, 9, 0, false, 0, 0},
+        {"stored, another edition, both: a first without a text", in->just, in->b, true, 0, 0, CHULTARVI_ORIGINAL, true, 14, 1},
     };
     for (size_t i = 0; i < sizeof stored / sizeof *stored; i++) check_stored(stored + i);
 }
@@ -976,17 +1006,270 @@ static held put_gpl(uint8_t *room) {
     return put_licence(room, room + first.len, "G5", "use the GPL version now");
 }
 static void test_four(void) {
-    static uint8_t one[512], two[512];
-    held in_1 = put_gpl(one);
-    edition = 2;
-    held in_2 = put_gpl(two);
+    static uint8_t room[512];
+    held one = put_gpl(room);
+    check(chultarvi_edition(one.at, one.len) == 1, "a book of edition 1");
+    check_gpl(one, "use the GPL version now", "G4", "no number, edition 1: both score 1.0, the earlier wins");
+    check_gpl(one, "use the GPL version 4 now", "G4", "version 4, edition 1");
+    check_gpl(one, "use the GPL version 4 now 4", "G4", "every 4 goes, edition 1");
+    for (edition = 2; edition <= CHULTARVI_EDITION_MOST; edition++) {
+        held later = put_gpl(room);
+        check(chultarvi_edition(later.at, later.len) == edition, "a book of a later edition");
+        check_gpl(later, "use the GPL version now", "G5", "no number, a later edition: its own text");
+        check_gpl(later, "use the GPL version 4 now", "G4", "version 4, a later edition");
+    }
     edition = 1;
-    check(chultarvi_edition(in_1.at, in_1.len) == 1 && chultarvi_edition(in_2.at, in_2.len) == 2, "a book of each edition");
-    check_gpl(in_1, "use the GPL version now", "G4", "no number, edition 1: both score 1.0, the earlier wins");
-    check_gpl(in_2, "use the GPL version now", "G5", "no number, edition 2: its own text");
-    check_gpl(in_1, "use the GPL version 4 now", "G4", "version 4, edition 1");
-    check_gpl(in_2, "use the GPL version 4 now", "G4", "version 4, edition 2");
-    check_gpl(in_1, "use the GPL version 4 now 4", "G4", "every 4 goes, edition 1");
+}
+
+/* ---- accents */
+
+#define E_ACUTE "\xc3\xa9"
+#define A_GRAVE "\xc3\xa0"
+#define NO_BREAK "\xc2\xa0"
+#define NEXT_LINE "\xc2\x85"
+
+/* A table as the rules have it, of words with one space between: their pairs, sorted, each with its count. Gives its length. */
+static int by_bytes(const void *a, const void *b) { return strcmp((const char *)a, (const char *)b); }
+enum { PAIRS_MOST = 16, PAIR_MOST = 64 };
+static size_t put_table(uint8_t *to, const char *text) {
+    char pairs[PAIRS_MOST][PAIR_MOST];
+    size_t count = 0, distinct = 0;
+    for (const char *p = text, *next; (next = strchr(p, ' ')) != 0; p = next + 1)
+        snprintf(pairs[count++], PAIR_MOST, "%.*s", (int)((size_t)(next + 1 - p) + strcspn(next + 1, " ")), p);
+    qsort(pairs, count, PAIR_MOST, by_bytes);
+    uint8_t *at = to + 8;
+    for (size_t i = 0, same; i < count; i += same, distinct++) {
+        for (same = 1; i + same < count && strcmp(pairs[i], pairs[i + same]) == 0;) same++;
+        size_t len = strlen(pairs[i]);
+        at = put_number(put_number(at, same), len);
+        memcpy(at, pairs[i], len);
+        at += len;
+    }
+    put_number(put_number(to, count), distinct);
+    return (size_t)(at - to);
+}
+
+/* A text by edition 3, and the words that are left of it. */
+typedef struct { const char *text, *left; } left_row;
+static const left_row left_rows[] = {
+    {"\xc3\x89t" E_ACUTE " " A_GRAVE " la PLAGE", E_ACUTE "t" E_ACUTE " " A_GRAVE " la plage"},
+    {"\xc2\xab a \xc2\xbb b" NO_BREAK "c" NEXT_LINE "d", "a b c d"},
+    {"\xc2\xa9 2004 4 \xc2\xb2 x", "2004 4 x"},
+    {"http://" E_ACUTE NO_BREAK "x y", "http blackboxed url x y"},
+    {E_ACUTE E_ACUTE " x\n" E_ACUTE E_ACUTE " y\n" E_ACUTE E_ACUTE " z", "x y z"},
+    {E_ACUTE "a x\n" E_ACUTE "a y\n" E_ACUTE "a z", E_ACUTE "a x " E_ACUTE "a y " E_ACUTE "a z"},
+    {"a" E_ACUTE A_GRAVE "\na" E_ACUTE "\xc3\xa1\na" E_ACUTE "\xc3\xa2", "a" E_ACUTE A_GRAVE " a" E_ACUTE "\xc3\xa1 a" E_ACUTE "\xc3\xa2"},
+    {"a\ncopyright" NEXT_LINE "c 1999\nb", "a b"},
+    {"\xc2\xaa \xc2\xba \xc2\xb5 \xc3\xbf \xc3\xb7 \xc3\x97", "\xc2\xaa \xc2\xba \xc2\xb5 \xc3\xbf"},
+    {E_ACUTE " " E_ACUTE, E_ACUTE " " E_ACUTE},
+    {"x\xc2\xa7y \xc2\xbfz\xc2\xad" E_ACUTE " \xc2\xa1" A_GRAVE "\xc2\xb6\xc2\xb7", "xy z" E_ACUTE " " A_GRAVE},
+    {"a\xc2\x80" E_ACUTE "\xc2\x84 \xc2\x86" A_GRAVE "\xc2\x9f", "a" E_ACUTE " " A_GRAVE},
+    {"\xc3\x80\xc3\x9e \xc3\x9f\xc3\xb0", A_GRAVE "\xc3\xbe \xc3\x9f\xc3\xb0"},
+};
+static void test_left(void) {
+    uint8_t want[PAIRS_MOST * PAIR_MOST];
+    for (const left_row *r = left_rows; r < left_rows + sizeof left_rows / sizeof *left_rows; r++) {
+        size_t len = put_table(want, r->left);
+        lent l = lend(r->text, strlen(r->text), book_a, BOOK_A);
+        l.edition = 3;
+        l.out_len = len;
+        chultarvi_text_compiled c = compile(&l, r->text);
+        check(c.refusal == 0 && c.len == len && memcmp(out, want, len) == 0, r->text);
+        l.out_len--;
+        check(compile(&l, r->text).refusal == 11, "one byte less of output, edition 3");
+        l.area_len--;
+        check(compile(&l, r->text).refusal == 10, "one byte less of area, edition 3");
+        for (uint32_t by = 1; by <= 2; by++) {
+            l.edition = by;
+            check(compile(&l, r->text).refusal == 2, "the same in editions 1 and 2");
+        }
+    }
+    lent l = lend(E_ACUTE " " E_ACUTE, 5, book_a, BOOK_A);
+    l.edition = 3;
+    l.out_len = 21;
+    check(l.area_len == 104 && l.words_len == 124 && compile(&l, "areas, 5 bytes").len == 21, "5 bytes of text: areas of 104 and 124, a table of 21");
+}
+
+/* Each text of two bytes: taken where it is ASCII, or C2 or C3 and one of 80 to BF. */
+static void test_two_bytes(void) {
+    for (unsigned first = 0; first < 256; first++) {
+        bool good = true;
+        for (unsigned second = 0; second < 256; second++) {
+            const uint8_t text[] = {(uint8_t)first, (uint8_t)second};
+            bool taken = (first < 0x80 && second < 0x80) || ((first == 0xc2 || first == 0xc3) && second >= 0x80 && second < 0xc0);
+            chultarvi_text_compiled c = chultarvi_compile(text, 2, 3, area, chultarvi_area_bytes(2), words, chultarvi_area_words(2), out, 32);
+            good = good && c.refusal == (taken ? 0u : 2u);
+        }
+        check(good, "the texts of two bytes that begin with one byte");
+    }
+}
+
+/* Refusal 2 of every call, by editions 1 and 2 and by edition 3. */
+typedef struct { const char *text; size_t len; uint32_t narrow, wide; } taken_row;
+static const taken_row taken_rows[] = {
+    {BYTES(E_ACUTE), 2, 0},         {BYTES("\xc2\x80"), 2, 0},      {BYTES("\xc3\xbf"), 2, 0},          {BYTES(NEXT_LINE), 2, 0},
+    {BYTES("a" E_ACUTE " b"), 2, 0}, {BYTES("\xc0\x80"), 2, 2},      {BYTES("\xc1\xbf"), 2, 2},          {BYTES("\xc4\x80"), 2, 2},
+    {BYTES("\x80"), 2, 2},          {BYTES("a\xbf"), 2, 2},         {BYTES("\xc3"), 2, 2},              {BYTES("\xc2\n"), 2, 2},
+    {BYTES("\xc3\n\xa9"), 2, 2},    {BYTES("\xc3" E_ACUTE), 2, 2},  {BYTES(E_ACUTE "\xa9"), 2, 2},      {BYTES("\xc3 \xa9"), 2, 2},
+    {BYTES("\xef\xbb\xbf" "a"), 2, 2}, {BYTES("\xe2\x80\x99"), 2, 2}, {BYTES("\xf0\x9f\x94\x92"), 2, 2}, {BYTES("caf\xe9"), 2, 2},
+    {BYTES("\xe0\x83\xa9"), 2, 2}, {BYTES(E_ACUTE "\xc3"), 2, 2},  {BYTES("\xff"), 2, 2},              {BYTES("e"), 0, 0},
+};
+static void test_taken(void) {
+    for (const taken_row *r = taken_rows; r < taken_rows + sizeof taken_rows / sizeof *taken_rows; r++) {
+        for (edition = 1; edition <= CHULTARVI_EDITION_MOST; edition++) {
+            for (form = ALONE; form < FORMS; form++) {
+                lent l = lend(r->text, r->len, book_a, BOOK_A);
+                each_refuses(&l, edition == 3 ? r->wide : r->narrow, true, r->text);
+            }
+        }
+    }
+    form = ALONE;
+    edition = 1;
+}
+
+/* By which edition a text is refused: that of the first book's first record, sound or not. Of `e` with an accent, and without one. */
+typedef struct { const char *what; held first, second; bool both; uint32_t accented, plain; } first_row;
+static void test_first_book(void) {
+    const held none = hold(0, 0), cut = hold(in_3.a.at, in_3.a.len - 1);
+#define HELD(text) hold((const uint8_t *)text, sizeof(text) - 1)
+    const first_row rows[] = {
+        {"edition 3", in_3.a, none, false, 0, 0},
+        {"edition 3, edition 3", in_3.a, in_3.b, true, 0, 0},
+        {"edition 3 without a text, edition 3", in_3.just, in_3.a, true, 0, 0},
+        {"edition 2", in_2.a, none, false, 2, 0},
+        {"empty, edition 3", book_empty, in_3.a, true, 2, 15},
+        {"null, edition 3", none, in_3.a, true, 2, 15},
+        {"edition 2, edition 3", in_2.a, in_3.a, true, 2, 15},
+        {"edition 3, edition 2", in_3.a, in_2.a, true, 15, 15},
+        {"edition 3, empty", in_3.a, book_empty, true, 15, 15},
+        {"edition 3, an unsound book", in_3.a, cut_a, true, 4, 4},
+        {"an unsound book, edition 3", cut_a, in_3.a, true, 2, 4},
+        {"edition 3 cut short", cut, none, false, 4, 4},
+        {"edition 3 cut short, edition 3", cut, in_3.a, true, 4, 4},
+        {"edition 3 without a text", in_3.just, none, false, 5, 5},
+        {"edition 3, then edition 2", HELD(RECORD_3 RECORD_2), none, false, 4, 4},
+        {"edition 2, then edition 3", HELD(RECORD_2 RECORD_3), none, false, 2, 4},
+        {"a record of seven bytes", HELD("\x02\0\0\0\x06\0\x03"), none, false, 2, 4},
+        {"a body of one byte", HELD("\x01\0\0\0\x06\0\x03"), none, false, 2, 4},
+        {"a body of three bytes", HELD("\x03\0\0\0\x06\0\x03\0\0"), none, false, 2, 4},
+        {"edition 0", HELD("\x02\0\0\0\x06\0\0\0"), none, false, 2, 4},
+        {"edition 1 said", HELD("\x02\0\0\0\x06\0\x01\0"), none, false, 2, 4},
+        {"edition 4", HELD("\x02\0\0\0\x06\0\x04\0"), none, false, 2, 4},
+        {"edition 259", HELD("\x02\0\0\0\x06\0\x03\x01"), none, false, 2, 4},
+        {"edition 3 behind a licence", HELD(NAME_A EMPTY_TEXT RECORD_3), none, false, 2, 4},
+        {"empty", book_empty, none, false, 2, 5},
+    };
+    for (const first_row *r = rows; r < rows + sizeof rows / sizeof *rows; r++) {
+        lent accented = lend_held(E_ACUTE, r->first, r->second), plain = lend_held("e", r->first, r->second);
+        accented.both = plain.both = r->both;
+        each_refuses(&accented, r->accented, false, r->what);
+        each_refuses(&plain, r->plain, false, r->what);
+    }
+}
+
+/* A book of this edition, A, whose original has one pair: is it sound? */
+static uint32_t pair_refused(uint32_t by, const char *pair, size_t len) {
+    static const uint8_t count[] = {1, 0, 0, 0, 1, 0, 0, 0, 1, 0, 0, 0};
+    uint8_t *p = put_record(put_edition(big, by), CHULTARVI_LICENCE_NAME, "A", 1);
+    p = put_head(p, sizeof count + 4 + len, CHULTARVI_ORIGINAL);
+    memcpy(p, count, sizeof count);
+    p = put_number(p + sizeof count, len);
+    memcpy(p, pair, len);
+    return chultarvi_check_book(big, (size_t)(p - big) + len).refusal;
+}
+typedef struct { const char *pair; size_t len; uint32_t wide; } pair_row;
+static const pair_row pair_rows[] = {
+    {BYTES(E_ACUTE " " A_GRAVE), 0}, {BYTES("\xc3\x89 " A_GRAVE), 4}, {BYTES("\xc3\x9f \xc3\xbf"), 0},     {BYTES("\xc3\xb7 a"), 4},
+    {BYTES("a \xc2\xb2"), 4},       {BYTES("\xc3 \xa9"), 4},         {BYTES("\xc2\xaa \xc2\xba"), 0},     {BYTES("x\xc2\xb5y _" E_ACUTE "9"), 0},
+    {BYTES("a " E_ACUTE "\xc3"), 4}, {BYTES("\xa9 a"), 4},            {BYTES(E_ACUTE "\xa9 a"), 4},        {BYTES("a" NO_BREAK E_ACUTE), 4},
+    {BYTES("a " NEXT_LINE), 4},      {BYTES("a " "\xc4\x80"), 4},     {BYTES("a \xc1\xa1"), 4},           {BYTES(E_ACUTE), 4},
+    {BYTES(E_ACUTE "  a"), 4},       {BYTES(" " E_ACUTE), 4},          {BYTES(E_ACUTE " "), 4},             {BYTES(E_ACUTE " a " A_GRAVE), 4},
+};
+static void test_pairs(void) {
+    for (const pair_row *r = pair_rows; r < pair_rows + sizeof pair_rows / sizeof *pair_rows; r++) {
+        for (uint32_t by = 1; by <= 2; by++) check(pair_refused(by, r->pair, r->len) == 4, "a wide word in editions 1 and 2");
+        check(pair_refused(3, r->pair, r->len) == r->wide, r->pair);
+    }
+    for (unsigned code = 0x80; code < 0x100; code++) {
+        const char pair[] = {'a', ' ', (char)(0xc0 | code >> 6), (char)(0x80 | (code & 0x3f))};
+        bool word = code == 0xaa || code == 0xb5 || code == 0xba || (code >= 0xdf && code != 0xf7);
+        check(pair_refused(3, pair, sizeof pair) == (word ? 0u : 4u), "letters as lower case leaves them, and no others");
+    }
+    static const uint8_t empty[8] = {0};
+    uint8_t *p = put_record(put_edition(big, 3), CHULTARVI_LICENCE_NAME, E_ACUTE, 2);
+    p = put_record(p, CHULTARVI_ORIGINAL, empty, sizeof empty);
+    check(chultarvi_check_book(big, (size_t)(p - big)).refusal == 4, "a name stays ASCII in edition 3");
+    p = put_record(put_edition(big, 3), CHULTARVI_LICENCE_NAME, "A", 1);
+    p = put_record(put_record(p, CHULTARVI_ORIGINAL, empty, sizeof empty), CHULTARVI_ALIAS, E_ACUTE, 2);
+    check(chultarvi_check_book(big, (size_t)(p - big)).refusal == 4, "and so does an alias");
+}
+
+/* A French licence behind another, in a note in capitals and other signs: every call over a book of edition 3. */
+static const char french[] = "La pr" E_ACUTE "sente licence est r" E_ACUTE "gie par la loi fran\xc3\xa7" "aise";
+static const char french_note[] =
+    "d" E_ACUTE "but\n# LA PR\xc3\x89SENTE\xc2\xa0LICENCE \xc2\xab est \xc2\xbb\n# R\xc3\x89GIE PAR LA LOI FRAN\xc3\x87" "AISE\nfin";
+static void test_french(void) {
+    static uint8_t room[1024];
+    static const uint32_t record[] = {1, 1, 3, 0x3f800000};
+    edition = 3;
+    held first = put_licence(room, put_edition(room, edition), "B", text_b), both = put_licence(room, room + first.len, "FR", french);
+    edition = 1;
+    check(chultarvi_check_book(both.at, both.len).texts == 2 && chultarvi_edition(both.at, both.len) == 3, "a book with a French licence");
+    lent l = lend_held(french_note, both, hold(0, 0));
+    l.both = false;
+    check(score(&l, 1, 3, 1, "areas, French").score == 1.0f && score(&l, 0, 4, 0, "areas, French").score == 0.0f, "its score");
+    chultarvi_bounds_found b = bounds(&l, 0, 4, 1, "areas of French bounds");
+    check(b.refusal == 0 && b.first == 1 && b.after == 3 && b.score == 1.0f, "its bounds");
+    l.results_len = 40;
+    chultarvi_note_scanned s = eliminate(&l, 0.9f, 0.99f, true, 10, UINT64_MAX, "areas of French elimination");
+    check(s.refusal == 0 && s.records == 1 && memcmp(results, record, 16) == 0, "elimination finds it");
+    s = top_down(&l, 0.9f, 0.99f, 1, UINT64_MAX, "areas of French top-down");
+    check(s.refusal == 0 && s.records == 1 && memcmp(results, record, 16) == 0, "top-down finds it");
+    l = lend_held(french, both, hold(0, 0));
+    l.both = false;
+    s = eliminate(&l, 0.9f, 0.99f, false, 0, 2, "areas of a French name");
+    check(s.refusal == 0 && s.len == 2 && memcmp(s.name, "FR", 2) == 0 && s.score == 1.0f, "it is named");
+    l = lend_held(french, in_3.a, both);
+    s = eliminate(&l, 0.9f, 0.99f, false, 0, 3, "areas of a French name in the second book");
+    check(s.refusal == 0 && s.len == 2 && s.second && s.score == 1.0f, "it is named in the second book");
+    l.area_len--;
+    each_refuses(&l, 10, false, "one byte less of area, a text of two-byte letters");
+}
+
+/* Byte areas and texts may stand at any address: the same answer, and nothing beside them changes. */
+static void test_addresses(void) {
+    uint8_t want[PAIRS_MOST * PAIR_MOST], text[64];
+    const char *given = left_rows[0].text;
+    size_t n = strlen(given), len = put_table(want, left_rows[0].left), bytes = chultarvi_area_bytes(n), count = chultarvi_area_words(n);
+    for (size_t at = 0; at < 8; at++) {
+        memset(area, 0xa5, bytes + 16);
+        memset(words, 0xa5, 4 * count);
+        memset(out, 0xa5, len + 16);
+        memcpy(text + at, given, n);
+        chultarvi_text_compiled c = chultarvi_compile(text + at, n, 3, area + at, bytes, words, count, out + 7 - at, len);
+        check(c.refusal == 0 && c.len == len && memcmp(out + 7 - at, want, len) == 0, "a table at any address");
+        check(all_are(area, 0, at, 0xa5) && all_are(area, at, at + bytes, 0) && all_are(area, at + bytes, bytes + 16, 0xa5), "an area at any address");
+        check(all_are(words, 0, 4 * count, 0) && all_are(out, 0, 7 - at, 0xa5) && all_are(out, 7 - at + len, len + 16, 0xa5), "and what is beside");
+    }
+}
+
+/* The most bytes: letters of two, in one line, and in as many lines as there may be. */
+static void test_wide_most(void) {
+    for (size_t i = 0; i + 4 <= CHULTARVI_TEXT_MOST; i += 4) memcpy(big + i, E_ACUTE "a ", 4);
+    edition = 3;
+    lent l = lend(big, CHULTARVI_TEXT_MOST, book_a, BOOK_A);
+    each_refuses(&l, 0, true, "1,048,576 bytes of edition 3");
+    big[CHULTARVI_TEXT_MOST - 1] = 0xc3;
+    each_refuses(&l, 2, true, "its last byte a lead");
+    l = lend(big, CHULTARVI_TEXT_MOST + 1, book_a, BOOK_A);
+    each_refuses(&l, 1, true, "one byte more in edition 3 comes before the bytes");
+    for (size_t i = 0; i < 3 * CHULTARVI_LINES_MOST; i += 3) memcpy(big + i, E_ACUTE "\n", 3);
+    l = lend(big, 3 * (size_t)(CHULTARVI_LINES_MOST - 1), book_a, BOOK_A);
+    l.out_len = chultarvi_table_bytes(64);
+    check(compile(&l, "65,536 lines in edition 3").refusal == 0, "65,536 lines in edition 3");
+    l = lend(big, 3 * (size_t)CHULTARVI_LINES_MOST, book_a, BOOK_A);
+    each_refuses(&l, 3, true, "one line more in edition 3");
+    edition = 1;
 }
 
 static void test_one_book(void) {
@@ -1022,13 +1305,26 @@ int main(void) {
     test_both_budget();
     make_editions();
     test_edition_records();
-    test_cut_record();
-    test_edition_limits();
+    test_cut_record(record_2);
+    test_cut_record(record_3);
+    test_edition_limits(record_2);
+    test_edition_limits(record_3);
     test_compiled_editions();
     test_compile_refuses();
-    test_differing();
-    test_both_editions();
+    test_differing(&in_2);
+    test_differing(&in_3);
+    test_2_and_3();
+    test_both_editions(&in_2);
+    test_both_editions(&in_3);
     test_four();
+    test_left();
+    test_two_bytes();
+    test_taken();
+    test_first_book();
+    test_pairs();
+    test_french();
+    test_addresses();
+    test_wide_most();
     printf("%d passed, %d failed\n", passed, failed);
     return failed != 0;
 }

@@ -38,6 +38,7 @@ in_place() {
 644 ./lib/libchultarvi.a
 644 ./lib/pkgconfig/chultarvi.pc
 644 ./share/chultarvi/debian-2.book
+644 ./share/chultarvi/debian-3.book
 644 ./share/chultarvi/debian.book
 644 ./share/man/man1/chultarvi.1' ] && good || bad "not in place: $found"
 }
@@ -67,10 +68,10 @@ ln -s "$root/host/install.sh" "$work/link"
 run 0 sh -c 'umask 077; exec sh host/install.sh "$1"' sh "$work/first/"
 in_place "$work/first"
 for file in bin/chultarvi include/chultarvi.h lib/libchultarvi.a lib/pkgconfig/chultarvi.pc lib/cmake/chultarvi/chultarvi-config.cmake \
-    share/chultarvi/debian.book share/chultarvi/debian-2.book share/man/man1/chultarvi.1; do
+    share/chultarvi/debian.book share/chultarvi/debian-2.book share/chultarvi/debian-3.book share/man/man1/chultarvi.1; do
     out_has "installed $work/first/$file"
 done
-out_has "chultarvi scan \"$work/first/share/chultarvi/debian-2.book\" NOTE..."
+out_has "chultarvi scan \"$work/first/share/chultarvi/debian-3.book\" NOTE..."
 out_has "PATH=\"$work/first/bin:\$PATH\""
 [ -z "$RUN" ] || out_has "run it by $RUN $work/first/bin/chultarvi"
 before=$(cd "$work/first" && find . -type f -exec cksum {} + | sort)
@@ -86,19 +87,20 @@ case $out in *' PATH="'*) bad 'a PATH that is right is said' ;; *) good ;; esac
 run 0 env "DESTDIR=$work/a package" sh host/install.sh /usr/local
 in_place "$work/a package/usr/local"
 out_has "installed $work/a package/usr/local/bin/chultarvi"
-out_has 'chultarvi scan "/usr/local/share/chultarvi/debian-2.book"'
+out_has 'chultarvi scan "/usr/local/share/chultarvi/debian-3.book"'
 for file in lib/pkgconfig/chultarvi.pc lib/cmake/chultarvi/chultarvi-config.cmake lib/cmake/chultarvi/chultarvi-config-version.cmake; do
     grep -q "$work\|/usr/local" "$work/a package/usr/local/$file" && bad "$file holds the prefix" || good
 done
 
-# the program and the books, from there: the same licences in both editions
+# the program and the books, from there: the same licences in each edition
 cd "$work/first/share/chultarvi" || exit 2
-run 0 $RUN "$work/first/bin/chultarvi" check debian.book debian-2.book
+run 0 $RUN "$work/first/bin/chultarvi" check debian.book debian-2.book debian-3.book
 counted=$(printf '%s\n' "$out" | sed -n 's/^debian.book: \(sound, .*\), edition 1$/\1/p')
 out_is "debian.book: $counted, edition 1
-debian-2.book: $counted, edition 2"
-run 1 $RUN "$work/first/bin/chultarvi" scan debian-2.book --beside debian.book "$root/examples/note.txt"
-err_has 'refused (15): debian-2.book is of edition 2 and debian.book of edition 1; both are default books, so scan with one of them'
+debian-2.book: $counted, edition 2
+debian-3.book: $counted, edition 3"
+run 1 $RUN "$work/first/bin/chultarvi" scan debian-3.book --beside debian.book "$root/examples/note.txt"
+err_has 'refused (15): debian-3.book is of edition 3 and debian.book of edition 1; both are default books, so scan with one of them'
 cd "$root" || exit 2
 run 0 $RUN "$work/first/bin/chultarvi" --version
 out_is "chultarvi $version"
@@ -136,14 +138,16 @@ printf 'My First License' >"$work/license"
 printf 'copyright 20xx me irl\n// My First License\nfn hello() {\n ...' >"$work/two"
 { cat "$work/two"; head -c 20000 /dev/zero | tr '\0' ' '; } >"$work/long"
 printf 'caf\303\251' >"$work/umlaut"
+printf 'caf\351' >"$work/latin"
 : >"$work/empty"
 head -c 1048577 /dev/zero | tr '\0' ' ' >"$work/over"
 printf 'A original %s\n' "$work/license" >"$work/list"
 $RUN target/chultarvi book "$work/a.book" "$work/list" >/dev/null
 $RUN target/chultarvi book --edition 2 "$work/a-2.book" "$work/list" >/dev/null
+$RUN target/chultarvi book --edition 3 "$work/a-3.book" "$work/list" >/dev/null
 head -c 57 "$work/a.book" >"$work/cut.book"
 try_example() {
-    for book in a.book a-2.book; do
+    for book in a.book a-2.book a-3.book; do
         run 0 $RUN "$embed" "$work/$book" "$work/two"
         out_is 'no licence as a whole, score 0.6667
   lines 2 to 2: A, score 1.0000
@@ -160,7 +164,10 @@ try_example() {
 }
 refuse_example() {
     run 1 $RUN "$embed" "$work/a.book" "$work/umlaut"
-    err_has 'refused (2): the text is not ASCII'
+    err_has 'refused (2): the text is not ASCII, or for edition 3 not UTF-8 up to U+00FF'
+    run 1 $RUN "$embed" "$work/a-3.book" "$work/latin"
+    err_has 'refused (2): the text is not ASCII, or for edition 3 not UTF-8 up to U+00FF'
+    run 0 $RUN "$embed" "$work/a-3.book" "$work/umlaut"
     run 1 $RUN "$embed" "$work/a.book" "$work/over"
     err_has 'refused (1): the text is over 1,048,576 bytes'
     run 1 $RUN "$embed" "$work/cut.book" "$work/two"
@@ -202,9 +209,9 @@ if command -v cmake >/dev/null; then
     try_example
     run 1 cmake "$@" -B "$work/arm" -DCMAKE_SYSTEM_PROCESSOR=aarch64
     err_has 'libchultarvi.a is for x86-64, and this build is for aarch64'
-    for other in 0.2 0.4 1.0; do
+    for other in 0.3 0.5 1.0; do
         mkdir "$work/other-$other"
-        sed "s/find_package(chultarvi 0.3/find_package(chultarvi $other/" examples/CMakeLists.txt >"$work/other-$other/CMakeLists.txt"
+        sed "s/find_package(chultarvi 0.4/find_package(chultarvi $other/" examples/CMakeLists.txt >"$work/other-$other/CMakeLists.txt"
         cp examples/embed.c "$work/other-$other"
         shift 2
         set -- -S "$work/other-$other" "$@"

@@ -151,7 +151,7 @@ out_has '"licence":null,"kind":null,"score":null,"rival":null,"scorings":'
 run 2 scan --json a.book nowhere umlaut
 json '[sorted(n) for n in notes]' '[["note", "trouble"], ["message", "note", "offset", "refusal"]]'
 out_is '{"note":"nowhere","trouble":"No such file or directory"}
-{"note":"umlaut","refusal":2,"message":"refused (2): the text is not ASCII: line 2, byte 5 is 0xc3; --ascii scans it with such characters mapped or dropped","offset":8}'
+{"note":"umlaut","refusal":2,"message":"refused (2): the text is not ASCII: line 2, byte 5 is 0xc3, of U+00E4; a BOOK of edition 3 takes it (debian-3.book, or yours made anew by chultarvi book --edition 3); --ascii scans it with such characters mapped or dropped","offset":8}'
 err_is ''
 odd=$(printf 'q" b\\ t\tn\nc\033 \302\205 \303\244 \377 \355\240\200 \303')
 cp license "$odd"

@@ -1,7 +1,8 @@
 #!/bin/sh
 # shellcheck disable=SC2015,SC2086
 # Tests of books/measure.py, run by host/test.sh: measure.sh PROGRAM BOOK NOTE, with RUN as common.sh says. A copyright file whose labels are right,
-# nearly right, wrong and of no use is counted as it must be, and what is missing is said. Prints what fails, then 'N passed, M failed'.
+# nearly right, wrong and of no use is counted as it must be, files are by their characters, and what is missing is said. Prints what fails, then
+# 'N passed, M failed'.
 set -u
 root=$(cd "$(dirname "$(readlink -f "$0")")/../.." && pwd)
 program=$(readlink -f "$1") book=$(readlink -f "$2") note=$(readlink -f "$3")
@@ -67,8 +68,34 @@ measured 2 "$work/files/other"
 has 'no labelled text; name copyright files that follow DEP-5'
 measured 2 "$work/nowhere"
 has 'is not there; name copyright files or folders of them'
+# --accents: files that are ASCII, of edition 3, above it, no UTF-8, the same again, and too large
+mkdir "$work/accents"
+accented() { sed "3s/The Bracket Works/$1/" "$note"; }
+accented 'Bracket' >"$work/accents/ascii"
+{
+    echo 'Format: https://www.debian.org/doc/packaging-manuals/copyright-format/1.0/'
+    echo 'Copyright: José Müller'
+    sed -n '5,$p' "$note" | field Expat
+    { gpl; echo 'and not for the café of the author'; } | field GPL-2+
+} >"$work/accents/wide"
+accented 'Łódź' >"$work/accents/above"
+accented "$(printf 'Jos\351')" >"$work/accents/latin"
+cp "$work/accents/latin" "$work/accents/again"
+head -c 1048577 /dev/zero | tr '\0' '\251' >"$work/accents/large"
+measured 0 --accents "$work/accents"
+has '4 files of at most 1,048,576 bytes, each content once
+1 ASCII files: 1 are answered alike, 0 otherwise
+3 other files: 3 were refused for their characters, 2 are now
+1 files are read now; 1 of them have 2 labelled licences of the book: 2 found, 0 names not labelled; before, with --ascii: 2 found, 0 names not labelled
+of the 2 refused 1 have characters above U+00FF, 1 are no UTF-8
+most often U+0141 in 1, U+017A in 1
+1 labelled texts are not ASCII, 1 of them are taken; now, and before with --ascii:
+     1      1  right
+     0      0  right but for only / or-later'
+measured 2 --accents --before "$work/none" "$work/accents"
+has 'none is not there; books/make.sh makes the default books'
 book=$work/none measured 2 "$work/files"
-has 'books/make.sh makes the default book'
+has 'books/make.sh makes the default books'
 
 echo "$passed passed, $failed failed"
 [ $failed = 0 ]
