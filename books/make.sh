@@ -1,8 +1,8 @@
 #!/bin/sh
 # Makes the default book in each edition from the texts that books/debian.list names, out of Debian packages that are fetched and unpacked, not
-# installed, and from the notices composed below. Writes books/debian.book, of edition 1, and books/debian-2.book, of edition 2, or the two files
-# named, once both are made. Characters that are not ASCII are mapped or dropped as `scan --ascii` does, since the library refuses them, and the texts
-# that have some are said. No root rights are needed. CHULTARVI, where it is set, is the program, by words that hold in any folder.
+# installed, and from the notices composed below. Writes books/debian.book, books/debian-2.book and books/debian-3.book, of editions 1 to 3, or the three
+# files named, once all are made. Characters that an edition does not take are mapped or dropped as `scan --ascii` does, and the texts that have some
+# which are not ASCII are said. No root rights are needed. CHULTARVI, where it is set, is the program, by words that hold in any folder.
 set -eu
 books=$(cd "$(dirname "$0")" && pwd)
 list=$books/debian.list
@@ -20,11 +20,11 @@ stop() {
 # ---- what has to stand before anything is fetched
 
 case $# in
-0) set -- "$books/debian.book" "$books/debian-2.book" ;;
-2) ;;
-*) stop 'name two files, for editions 1 and 2, or none' ;;
+0) set -- "$books/debian.book" "$books/debian-2.book" "$books/debian-3.book" ;;
+3) ;;
+*) stop 'name three files, for editions 1 to 3, or none' ;;
 esac
-[ "$1" != "$2" ] || stop "$1: one file cannot be both editions"
+if [ "$1" = "$2" ] || [ "$2" = "$3" ] || [ "$1" = "$3" ]; then stop 'one file cannot be of two editions; name three'; fi
 for out; do
     [ -d "$(dirname "$out")" ] || stop "$out: its folder is not there"
 done
@@ -256,11 +256,16 @@ while read -r name kind package file part; do
     *) stored "$name" "$kind" "$package" "$file" "$part" ;;
     esac
 done <"$list"
-# Both are made before one is put in place. What --ascii changes is the same in both, so it is said once.
-made_1=$(program book --ascii --edition 1 1.book list) || stop 'no book is made; what stood there is unchanged'
-made_2=$(program book --ascii --edition 2 2.book list 2>"$work/said") || {
-    cat "$work/said" >&2
-    stop 'no book is made; what stood there is unchanged'
-}
-put "$work/1.book" "$1" "$made_1"
-put "$work/2.book" "$2" "$made_2"
+# All are made before one is put in place. What --ascii changes for edition 1 is said: for 2 that is the same, for 3 a part of it.
+for edition in 1 2 3; do
+    program book --ascii --edition $edition $edition.book list >"$work/made.$edition" 2>"$work/said.$edition" || {
+        cat "$work/said.$edition" >&2
+        stop 'no book is made; what stood there is unchanged'
+    }
+done
+cat "$work/said.1" >&2
+edition=0
+for out; do
+    edition=$((edition + 1))
+    put "$work/$edition.book" "$out" "$(cat "$work/made.$edition")"
+done

@@ -2,7 +2,8 @@
 """Measures a book with labelled texts: the License fields of Debian copyright files (DEP-5) whose labels books/labels.txt gives an SPDX name.
 
 Says how many the program names rightly, rightly but for only / or-later, wrongly, or not at all. docs/BOOK.md has the numbers and how the texts
-of the book and those measured are kept apart. With --files it scans whole copyright files, each of which has several licences."""
+of the book and those measured are kept apart. With --files it scans whole copyright files, each of which has several licences; with --accents it says
+which files an edition refuses for their characters, and what the later edition makes of them."""
 import argparse
 import collections
 import glob
@@ -17,7 +18,10 @@ import sys
 import tempfile
 
 BOOKS = os.path.dirname(os.path.abspath(__file__))
-DEFAULT = os.path.join(BOOKS, "debian-2.book")
+DEFAULT = os.path.join(BOOKS, "debian-3.book")
+BEFORE = os.path.join(BOOKS, "debian-2.book")
+WIDE_MOST = 0xFF  # the last character that edition 3 takes
+NOTE_MOST = 1048576  # bytes: a folder's larger files are not scanned
 FEW = 10  # words: a shorter text only points elsewhere
 Text = collections.namedtuple("Text", "mark label name path text")
 
@@ -126,21 +130,34 @@ def run(words):
 
 
 def scan_words(args):
-    return ["scan", "--json", "--ascii", "--threshold", args.threshold, *shlex.split(args.options)]
+    return ["scan", "--json", "--threshold", args.threshold, *shlex.split(args.options)]
 
 
-def scan(args, texts):
-    """The program's answer to each text, in their order."""
+def answers_to(args, book, notes, *options):
+    """What the program says of each note, which is bytes, in their order; of one that is refused, that."""
     with tempfile.TemporaryDirectory() as folder:
-        for number, text in enumerate(texts):
-            with open(os.path.join(folder, f"{number:06}"), "w", encoding="utf-8", errors="surrogateescape") as file:
-                file.write(text)
-        answers = run([*scan_words(args), "-r", args.book, folder]) if texts else []
-        found = {os.path.basename(answer["note"]): answer for answer in answers if "note" in answer}
-    for number in range(len(texts)):
-        if "licence" not in found.get(f"{number:06}", {}):
-            stop(f"no answer to text {number}: {found.get(f'{number:06}')}")
-    return [found[f"{number:06}"] for number in range(len(texts))]
+        for number, note in enumerate(notes):
+            with open(os.path.join(folder, f"{number:06}"), "wb") as file:
+                file.write(note)
+        answers = run([*scan_words(args), *options, "-r", book, folder]) if notes else []
+        found = {os.path.basename(answer["note"]): answer for answer in answers if "refusal" in answer}
+    for number in range(len(notes)):
+        if f"{number:06}" not in found:
+            stop(f"no answer to note {number}")
+    return [found[f"{number:06}"] for number in range(len(notes))]
+
+
+def bytes_of(text):
+    return text.encode("utf-8", "surrogateescape")
+
+
+def scan(args, texts, book=None):
+    """The program's answer to each text, in their order; --ascii, so that none is refused for its characters."""
+    answers = answers_to(args, book or args.book, [bytes_of(text) for text in texts], "--ascii")
+    for number, answer in enumerate(answers):
+        if "licence" not in answer:
+            stop(f"no answer to text {number}: {answer}")
+    return answers
 
 
 def said_of(answer):
@@ -211,12 +228,15 @@ def list_misses(results, stored, with_texts):
             print("    | " + text.text.replace("\n", "\n    | "))
 
 
+VERDICTS = ("right", "right"), ("version", "right but for only / or-later"), ("wrong", "wrong"), ("none", "none")
+
+
 def print_counts(args, results, stored):
     count = collections.Counter(verdict for verdict, _, _ in results)
     absent = [verdict for verdict, text, _ in results if version_of(text.name) not in stored]
     total = len(results)
     print(f"half {args.half}, threshold {args.threshold}: {total} texts")
-    for verdict, words in ("right", "right"), ("version", "right but for only / or-later"), ("wrong", "wrong"), ("none", "none"):
+    for verdict, words in VERDICTS:
         print(f"{count[verdict]:6} {100 * count[verdict] / max(total, 1):5.1f} %  {words}")
     print(f"of these {len(absent)} texts are of licences that the book has not: {absent.count('none')} none, {absent.count('wrong')} wrong")
     tied = collections.Counter(verdict for verdict, _, answer in results if is_tied(answer))
@@ -260,18 +280,23 @@ def choose_files(args, names, stored):
     return {path: chosen[path] for path in order[:args.files]}
 
 
+def names_in(answer):
+    """All licences that the program names in a file, by family and version."""
+    parts = answer.get("ranges", []) + answer.get("further", [])
+    return {version_of(name) for name in [answer.get("licence")] + [part["licence"] for part in parts] if name}
+
+
 def measure_files(args, names):
     stored = {version_of(line["licence"]) for line in run(["list", "--json", DEFAULT])}
     chosen = choose_files(args, names, stored)
     if len(chosen) < args.files:
         print(f"measure.py: only {len(chosen)} files have two or more licences of the book", file=sys.stderr)
     began = resource.getrusage(resource.RUSAGE_CHILDREN).ru_utime
-    answers = run([*scan_words(args), args.book, *chosen]) if chosen else []
+    answers = run([*scan_words(args), "--ascii", args.book, *chosen]) if chosen else []
     seconds = resource.getrusage(resource.RUSAGE_CHILDREN).ru_utime - began
     count = collections.Counter()
     for answer, (path, licences) in zip(answers, chosen.items()):
-        parts = answer.get("ranges", []) + answer.get("further", [])
-        found = {version_of(name) for name in [answer.get("licence")] + [part["licence"] for part in parts] if name}
+        found = names_in(answer)
         count.update(labelled=len(licences), found=len(licences & found), other=len(found - licences), whole=int(licences <= found))
         if args.list:
             print(f"{path}: found {' '.join(sorted(licences & found)) or '-'}; missed {' '.join(sorted(licences - found)) or '-'}; "
@@ -280,25 +305,121 @@ def measure_files(args, names):
           f"{count['other']} names not labelled, {seconds:.1f} s of processor time")
 
 
+def decoded(note):
+    """The note's characters; None where it is no UTF-8."""
+    try:
+        return note.decode("utf-8")
+    except UnicodeDecodeError:
+        return None
+
+
+def above(note):
+    """The characters that edition 3 does not take, each once."""
+    return {character for character in decoded(note) or "" if ord(character) > WIDE_MOST}
+
+
+def read_contents(places):
+    """The content of each file once, in the order of the files, with its path; but for those that are too large."""
+    contents = {}
+    for path in find_files(places):
+        with open(path, "rb") as file:
+            contents.setdefault(file.read(NOTE_MOST + 1), path)
+    return {content: path for content, path in contents.items() if len(content) <= NOTE_MOST}
+
+
+def without_name(answer):
+    return {key: value for key, value in answer.items() if key != "note"}
+
+
+def measure_ascii(args, contents):
+    """Files that are ASCII: do both books answer alike?"""
+    notes = [note for note in contents if note.isascii()]
+    pairs = list(zip(notes, answers_to(args, args.before, notes), answers_to(args, args.book, notes)))
+    differing = [row for row in pairs if without_name(row[1]) != without_name(row[2])]
+    print(f"{len(notes)} ASCII files: {len(notes) - len(differing)} are answered alike, {len(differing)} otherwise")
+    for note, before, now in differing if args.list else ():
+        print(f"    {contents[note]}: {said_of(before)}, then {said_of(now)}")
+
+
+def count_found(answers, licences):
+    """Of files with labelled licences: how many of these are found, and how many names are not labelled."""
+    found = [(names_in(answer), wanted) for answer, wanted in zip(answers, licences) if wanted]
+    return f"{sum(len(said & wanted) for said, wanted in found)} found, {sum(len(said - wanted) for said, wanted in found)} names not labelled"
+
+
+def measure_read(args, contents, read, names):
+    """Files that are read now, with their answers: the licences of the book that their labels say, and those that are named; before, with --ascii."""
+    stored = {version_of(line["licence"]) for line in run(["list", "--json", args.book])}
+    licences = [labelled(contents[note], names, stored) for note in read]
+    before = answers_to(args, args.before, list(read), "--ascii")
+    print(f"{len(read)} files are read now; {sum(map(bool, licences))} of them have {sum(map(len, licences))} labelled licences of the book: "
+          f"{count_found(read.values(), licences)}; before, with --ascii: {count_found(before, licences)}")
+
+
+def measure_refused(args, contents, names):
+    """Files that are not: how many were refused for that, how many still are, and why."""
+    notes = [note for note in contents if not note.isascii()]
+    before = [answer["refusal"] == 2 for answer in answers_to(args, args.before, notes)]
+    answers = dict(zip(notes, answers_to(args, args.book, notes)))
+    left = [note for note, answer in answers.items() if answer["refusal"] == 2]
+    print(f"{len(notes)} other files: {sum(before)} were refused for their characters, {len(left)} are now")
+    measure_read(args, contents, {note: answer for note, answer in answers.items() if "licence" in answer}, names)
+    broken = sum(decoded(note) is None for note in left)
+    print(f"of the {len(left)} refused {len(left) - broken} have characters above U+00FF, {broken} are no UTF-8")
+    count = collections.Counter(character for note in left for character in above(note))
+    often = sorted(count, key=lambda character: (-count[character], character))[:8]
+    print("most often " + ", ".join(f"U+{ord(character):04X} in {count[character]}" for character in often))
+
+
+def measure_labelled(args, names):
+    """Labelled texts that are not ASCII and that edition 3 takes, as they stand; before, with --ascii, since they were refused."""
+    contradicted = read_contradicted()
+    texts = [text for text in gather(find_files(args.places), names)[0]
+             if not text.text.isascii() and (text.mark, text.label.lower()) not in contradicted]
+    taken = [text for text in texts if decoded(bytes_of(text.text)) is not None and not above(bytes_of(text.text))]
+    now = answers_to(args, args.book, [bytes_of(text.text) for text in taken])
+    before = scan(args, [text.text for text in taken], args.before)
+    print(f"{len(texts)} labelled texts are not ASCII, {len(taken)} of them are taken; now, and before with --ascii:")
+    counts = [collections.Counter(judge(text.name, said_of(answer)[0]) for text, answer in zip(taken, answers)) for answers in (now, before)]
+    for verdict, words in VERDICTS:
+        print(f"{counts[0][verdict]:6} {counts[1][verdict]:6}  {words}")
+    for text, old, new in zip(taken, before, now) if args.list else ():
+        if said_of(old)[0] != said_of(new)[0]:
+            print(f"    {text.path}, {text.label}: {said_of(old)}, then {said_of(new)}")
+
+
+def measure_accents(args, names):
+    contents = read_contents(args.places)
+    print(f"{len(contents)} files of at most {NOTE_MOST:,} bytes, each content once")
+    measure_ascii(args, contents)
+    measure_refused(args, contents, names)
+    measure_labelled(args, names)
+
+
 def main():
     parser = argparse.ArgumentParser(description=__doc__, formatter_class=argparse.RawDescriptionHelpFormatter)
     parser.add_argument("places", nargs="*", metavar="FILE", help="copyright files, or folders of them (/usr/share/doc/*/copyright)")
-    parser.add_argument("--book", default=DEFAULT, help="the book (books/debian-2.book)")
+    parser.add_argument("--book", default=DEFAULT, help="the book (books/debian-3.book)")
     parser.add_argument("--half", choices=("open", "held", "all"), default="open", help="which half of the texts; only the open one is for tuning (open)")
     parser.add_argument("--threshold", default="0.9", help="as the program's (0.9)")
     parser.add_argument("--list", action="store_true", help="list what is not right; with --files, what each file has")
     parser.add_argument("--texts", action="store_true", help="the same, and each text with it")
     parser.add_argument("--files", type=int, metavar="N", help="scan N whole files that have several licences instead")
     parser.add_argument("--made", metavar="VERSION", help="put this version into the FSF's notices, V for theirs, N for its first number: --made N.4")
+    parser.add_argument("--accents", action="store_true", help="count the files that --before refuses for their characters, and what --book makes of them")
+    parser.add_argument("--before", default=BEFORE, metavar="BOOK", help="with --accents, the book of an earlier edition (books/debian-2.book)")
     parser.add_argument("--options", default="", help="further options of the program's scan, in one word: --options='--thorough'")
     args = parser.parse_args()
-    if not os.path.exists(args.book):
-        stop(f"{args.book} is not there; books/make.sh makes the default book")
+    for book in (args.book, args.before) if args.accents else (args.book,):
+        if not os.path.exists(book):
+            stop(f"{book} is not there; books/make.sh makes the default books")
     names = {label.lower(): name for label, name in read_table("labels.txt", 2)}
     if args.files:
         measure_files(args, names)
     elif args.made:
         measure_made(args, names)
+    elif args.accents:
+        measure_accents(args, names)
     else:
         measure(args, names)
 
