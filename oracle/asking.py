@@ -55,7 +55,7 @@ def book_records(rng, texts, edition):
             out += aliases(rng) if name else []
             name = stored.name
             out.append((1, name.encode("ascii")))
-        out.append((stored.kind, model.compiled(stored.text.encode("ascii"), edition)))
+        out.append((stored.kind, model.compiled(stored.text.encode("utf-8"), edition)))
     return EDITION_RECORDS[edition] + out + (aliases(rng) if out else [])
 
 
@@ -67,7 +67,10 @@ def book_of(records):
     return b"".join(record(kind, body) for kind, body in records)
 
 
-BIGRAMS = [b"a b", b"a  b", b" a", b"a ", b"", b" ", b"A b", b"a b c", b"a-b c", b"_ 9", b"a\tb", b"zz zz", b"a b\n", b"\xff a"]
+BIGRAMS = [
+    b"a b", b"a  b", b" a", b"a ", b"", b" ", b"A b", b"a b c", b"a-b c", b"_ 9", b"a\tb", b"zz zz", b"a b\n", b"\xff a",
+    *(words.encode("utf-8") for words in ("é à", "é à", "ª ÿ", "É à", "÷ a", "a ²", "é\x85 b")), b"\xc3 \xa9", b"a \xc3",
+]  # fmt: skip
 BODIES = [
     lambda rng: table_body(0, 0, []),
     lambda rng: table_body(1, 1, [(1, rng.choice(BIGRAMS))]),
@@ -78,7 +81,10 @@ BODIES = [
     lambda rng: table_body(1, 1, [(1, b"a b")])[: rng.randint(0, 18)],
     lambda rng: table_body(1, 1, [(1, b"a b")]) + rng.randbytes(rng.randint(1, 9)),
 ]
-SAID = [b"\2\0", b"\2\0", b"\0\0", b"\1\0", b"\3\0", b"\0\2", b"\2\2", b"", b"\2", b"\2\0\0", b"\2\0\0\0"]  # by a record of kind 6
+SAID = [  # by a record of kind 6
+    b"\2\0", b"\2\0", b"\3\0", b"\3\0", b"\0\0", b"\1\0", b"\4\0", b"\0\2", b"\0\3", b"\2\2", b"\3\3", b"", b"\2", b"\3", b"\2\0\0",
+    b"\3\0\0", b"\2\0\0\0",
+]  # fmt: skip
 NAMES = [b"", b"A", b"B", b"n" * 63, b"n" * 64, b"n" * 65, b"a b", b"!", b"~", b"\x7f", b" ", b"\x80", b"a\n", b"A\0"]
 
 
@@ -170,20 +176,24 @@ def two_shelves(rng):
     return first, [s._replace(text=rng.choice(first).text) if rng.random() < 0.3 else s for s in second]
 
 
-def with_fours(rng):
-    """Puts 4s into the texts of a plan, or leaves them as they are."""
+def putting(rng, edition):
+    """What puts 4s, in edition 3 accents, into the texts of a plan, or leaves them as they are."""
     salt = rng.random()
-    return (lambda text: compare.fours(salt, text)) if salt < 0.6 else (lambda text: text)
+    later = 3 if edition == model.ACCENTS else 2
+    return (lambda text: compare.drawn(later, f"{salt}", text)) if salt < 0.6 else (lambda text: text)
 
 
 def sound_plan(rng, job, lines=9, two=False):
     """A plan that is not refused; its book has 2 to 5 stored texts, and two books together up to 10."""
-    edition, put = rng.choice(model.EDITIONS), with_fours(rng)
+    edition = rng.choice(model.EDITIONS)
+    put = putting(rng, edition)
     shelves = two_shelves(rng) if two else (compare.shelf(rng),)
     texts = [s for shelf in shelves for s in shelf]
     plan = types.SimpleNamespace(job=job, edition=edition, start=0, end=0, number=0, threshold=0, shallow=0)
     plan.records = [book_records(rng, [s._replace(text=put(s.text)) for s in shelf], edition) for shelf in shelves]
-    plan.text = put(compare.note(rng, texts, lines) if rng.random() < 0.75 else compare.text(rng)).encode("ascii")
+    plan.text = put(compare.note(rng, texts, lines) if rng.random() < 0.75 else compare.text(rng)).encode("utf-8")
+    if edition == model.ACCENTS and rng.random() < 0.1:
+        plan.text = compare.wide_text(rng).encode("utf-8")
     plan.same = two and rng.random() < 0.1 and bool(shelves[0])
     if plan.same:
         plan.records[1] = plan.records[0]
@@ -234,7 +244,7 @@ def needs(plan):
     """What each area needs, in elements."""
     n = len(plan.text)
     bare = model.Question(plan.job, text=plan.text, optimize=plan.optimize, passes=plan.passes)
-    compiles = plan.job == "compile" and plan.edition in model.EDITIONS and plan.text.isascii() and n <= model.TEXT_MOST
+    compiles = plan.job == "compile" and plan.edition in model.EDITIONS and model.readable(plan.text, plan.edition) and n <= model.TEXT_MOST
     out = len(model.compiled(plan.text, plan.edition)) if compiles else 99
     return {"area": 8 * n + 64, "words": 12 * n + 64, "out": out, "results": model.results_need(bare)}
 
@@ -249,19 +259,42 @@ def few(rng, plan):
 
 def long_text(rng, plan):
     over = model.TEXT_MOST + rng.choice([1, 1, 2, 100]) - len(plan.text)
-    filler = rng.choice([b" ", b"x", b"a b ", b"\n", b"\xff"])
+    filler = rng.choice([b" ", b"x", b"a b ", b"\n", b"\xff", b"\xc3\xa9"])
     plan.text += (filler * over)[:over]
     few(rng, plan)
 
 
+# what no edition reads: alone, cut off, before another, overlong, above U+00FF, a byte order mark
+NO_UTF8 = [
+    b"\x80", b"\xa9", b"\xbf", b"\xc2", b"\xc3", b"\xc3a", b"\xc3\n", b"\xc3 \xa9", b"\xc2\x7f", b"\xc3\xc0", b"\xc3\xc3\xa9", b"\xc3\xa9\xa9", b"\xa9\xc3",
+    b"\xc0\x80", b"\xc1\xbf", b"\xc1\xa1", b"\xc4\x80", b"\xc5\xbf", b"\xe0\x83\xa9", b"\xe2\x82\xac", b"\xed\xa0\x80", b"\xef\xbb\xbf",
+    b"\xf0\x9f\x98\x80", b"\xfe", b"\xff",
+]  # fmt: skip
+UTF8 = [b"\xc2\x80", b"\xc2\x85", b"\xc2\xa0", b"\xc2\xbf", b"\xc3\x80", b"\xc3\xa9", b"\xc3\xbf"]  # what edition 3 reads
+
+
 def odd_byte(rng, plan):
+    """Bytes that the edition does not read, which the others may."""
     at = rng.choice([0, len(plan.text), rng.randint(0, len(plan.text))])
-    plan.text = plan.text[:at] + bytes([rng.choice([128, 128, 129, 255, rng.randint(128, 255)])]) + plan.text[at:]
+    odd = NO_UTF8 + [bytes([rng.randint(128, 255)])] + UTF8 * (model.edition_asked(plan) != model.ACCENTS)
+    plan.text = plan.text[:at] + rng.choice(odd) + plan.text[at:]
+
+
+def settle(plan, refusal):
+    """A later fault may give the first book another edition, by which the text is read: 2 is still to come where it is due, and nowhere before
+    what is due."""
+    reads = refusal == 1 or model.readable(plan.text, model.edition_asked(plan))
+    if refusal == 2 and reads:
+        plan.text += b"\xff"
+    elif refusal != 2 and not reads:
+        plan.text = bytes(b for b in plan.text if b < 128)
 
 
 def many_lines(rng, plan):
     over = model.LINES_MOST - plan.text.count(b"\n") + rng.choice([0, 0, 1, 500])
     at = rng.randint(0, len(plan.text))
+    while 0x80 <= (plan.text[at : at + 1] or b"\0")[0] < 0xC0:  # not inside a character
+        at += 1
     plan.text = plan.text[:at] + b"\n" * over + plan.text[at:]
     few(rng, plan)
 
@@ -272,7 +305,7 @@ def other_books(rng, plan, make):
         plan.books[i], plan.same = make(rng, plan.records[i]), False
 
 
-NO_EDITIONS = [0, 3, 4, 255, 256, 257, 258, 65535, 65536, 65537, 65538, 2**31 + 1, 2**31 + 2, 2**32 - 1]
+NO_EDITIONS = [0, 4, 5, 255, 256, 257, 258, 259, 65535, 65536, 65537, 65538, 65539, 2**31 + 1, 2**31 + 2, 2**31 + 3, 2**32 - 1]
 
 
 def bad_book(rng, plan):
@@ -294,10 +327,12 @@ def no_book(rng, plan):
 
 
 def other_edition(rng, plan):
-    """One book of two, which is sound and stays so, gets the other edition."""
-    i, front = rng.choice(sound_ones(plan) or [0]), model.FRONT[2]
-    book, plan.same = plan.books[i], False
-    plan.books[i] = book.removeprefix(front) if book.startswith(front) else front + book
+    """One book of two, which is sound and stays so, gets another edition. Where only edition 3 has its words, the marked book is in its place."""
+    i, plan.same = rng.choice(sound_ones(plan) or [0]), False
+    was = model.edition_of(plan.books[i])
+    front = model.FRONT[rng.choice([edition for edition in model.EDITIONS if edition != was])]
+    bare = plan.books[i].removeprefix(model.FRONT[was])
+    plan.books[i] = front + (bare if model.shelf_or_none(front + bare) is not None else MARKED_BOOK)
 
 
 OUTSIDE = [0x80000001, 0xBF800000, 0x3F800001, 0x40000000, 0x7F800000, 0xFF800000, 0x7FC00000, 0xFFC00001, 0x7F800001, 0xFFFFFFFF]
@@ -353,6 +388,7 @@ def faulty(rng, job, refusal, more=0.3, lines=9, largest=True, two=False):
     for n in order[order.index(refusal) + 1 :]:
         if rng.random() < more and (largest or n not in (1, 3)):
             FAULT[n](rng, plan)
+    settle(plan, refusal)
     return plan
 
 
@@ -361,6 +397,7 @@ def two_faults(rng, job, first, second, lines=9, two=False):
     plan = sound_plan(rng, job, lines, two)
     for n in (first, second):
         FAULT[n](rng, plan)
+    settle(plan, first)
     return plan
 
 

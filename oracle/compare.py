@@ -3,11 +3,12 @@
 
     oracle/compare.py [--edition E] [--seed N] [--scale X] [--only KIND,KIND] [--keep]
 
-The oracle beside this file (README.md) answers each question with the original's own code, in edition 2 mended. Each answer becomes a row, what
+The oracle beside this file (README.md) answers each question with the original's own code, from edition 2 on mended. Each answer becomes a row, what
 the definitions compute and what the oracle says, of a trial crate in a temporary folder; antt computes the rows there, a batch of them in one
 statement by `refl`. A batch that fails is taken apart, row by row, and each row that differs is printed with its input. The oracle has one store; the
 definitions are lent its licences in one book, or in two that part them anywhere. Texts of edition 2 are those of edition 1 with 4s put into them, and
-it is told how many rows edition 1 answers otherwise. Exit status: 0 no row differs, 1 some do, 2 the comparison could not be made.
+it is told how many rows edition 1 answers otherwise; those of edition 3 have accents, or are made of all code points up to U+00FF, and it is told how
+many are not ASCII. Exit status: 0 no row differs, 1 some do, 2 the comparison could not be made.
 """
 
 import argparse
@@ -45,6 +46,7 @@ use mathlib.Core.List.{List, [], _∷_, _++_, map}
 use lib.ListN.{length, take, drop, replicate}
 use lib.Ieee.{Float, toBits, ofBits, binary32}
 use Rattle.rules.specs.Bytes.{text, join}
+use Rattle.rules.specs.Points.{encoded}
 use Rattle.rules.specs.Lines.{lines}
 use Rattle.rules.specs.Passes.{aggressive}
 use Rattle.rules.specs.Search.{view, viewed}
@@ -63,13 +65,15 @@ pub record Row : Type 0 where
   pub got : List ℕ
   pub want : List ℕ
 
+-- texts are given by their bytes, a character for each
+
 -- of edition n: the normalised lines, joined by newlines
 pub linesRow : ℕ → String → String → Row
-linesRow n t w = record { got = join (lines n (text t)); want = text w }
+linesRow n t w = record { got = encoded (join (lines n (text t))); want = text w }
 
 -- of edition n: the lines from a up to e, after the aggressive passes
 pub viewRow : ℕ → String → ℕ → ℕ → String → Row
-viewRow n t a e w = record { got = aggressive (viewed (lines n (text t)) (view a e)); want = text w }
+viewRow n t a e w = record { got = encoded (aggressive (viewed (lines n (text t)) (view a e))); want = text w }
 
 -- of edition n: the table body
 pub tableRow : ℕ → String → String → Row
@@ -177,11 +181,11 @@ class Oracle:
 
 
 def hexed(text):
-    return text.encode("ascii").hex() or "-"
+    return text.encode("utf-8").hex() or "-"
 
 
 def unhexed(word):
-    return "" if word == "-" else bytes.fromhex(word).decode("ascii")
+    return "" if word == "-" else bytes.fromhex(word).decode("utf-8")
 
 
 def little(number, width):
@@ -206,11 +210,10 @@ class Row:
 
 
 def quoted(text):
-    """A text as antt quotes it; a byte string is the text of its bytes."""
-    if isinstance(text, bytes):
-        text = text.decode("latin-1")
+    """The bytes of a text, or these bytes, as antt quotes them: a character for each."""
+    characters = (text if isinstance(text, bytes) else text.encode("utf-8")).decode("latin-1")
     escaped = {"\n": "\\n", '"': '\\"', "\\": "\\\\"}
-    return '"' + "".join(escaped.get(c) or (c if " " <= c <= "~" else f"\\u{{{ord(c):x}}}") for c in text) + '"'
+    return '"' + "".join(escaped.get(c) or (c if " " <= c <= "~" else f"\\u{{{ord(c):x}}}") for c in characters) + '"'
 
 
 def listed(terms):
@@ -529,9 +532,119 @@ def four_line(rng, line):
     return (rng.choice(FOUR_STARTS) if lot > 0.9 else "") + line + (rng.choice(FOUR_ENDS) if 0.8 < lot < 0.95 else "")
 
 
+# ---- texts of edition 3 ------------------------------------------------------------------------------------------------------------------
+
+POINTS = [chr(c) for c in range(256)]
+HIGH = POINTS[128:]
+ACCENT_TEXTS = [
+    "Été à la PLAGE", "Straße ÀÖØÞ", "« a » b\xa0c\x85d", "© 2004 4 ² x", "http://é\xa0x y", "éa x\néa y\néa z", "éé x\néé y\néé z", "ééa\nééb\nééc",
+    "é x\né y\né z", "aéà\naéá\naéâ", "ab\x85é x\nab\x85é y", "a\ncopyright\x85c 1999\nb", "a license version é\n\nb c", "ª º µ ÿ ÷ ×", "é é",
+    "http://é\x85x y", "http://\x85x", "http://©x y", "http://© x", "ht²tp://x y", "a\x85b", "a\xa0b", "\x85a\x85", "\xa0a\xa0", "\x85", "\xa0", "\x85\n\xa0",
+    "a\x85\x85\x85b", "a\xa0\xa0/\xa0b", "a\x85\n\x85\n\x85\nb", "a \x85 b", "a\x85\tb", "«»\"'«", "a«©»b", "a\xad\xadb", "-\xad-", "(\xa0(", "_\x85_",
+    "¡a¿ §b¶ ·c", "a·b", "x²³¹¼½¾y 1²", "c©c", "copyright © 2004 é", "a\ncopyright\xa0c 1\nb", "a\ncopyright\x85\xa0 1\nb", "a\n\n\xa0copyright x\n\nb",
+    "a\n\n\x85copyright x\n\nb", "\xa0copyright é\nb c", "écopyright\na b", "a license\x85version 2\n\nb", "a license version 2\x85\n\nb",
+    "a license version \xa0x\n\nb", "a license version é\xa0copyright x\n\nb", "élicense\n\nb c", "É license copyright Ü\n\nb", "a license version ²\n\nb",
+    "ÀÁÂÃÄÅÆÇÈÉÊËÌÍÎÏÐÑÒÓÔÕÖØÙÚÛÜÝÞ", "àáâãäåæçèéêëìíîïðñòóôõöøùúûüýþßÿ", "×÷×÷ a", "éàé\néàè\néàê", "éà x\néà y\néáz\néà w", "abcé\nabcè\nabcê",
+    "\x85abcd e\n\xa0abcd f\nabcd g", "abc\x85 x\nabc\x85 y\nabc\x85 z", "ab\xa0é x\nab\xa0é y\nab\xa0é z", "µµ a\nµµ b\nµµ c", "ªªa\nªªb\nªªc",
+    "".join(POINTS), "".join(c + "a" for c in HIGH), "".join(c + "\n" for c in HIGH), " ".join(f"x{c}y" for c in HIGH),
+]  # fmt: skip
+LIKE = {"a": "àáâãäåæª", "c": "ç", "d": "ð", "e": "èéêë", "i": "ìíîï", "n": "ñ", "o": "òóôõöøº", "s": "ß", "t": "þ", "u": "ùúûüµ", "y": "ýÿ"}
+MEANT = ("copyright", "license", "version", "http", "https", "c")  # words that a pass looks for, and that mostly stay
+ACCENT_STARTS = ["é. ", "éé ", "aé à", "§§ ", "« ", "©\xa0", "²²²² ", "ÀÉ ", "·· é ", "éa ", "µ\x85é "]
+ACCENT_ENDS = [" é", "²", "\x85", "\xa0", " ©", "é.", " version É", " »", "\xad", "\x80"]
+
+
+def raised(c):
+    """Its upper case, where that is one of these characters too."""
+    return c.upper() if c.upper() in POINTS else c
+
+
+@functools.lru_cache(maxsize=2**16)
+def accent_form(salt, word):
+    """Of a word in lower case."""
+    rng = random.Random(f"{salt} {word}")
+    if rng.random() < (0.9 if word in MEANT else 0.4):
+        return word
+    return "".join(rng.choice(LIKE[c]) if c in LIKE and rng.random() < 0.5 else c for c in word)
+
+
+def accented(salt, word):
+    return "".join(raised(c) if was.isupper() else c for c, was in zip(accent_form(salt, word.lower()), word))
+
+
+def accent_line(rng, line):
+    lot = rng.random()
+    if lot < 0.15:
+        line = spaced(rng, line)
+    elif lot < 0.25:
+        line = strewn(rng, line)
+    return (rng.choice(ACCENT_STARTS) if lot > 0.9 else "") + line + (rng.choice(ACCENT_ENDS) if 0.8 < lot < 0.95 else "")
+
+
+def accents(salt, text):
+    """The text with accents in it, as `fours` puts 4s: under one salt a word always has one form."""
+    rng = random.Random(f"{salt} {text}")
+    start = rng.choice(ACCENT_STARTS) if rng.random() < 0.1 else ""
+    lines = (re.sub("[A-Za-z]+", lambda found: accented(salt, found[0]), line) for line in text.split("\n"))
+    return "\n".join(start + accent_line(rng, line) for line in lines)
+
+
+def spaced(rng, text):
+    """Some spaces become the two that ASCII has not."""
+    return "".join(rng.choice("\x85\xa0") if c == " " and rng.random() < 0.5 else c for c in text)
+
+
+def strewn(rng, text):
+    """Some characters of all that ASCII has not, anywhere."""
+    for _ in range(rng.randint(1, 4)):
+        at = rng.randint(0, len(text))
+        text = text[:at] + rng.choice(HIGH) + text[at:]
+    return text
+
+
+def point_soup(rng):
+    """Any of the 256, or of those that mean something."""
+    alphabet = rng.choice([POINTS, list("a \nC4(-/.\t\v$") + HIGH, list("\x85\xa0«»©²ÀàÿßµªºÞþ×÷¿¡·§¶\xad\x80 ac4\n\n-'(/")])
+    return "".join(some(rng, alphabet, 1, 40))
+
+
+def cut_starts(rng):
+    """Lines that start alike in bytes, often up to half a character."""
+    start, last = "".join(some(rng, "aéàµ \x85", 0, 4)), rng.choice(["éèêë", "aéà", "àâ", "µª", "é\xa0", "ab"])
+    return "\n".join(start + rng.choice(last) + "".join(some(rng, WORDS + [" ", "é"], 0, 2)) for _ in range(rng.randint(2, 7)))
+
+
+def wide_links(rng):
+    pieces = ["http://", "https://", "http:/", " ", "\x85", "\xa0", "é", "É", "©", "²", "«", "\xad", "x", "4", "/", "\n", "\v"]
+    return "".join(some(rng, pieces, 2, 14))
+
+
+def wide_text(rng):
+    """A text of edition 3."""
+    lot = rng.random()
+    if lot < 0.35:
+        return accents(rng.random(), text(rng))
+    if lot < 0.6:
+        return rng.choice([spaced, strewn])(rng, text(rng))
+    return rng.choice([point_soup, cut_starts, wide_links])(rng)
+
+
 def drawn(edition, salt, text):
-    """A text that was drawn, as it is asked in this edition."""
-    return text if edition == 1 else fours(salt, text)
+    """A text that was drawn, as it is asked in this edition. Edition 3 keeps the 4 too, so under some salts there are both."""
+    if edition == 2 or (edition == 3 and random.Random(salt).random() < 0.3):
+        text = fours(salt, text)
+    return accents(salt, text) if edition == 3 else text
+
+
+def fixed_texts(edition):
+    return FIXED_TEXTS + FOUR_TEXTS * (edition > 1) + ACCENT_TEXTS * (edition > 2)
+
+
+def text_of(edition, rng, salt):
+    """A text for the passes, of this edition; in edition 3 half are made for it."""
+    if edition == 3 and rng.random() < 0.5:
+        return wide_text(rng)
+    return drawn(edition, salt, text(rng))
 
 
 def any_view(rng, lines):
@@ -551,8 +664,8 @@ class Maker:
 
     def __init__(self, oracle, seed):
         self.oracle, self.edition = oracle, oracle.edition
-        self.first = None if oracle.edition == 1 else Oracle(1)  # asked beside it
-        self.fixed = FIXED_TEXTS if oracle.edition == 1 else FIXED_TEXTS + FOUR_TEXTS
+        self.first = Oracle(1) if oracle.edition == 2 else None  # asked beside it
+        self.fixed = fixed_texts(oracle.edition)
         self.seed = seed
         self.told = collections.Counter()
         self.lost = []
@@ -576,21 +689,27 @@ class Maker:
     def drawn(self, text):
         return drawn(self.edition, self.salt, text)
 
+    def asked_on(self, text):
+        """The text that a row is about."""
+        if self.edition == 3:
+            self.told[f"{self.kind}: rows whose text is not ASCII"] += not text.isascii()
+        return text
+
     # passes and tables
     def text(self, rng, i):
-        return self.fixed[i] if i < len(self.fixed) else self.drawn(text(rng))
+        return self.fixed[i] if i < len(self.fixed) else text_of(self.edition, rng, self.salt)
 
     def lines(self, rng, i):
-        t = self.text(rng, i)
+        t = self.asked_on(self.text(rng, i))
         want = self.said(lambda oracle: oracle.lines(t))
         return Row(f"linesRow {self.edition} {quoted(t)}", quoted("\n".join(want)), f"lines of {t!r}")
 
     def whole(self, rng, i):
-        t = self.text(rng, i)
+        t = self.asked_on(self.text(rng, i))
         return self.view_row(t, 0, len(self.oracle.lines(t)))
 
     def part(self, rng, i):
-        t = self.drawn(text(rng))
+        t = self.asked_on(text_of(self.edition, rng, self.salt))
         return self.view_row(t, *any_view(rng, len(self.oracle.lines(t))))
 
     def view_row(self, t, start, end):
@@ -601,7 +720,7 @@ class Maker:
         return Row(f"viewRow {self.edition} {quoted(t)} {start} {end}", quoted(want), f"view {start} to {end} of {t!r}")
 
     def table(self, rng, i):
-        t = self.drawn(stored_text(rng)) if rng.random() < 0.3 else self.text(rng, i)
+        t = self.asked_on(self.drawn(stored_text(rng)) if rng.random() < 0.3 else self.text(rng, i))
         want = self.said(lambda oracle: oracle.body(t))
         return Row(f"tableRow {self.edition} {quoted(t)}", quoted(want), f"table of {t!r}")
 
@@ -629,7 +748,7 @@ class Maker:
         plain = shelf(rng)
         texts = [s._replace(text=self.drawn(s.text)) for s in plain]
         books = self.books(rng, texts)
-        t = self.drawn(note(rng, plain, most))
+        t = self.asked_on(self.drawn(note(rng, plain, most)))
         return texts, books, t, len(self.oracle.lines(t))
 
     # scores and bounds

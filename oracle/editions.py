@@ -1,4 +1,5 @@
-"""Each rule of the editions kept and broken, as plans of asking.py with the refusal that is due; edges.py has the other limits.
+"""Each rule of the editions kept and broken, as plans of asking.py with the refusal that is due; accents.py has what edition 3 alone reads, edges.py
+the other limits.
 
 `one` has compile's edition and the record of kind 6 in one book, `both` two books of each edition with every other fault beside, `large` long texts
 and large books.
@@ -11,7 +12,7 @@ import model
 from asking import MARKED_BOOK, NO_EDITIONS, OF_TWO, SCANS, VIEWS, record
 from edges import EMPTY, HALF, NEAR, Edge, areas, around, due, large_book, licence, many_texts, marked, numbered, wordy
 
-SECOND = model.FRONT[2]
+SECOND, THIRD = model.FRONT[2], model.FRONT[3]
 FOURS = [
     b"a 4", b"GPL 4x", b"4/4|4", b"4", b"44 4", b"use the GPL version 4 now", b"4. a b\n4. c d\n4. e f", b"4444 a\n4444 b\n4444 c",
     b"copyright 2004 me\n\na 4 b", b"a license version 4\n\nb 4 c", b"see http://4.a/4 4", b"\t4\\4/|4 x", b"a4b-4c_4 (4)", b"copyright\n4 x y",
@@ -26,7 +27,7 @@ SHORT = {"area": 10, "words": 10, "out": 11}  # which refusal an area one too sh
 def compiled():
     for edition, text in itertools.product((*model.EDITIONS, *NO_EDITIONS), FOURS):
         yield Edge("compile's edition", marked("compile", edition=edition, text=text), due(edition in NO_EDITIONS, 4))
-    for edition, length in ((1, 8), (2, 19)):
+    for edition, length in ((1, 8), (2, 19), (3, 19)):
         yield Edge("compile's edition", marked("compile", edition=edition, text=b"a 4"), 0, {"len": length})
     for edition in (*model.EDITIONS, *NO_EDITIONS):
         yield Edge("compile's edition, and another fault", marked("compile", edition=edition, text=b"4\x80"), 2)
@@ -44,9 +45,9 @@ def compiled():
 
 def fronts():
     """What may stand before the licences: whether it is sound there, and which edition the book then has."""
-    for number in (0, 1, 2, 3, 4, 255, 256, 257, 258, 512, 513, 514, 65535):
-        yield record(6, struct.pack("<H", number)), number == 2, 2 if number == 2 else 1
-    for body in (b"", b"\0", b"\1", b"\2", b"\2\0\0", b"\0\2\0", b"\2\0\0\0", b"\0\0\0\2", b"\2\0\2\0", b"\2\0" + bytes(6)):
+    for number in (0, 1, 2, 3, 4, 5, 255, 256, 257, 258, 259, 512, 513, 514, 515, 768, 771, 65535):
+        yield record(6, struct.pack("<H", number)), number in (2, 3), number if number in (2, 3) else 1
+    for body in (b"", b"\0", b"\1", b"\2", b"\2\0\0", b"\0\2\0", b"\2\0\0\0", b"\0\0\0\2", b"\2\0\2\0", b"\2\0" + bytes(6), b"\3", b"\3\0\0", b"\0\3"):
         yield record(6, body), False, 1
     for kind in (0, 1, 2, 5, 7, 256, 262, 1536, 1542, 65535):
         yield record(kind, b"\2\0"), False, 1
@@ -54,7 +55,9 @@ def fronts():
         yield struct.pack("<I", length) + SECOND[4:], False, 1
     for size in range(8):
         yield SECOND[:size], size == 0, 1
-    yield SECOND * 2, False, 2
+    yield THIRD[:7], False, 1
+    for front, edition in ((SECOND * 2, 2), (THIRD * 2, 3), (SECOND + THIRD, 2), (THIRD + SECOND, 3)):
+        yield front, False, edition
 
 
 def elsewhere():
@@ -63,6 +66,8 @@ def elsewhere():
     for behind in (name + SECOND + text, name + text + SECOND, name + text + SECOND + licence(b"B", b"a b"), name + text + record(5, b"x") + SECOND):
         yield behind, 1
         yield SECOND + behind, 2
+        yield THIRD + behind, 3
+        yield behind.replace(SECOND, THIRD), 1
     for kind, body in ((1, b"A"), (2, EMPTY), (3, EMPTY), (4, EMPTY), (5, b"x")):
         yield record(kind, body) + SECOND, 1
         yield SECOND + record(kind, body), 2
@@ -82,18 +87,20 @@ def records():
         yield from asked("a record of kind 6", front + MARKED_BOOK, sound, 1, edition)
     for book, edition in elsewhere():
         yield from asked("a record of kind 6", book, False, 0, edition)
-    for bit in range(64):
-        wrong = (int.from_bytes(SECOND, "little") ^ 1 << bit).to_bytes(8, "little")
+    for right, bit in itertools.product((SECOND, THIRD), range(64)):
+        wrong = (int.from_bytes(right, "little") ^ 1 << bit).to_bytes(8, "little")
+        edition = {SECOND: 2, THIRD: 3}.get(wrong, 1)  # one bit makes either of the other
         for book in (wrong, wrong + MARKED_BOOK):
-            yield Edge("a record of kind 6", marked("edition", books=(book,)), 0, {"edition": 1})
-            yield Edge("a record of kind 6", marked("check", books=(book,)), 4)
+            yield Edge("a record of kind 6", marked("edition", books=(book,)), 0, {"edition": edition})
+            yield Edge("a record of kind 6", marked("check", books=(book,)), due(edition == 1, 4))
 
 
 # ---- sound books of each edition -----------------------------------------------------------------------------------------------------------
 
 WITH, WITHOUT = b"use the GPL version 4 now", b"use the GPL version now"
 FULL = model.bits_of(1.0)
-WINNERS = {(WITH, 1): b"G4", (WITHOUT, 1): b"G4", (WITH, 2): b"G4", (WITHOUT, 2): b"G5"}  # in edition 1 both tie, and the earlier wins
+# in edition 1 both tie, and the earlier wins
+WINNERS = {(WITH, 1): b"G4", (WITHOUT, 1): b"G4", (WITH, 2): b"G4", (WITHOUT, 2): b"G5", (WITH, 3): b"G4", (WITHOUT, 3): b"G5"}
 
 
 def g4(edition):
@@ -123,12 +130,12 @@ def winners():
 
 
 def shelves():
-    """Tables are not judged by the edition: those of either stand in a book of either."""
+    """ASCII tables are not judged by the edition: those of any stand in a book of any."""
     for said, made, text in itertools.product(model.EDITIONS, model.EDITIONS, FOURS):
         book = model.FRONT[said] + licence(b"A", text, made) + licence(b"B", text.replace(b"4", b""), made)
         yield Edge("one book of an edition", marked("check", books=(book,)), 0, {"texts": 2})
         for job in OF_TWO:
-            yield Edge("one book of an edition", marked(job, books=(book,), text=text, number=made - 1), 0)
+            yield Edge("one book of an edition", marked(job, books=(book,), text=text, number=(made - 1) % 2), 0)
 
 
 def counted():
@@ -152,7 +159,8 @@ def one():
 # what may stand on either side: whether it is sound, how many texts it has, its edition
 SIDES = {
     MARKED_BOOK: (True, 1, 1), SECOND + MARKED_BOOK: (True, 1, 2), b"": (True, 0, 1), SECOND: (True, 0, 2), MARKED_BOOK[:-1]: (False, 0, 1),
-    SECOND + MARKED_BOOK[:-1]: (False, 0, 2), record(6, b"\3\0") + MARKED_BOOK: (False, 0, 1),
+    SECOND + MARKED_BOOK[:-1]: (False, 0, 2), record(6, b"\4\0") + MARKED_BOOK: (False, 0, 1), THIRD + MARKED_BOOK: (True, 1, 3), THIRD: (True, 0, 3),
+    THIRD + MARKED_BOOK[:-1]: (False, 0, 3),
 }  # fmt: skip
 NAN = 0x7FC00000
 NO_AREA, NO_WORDS, NO_RESULTS = ({"slack": {area: -1}} for area in ("area", "words", "results"))
@@ -207,8 +215,8 @@ def both():
 
 
 def long_texts():
-    for edition, by in itertools.product((0, 1, 2, 3), NEAR):
-        text, bad = wordy(model.TEXT_MOST + by, 70000).replace(b"2", b"4"), edition in (0, 3)
+    for edition, by in itertools.product((0, *model.EDITIONS, 4), NEAR):
+        text, bad = wordy(model.TEXT_MOST + by, 70000).replace(b"2", b"4"), edition not in model.EDITIONS
         yield Edge("1,048,576 bytes, by edition", marked("compile", edition=edition, text=text), 1 if by > 0 else due(bad, 4))
         text = b"\n" * (model.LINES_MOST + by - 2) + b"4 a\n4 b"
         yield Edge("65,536 lines, by edition", marked("compile", edition=edition, text=text), 3 if by > 0 else due(bad, 4))

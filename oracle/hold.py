@@ -19,6 +19,7 @@ import struct
 import sys
 import time
 
+import accents
 import asking
 import compare
 import edges
@@ -314,6 +315,11 @@ def rulings(rng, scale, two):
     yield from computable(editions.both() if two else editions.one(), scale)
 
 
+def wide(rng, scale, two):
+    """The edges of edition 3."""
+    yield from computable(accents.both() if two else accents.one(), scale)
+
+
 def computable(found, scale):
     """The edges that antt can compute on: no results of 65,535 passes, and no book of a thousand texts (damaged/proofs/LimitCases.antt has that).
     At a scale below 1 only some of them."""
@@ -322,7 +328,9 @@ def computable(found, scale):
             yield edge.plan
 
 
-MAKERS = {"answers": answers, "refusals": refusals, "budgets": budgets, "books, sound or not": books, "edges": limits, "editions": rulings}
+MAKERS = {
+    "answers": answers, "refusals": refusals, "budgets": budgets, "books, sound or not": books, "edges": limits, "editions": rulings, "accents": wide,
+}  # fmt: skip
 KINDS = {kind: (make, False) for kind, make in MAKERS.items()} | {f"two books: {kind}": (make, True) for kind, make in MAKERS.items()}
 LINES = {False: 5, True: 3}  # of a text, at most; with two books each view costs more
 MOST_SCORINGS = 120

@@ -1,8 +1,8 @@
 """A second reading of the rules (docs/RULES.md), in plain Python: what each of the jobs answers, and what each lent area holds at exit.
 
-Written from the document, with the definitions known, but by other means: regular expressions for the passes, dictionaries for the tables, exact
-fractions for the scores, generators for the scans. Slow, and no part of the library. hold.py holds it against the definitions, rows.py holds
-the archive against it.
+Written from the document, with the definitions known, but by other means: regular expressions over Python's own characters for the passes, its
+unicodedata for their classes, dictionaries for the tables, exact fractions for the scores, generators for the scans. Slow, and no part of the
+library. hold.py holds it against the definitions, rows.py holds the archive against it.
 """
 
 import collections
@@ -12,11 +12,11 @@ import math
 import os
 import re
 import struct
+import unicodedata
 from fractions import Fraction
 
 TEXT_MOST, LINES_MOST = 1048576, 65536
 BOOK_MOST, STORED_MOST, TOTAL_MOST, NAME_MOST = 16777216, 1024, 8388608, 64
-SPACES = b"\t\n\v\f\r "
 
 # ---- binary32 ----------------------------------------------------------------------------------------------------------------------------
 
@@ -42,24 +42,58 @@ def rounded(x):
     return math.ldexp(round(x * Fraction(2) ** shift), -shift)  # round() of a fraction takes ties to even
 
 
+# ---- characters: the first 256 -----------------------------------------------------------------------------------------------------------
+
+
+def those(test):
+    return "".join(c for c in map(chr, range(256)) if test(c))
+
+
+def of_category(*starts):
+    """The characters whose general category begins so."""
+    return those(lambda c: unicodedata.category(c).startswith(starts))
+
+
+BLANKS = of_category("Zs")
+SPACES = "\t\n\v\f\r\x85" + BLANKS  # White_Space
+WORDS = of_category("L", "Nd", "Pc")
+LEFT = those(lambda c: c in WORDS and c.lower() == c)  # as lower case leaves them
+SPACE, WORD, LOWER, MARK = map(re.escape, (SPACES, WORDS, LEFT, of_category("P")))  # between the brackets of a pattern
+ACCENTS = 3  # the edition that has more of them than ASCII has
+
+
+def readable(text, edition):
+    """Whether refusal 2 lets these bytes through."""
+    if edition != ACCENTS:
+        return text.isascii()
+    try:
+        return max(text.decode("utf-8"), default="") <= "\xff"
+    except UnicodeDecodeError:
+        return False
+
+
 # ---- line passes -------------------------------------------------------------------------------------------------------------------------
 
-GAPS = {1: rb"[ \t\\/|4]+", 2: rb"[ \t\\/|]+"}  # line pass 4, by edition
+MENDED = rf"[{BLANKS}\t\\/|]+"
+GAPS = {1: rf"[{BLANKS}\t\\/|4]+", 2: MENDED, 3: MENDED}  # line pass 4, by edition
 EDITIONS = tuple(GAPS)
-RUNS = [(rb"[\"']+", b"'"), (rb"-+", b"-"), (rb"[(\[{]+", b"("), (rb"[)\]}]+", b")"), (rb"_+", b"_")]
+JUNK = f"[^{WORD}{SPACE}{MARK}]"
+QUOTES, DASHES, OPENING, CLOSING, UNDER = map(re.escape, ("\"'" + of_category("Pi", "Pf"), *map(of_category, ("Pd", "Ps", "Pe", "Pc"))))
+RUNS = [(f"[{QUOTES}]+", "'"), (f"[{DASHES}]+", "-"), (f"[{OPENING}]+", "("), (f"[{CLOSING}]+", ")"), (f"[{UNDER}]+", "_")]
 
 
 def line(piece, edition):
-    piece = re.sub(rb"[\x00-\x08\x0e-\x1f\x7f$+<=>^|~`]", b"", piece)
-    piece = re.sub(rb"https?://[^\t-\r ]+", b"http://blackboxed/url", piece)
-    piece = re.sub(GAPS[edition], b" ", piece)
+    piece = re.sub(JUNK, "", piece)
+    piece = re.sub(f"https?://[^{SPACE}]+", "http://blackboxed/url", piece)
+    piece = re.sub(GAPS[edition], " ", piece)
     for run, one in RUNS:
         piece = re.sub(run, one, piece)
     return piece.strip(SPACES)
 
 
 def lines_of(text, edition):
-    return [line(piece, edition) for piece in text.split(b"\n")]
+    """Of a text that is not refused."""
+    return [line(piece, edition) for piece in text.decode("utf-8").split("\n")]
 
 
 # ---- aggressive passes -------------------------------------------------------------------------------------------------------------------
@@ -70,11 +104,16 @@ def share(lines):
     return int(rounded(Fraction(of_bits(bits_of(0.8))) * lines))
 
 
+def common_prefix(above, below):
+    """Of their bytes; half a character at its end goes."""
+    return os.path.commonprefix([above.encode("utf-8"), below.encode("utf-8")]).decode("utf-8", errors="ignore").strip(SPACES)
+
+
 def without_prefix(lines):
     seen = {}  # in the order of first sight
     for above, below in zip(lines, lines[1:]):
-        prefix = os.path.commonprefix([above, below]).strip(SPACES)
-        if len(prefix) > 3:
+        prefix = common_prefix(above, below)
+        if len(prefix.encode("utf-8")) > 3:
             seen[prefix] = seen.get(prefix, 1) + 1
     if not seen:
         return lines
@@ -84,29 +123,29 @@ def without_prefix(lines):
     return [(one[len(winner) :] if one.startswith(winner) else one).strip(SPACES) for one in lines]
 
 
-TITLE = re.compile(rb"\A[^\n]*license(?: version [^\t-\r ]+)?(?: copyright[^\n]*)?\n\n")
+TITLE = re.compile(rf"\A[^\n]*license(?: version [^{SPACE}]+)?(?: copyright[^\n]*)?\n\n")
 COPYRIGHT = re.compile(
-    rb"(?:\A\n*|\n\n) *copyright[^\n]*\n\n"  # A
-    rb"|\A[^\n]*copyright[^\n]*"  # B
-    rb"|^copyright(?:[\t-\r ]+(?:c|[0-9]+))+[^\n]*",  # C
+    r"(?:\A\n*|\n\n) *copyright[^\n]*\n\n"  # A
+    r"|\A[^\n]*copyright[^\n]*"  # B
+    rf"|^copyright(?:[{SPACE}]+(?:c|[0-9]+))+[^\n]*",  # C
     re.MULTILINE,
 )
 
 
 def processed(lines):
-    text = b"\n".join(without_prefix(lines))
-    text = re.sub(rb"\n{3,}", b"\n\n", re.sub(rb"[\n-\r]", b"\n", text))
-    text = re.sub(rb"[^A-Za-z0-9_\t-\r ]", b"", text).lower()
-    text = TITLE.sub(b"", text)
-    text = COPYRIGHT.sub(b"\n\n", text)
-    return re.sub(rb"[\t-\r ]+", b" ", text).strip(SPACES)
+    text = "\n".join(without_prefix(lines))
+    text = re.sub(r"\n{3,}", "\n\n", re.sub(r"[\n-\r]", "\n", text))
+    text = re.sub(f"[^{WORD}{SPACE}]", "", text).lower()
+    text = TITLE.sub("", text)
+    text = COPYRIGHT.sub("\n\n", text)
+    return re.sub(f"[{SPACE}]+", " ", text).strip(SPACES)
 
 
 # ---- tables and scores -------------------------------------------------------------------------------------------------------------------
 
 
 def table(lines):
-    words = processed(lines).split(b" ")
+    words = processed(lines).encode("utf-8").split(b" ")
     return collections.Counter(a + b" " + b for a, b in zip(words, words[1:]))
 
 
@@ -139,7 +178,7 @@ class Note:
         return self.tables[start, end]
 
     def blanked(self, first, after):
-        return Note([b"" if first <= i < after else one for i, one in enumerate(self.lines)])
+        return Note(["" if first <= i < after else one for i, one in enumerate(self.lines)])
 
 
 # ---- the book ----------------------------------------------------------------------------------------------------------------------------
@@ -149,12 +188,13 @@ NO_PART = Part(0, 0, 0)
 Stored = collections.namedtuple("Stored", "number name kind table part")
 
 
-FRONT = {1: b"", 2: struct.pack("<IHH", 2, 6, 2)}  # what a book starts with, by edition: nothing, or the whole record of kind 6
+# what a book starts with, by edition: nothing, or the whole record of kind 6
+FRONT = {1: b"", **{edition: struct.pack("<IHH", 2, 6, edition) for edition in EDITIONS[1:]}}
 
 
 def edition_of(book):
-    """Of any bytes."""
-    return 2 if book.startswith(FRONT[2]) else 1
+    """Of any bytes: the latest whose record they start with."""
+    return max(edition for edition in EDITIONS if book.startswith(FRONT[edition]))
 
 
 class Unsound(Exception):
@@ -183,7 +223,15 @@ def records_in(book):
     return out
 
 
-def table_in(body):
+def words_in(bigram, edition):
+    """Two words with a space between. Half a character is none, and neither is one that lower case changes."""
+    try:
+        return re.fullmatch(f"[{LOWER}]+ [{LOWER}]+", bigram.decode("utf-8" if edition == ACCENTS else "ascii"))
+    except UnicodeDecodeError:
+        return None
+
+
+def table_in(body, edition):
     head, place = taken(body, 0, 8)
     total, distinct = struct.unpack("<II", head)
     counts, last = {}, b""
@@ -191,7 +239,7 @@ def table_in(body):
         head, place = taken(body, place, 8)
         count, length = struct.unpack("<II", head)
         bigram, place = taken(body, place, length)
-        need(count >= 1 and bigram > last and re.fullmatch(rb"[a-z0-9_]+ [a-z0-9_]+", bigram))
+        need(count >= 1 and bigram > last and words_in(bigram, edition))
         counts[bigram] = count
         last = bigram
     need(distinct == len(counts) and total == sum(counts.values()) and total <= TOTAL_MOST)
@@ -207,14 +255,14 @@ def shelf_of(book):
     names, shelf = [], []
     for kind, start, body in records:
         if kind == 6:
-            need(body == b"\2\0")
+            need(body in (b"\2\0", b"\3\0"))
         if kind in (1, 5):
             need(re.fullmatch(rb"[!-~]{1,64}", body))
         if kind == 1:
             names.append(body)
             part = Part(0, start, len(body))
         if kind in (2, 3, 4):
-            shelf.append(Stored(len(shelf), names[-1], kind, table_in(body), part))
+            shelf.append(Stored(len(shelf), names[-1], kind, table_in(body, edition_of(book)), part))
     need(all(a < b for a, b in zip(names, names[1:])))
     need(len(shelf) <= STORED_MOST)
     return shelf
@@ -332,7 +380,7 @@ class Question:
     bytes of their numbers, four each."""
 
     job: str
-    edition: int = 1  # only of compile; the others have their books'
+    edition: int = 1  # only of compile; the others have their books', and refusal 2 the first one's
     text: bytes = b""
     books: tuple = (b"",)
     same: bool = False  # two books are one piece of memory, lent twice
@@ -393,9 +441,14 @@ def small(q):
     return len(q.area) < 8 * n + 64 or len(q.words) < 4 * (12 * n + 64) or len(q.results) < 4 * results_need(q)
 
 
+def edition_asked(q):
+    """Which edition the text of a question, or of a plan, is read by."""
+    return q.edition if q.job == "compile" else edition_of(q.books[0])
+
+
 APPLIES = {
     1: lambda q: len(q.text) > TEXT_MOST,
-    2: lambda q: not q.text.isascii(),
+    2: lambda q: not readable(q.text, edition_asked(q)),
     3: lambda q: line_count(q) > LINES_MOST,
     4: lambda q: q.edition not in EDITIONS if q.job == "compile" else any(shelf_or_none(book) is None for book in q.books),
     5: lambda q: not shelved(q.books),

@@ -1,7 +1,7 @@
 """The original Rust as a program that answers questions (README.md), for each edition.
 
-Edition 1 is built of the files as published. Edition 2 is built of a copy of them in target/mended, in which the one pattern of line pass 4 is
-mended: `\\x2044`, which reads as a space and two 4s, becomes `\\x{2044}`.
+Edition 1 is built of the files as published. Editions 2 and 3 are one program, built of a copy of them in target/mended, in which the one pattern of
+line pass 4 is mended: `\\x2044`, which reads as a space and two 4s, becomes `\\x{2044}`. What edition 3 takes besides, the original takes by itself.
 """
 
 import hashlib

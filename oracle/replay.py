@@ -3,11 +3,14 @@
 
     oracle/replay.py [--seed N]
 
-There are four lists, `replay_lines`, `replay_views`, `replay_tables` and `replay_scans`, one behind the other. crates/replay/stdin gets the
-questions and crates/replay/stdout the oracle's answers as they are; `rt check replay` runs the program, which answers such questions with the
-proved functions, on the one and compares what it writes with the other. The seed (default 1) fixes the lists.
+There are five lists, `replay_lines`, `replay_views`, `replay_tables`, `replay_scans` and `replay_accents`, one behind the other. crates/replay/stdin
+gets the questions and crates/replay/stdout the oracle's answers as they are; `rt check replay` runs the program, which answers such questions with
+the proved functions, on the one and compares what it writes with the other. The seed (default 1) fixes the lists.
 
-Every text is ASCII and has at most 2,048 bytes. They come from four sources, in this order:
+The last list is of edition 3. It begins with a line `edition 3`, which the oracle is not sent and to which there is no answer, and asks questions of
+all kinds, of the cases of compare.py, of every code point from 80 to FF alone and between letters, and of random texts up to U+00FF.
+
+Every text has at most 2,048 bytes. Those of the first four lists are ASCII and of edition 1, and come from four sources, in this order:
 
   cases     the marked cases of the rules, the errors that look right, and the other fixed texts of compare.py
   traps     every byte alone and between letters; the digit 4; URLs in both cases, cut short, at line ends, behind and before dropped
@@ -154,8 +157,8 @@ def all_texts(rng, how_many):
 
 
 class List:
-    """Questions as they are asked, each with its answer; a heading is a line without one. In a later edition the texts have 4s in them, by the
-    salt."""
+    """Questions as they are asked, each with its answer; a heading is a line without one. In edition 2 the texts have 4s in them, in edition 3
+    accents, by the salt."""
 
     def __init__(self, oracle, salt):
         self.oracle, self.salt = oracle, salt
@@ -166,6 +169,10 @@ class List:
 
     def heading(self, words):
         self.questions.append(f"# {words}")
+
+    def edition(self):
+        """Told to the program that answers these."""
+        self.questions.append(f"edition {self.oracle.edition}")
 
     def ask(self, *words):
         question = " ".join(map(str, words))
@@ -307,7 +314,37 @@ def replay_scans(out, rng):
         budgets(out, "eliminate", f"{rng.choice([HALF, met]):08x} {ONE:08x} 1 3", t, stored)
 
 
-LISTS = (replay_lines, replay_views, replay_tables, replay_scans)
+def accent_texts(rng, how_many):
+    alone = list(compare.HIGH) + [f"a{c}b" for c in compare.HIGH]
+    return compare.fixed_texts(3) + alone, [compare.wide_text(rng)[: MOST // 2] for _ in range(how_many)]
+
+
+def replay_accents(out, rng):
+    out.edition()
+    fixed, some = accent_texts(rng, 120)
+    out.heading("lines")
+    for t in fixed + some:
+        out.ask("lines", hexed(t))
+    out.heading("views and tables")
+    fixed, some = accent_texts(rng, 160)
+    for i, t in enumerate(fixed + some):
+        n = len(out.oracle.lines(t))
+        out.ask("view", 0, n, hexed(t))
+        if i % 3 == 0:
+            out.ask("view", *compare.any_view(rng, n), hexed(t))
+        if i % 3 == 1 or t in compare.ACCENT_TEXTS:
+            out.ask("table", hexed(t))
+    out.heading("scores and bounds")
+    of_made_texts(out, rng, "score", 80, 12)
+    of_made_texts(out, rng, "countbounds", 50, 12)
+    out.heading("scans")
+    for _ in range(20):
+        stored = compare.shelf(rng)
+        stock(out, stored)
+        scans_of(out, rng, stored, compare.note(rng, stored, 9), 9)
+
+
+LISTS = {replay_lines: 1, replay_views: 1, replay_tables: 1, replay_scans: 1, replay_accents: 3}  # each with its edition
 
 
 def listed(make, oracle, seed):
@@ -318,9 +355,9 @@ def listed(make, oracle, seed):
     return out
 
 
-def recorded(make, seed):
+def recorded(make, edition, seed):
     """One list, asked of a store that is empty."""
-    out = listed(make, Oracle(1), seed)
+    out = listed(make, Oracle(edition), seed)
     sizes = [sum(len(row) + 1 for row in rows) for rows in (out.questions, out.answers)]
     print(f"{make.__name__}: {len(out.answers)} questions, {sizes[0]} and {sizes[1]} bytes")
     return out
@@ -330,7 +367,7 @@ def main():
     options = argparse.ArgumentParser(description="Records answers of the original.")
     options.add_argument("--seed", default="1", help="another seed gives other lists (default 1)")
     options = options.parse_args()
-    lists = [recorded(make, options.seed) for make in LISTS]
+    lists = [recorded(make, edition, options.seed) for make, edition in LISTS.items()]
     folder = os.path.join(compare.REPOSITORY, "crates", "replay")
     for name, rows in (("stdin", [out.questions for out in lists]), ("stdout", [out.answers for out in lists])):
         with open(os.path.join(folder, name), "w", encoding="ascii") as file:

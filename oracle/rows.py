@@ -6,7 +6,7 @@
 Asks target/rows (built and run by host/drivers/rows.sh) and the model the same questions, and compares everything that the call answers and leaves. Every
 area is filled with garbage first and is often longer than needed; text, books and the bytes behind each buffer must be as they were, and the name's
 part must hold the name. Each refusal of each job, of one book and of two, must be met at least 20 times, and each limit must bring the refusal that
-edges.py or editions.py says. Prints one line for each kind of row; the last line is 'N passed, M failed'. Exit status: 0 none failed, 1 some did, 2 the
+edges.py, editions.py or accents.py says. Prints one line for each kind of row; the last line is 'N passed, M failed'. Exit status: 0 none failed, 1 some did, 2 the
 comparison could not be made.
 """
 
@@ -20,6 +20,7 @@ import subprocess
 import sys
 import time
 
+import accents
 import asking
 import compare
 import edges
@@ -105,9 +106,15 @@ def with_edition(q):
     return q.edition != 1 if q.job == "compile" else q.job == "edition" or any(book[4:6] == b"\6\0" for book in q.books)
 
 
+def with_accents(q):
+    """Does it reach edition 3: by the text, by compile's edition or by a book's?"""
+    third = q.edition == model.ACCENTS if q.job == "compile" else any(book.startswith(model.FRONT[model.ACCENTS]) for book in q.books)
+    return third or not q.text.isascii()
+
+
 class Tally:
     def __init__(self, archive):
-        self.archive, self.several, self.editions = archive, 0, 0
+        self.archive, self.several, self.editions, self.accents = archive, 0, 0, 0
         self.rows, self.failed, self.met, self.met_by_kind = collections.Counter(), collections.Counter(), collections.Counter(), {}
 
     def hold(self, kind, q, due):
@@ -116,6 +123,7 @@ class Tally:
         self.rows[kind] += 1
         self.several += several(q)
         self.editions += with_edition(q)
+        self.accents += with_accents(q)
         self.met[q.job, len(q.books), want.refusal] += 1
         self.met_by_kind.setdefault(kind, collections.Counter())[want.refusal] += 1
         faults += apart(want, got)
@@ -208,9 +216,9 @@ def limits(seed, found):
 def rows(seed, scale, large):
     """All rows: so many times the random ones, and the large edges or not."""
     yield from random_rows(seed, scale)
-    yield from limits(seed, itertools.chain(edges.small(), edges.both(), editions.one(), editions.both()))
+    yield from limits(seed, itertools.chain(edges.small(), edges.both(), editions.one(), editions.both(), accents.one(), accents.both()))
     if large:
-        yield from limits(seed, itertools.chain(edges.large(), editions.large()))
+        yield from limits(seed, itertools.chain(edges.large(), editions.large(), accents.large()))
 
 
 QUICK = 0.05
@@ -229,7 +237,8 @@ def main():
         tally.require()
         tally.table()
     failed = sum(tally.failed.values())
-    print(f"{tally.several} rows with several faults at once, {tally.editions} with an edition; seed {options.seed}, {time.monotonic() - began:.0f} s")
+    told = f"{tally.several} rows with several faults at once, {tally.editions} with an edition, {tally.accents} that reach edition 3"
+    print(f"{told}; seed {options.seed}, {time.monotonic() - began:.0f} s")
     print(f"{sum(tally.rows.values()) - failed} passed, {failed} failed")
     return 1 if failed else 0
 

@@ -3,18 +3,21 @@
 
     oracle/scale.py [--edition E] [--seeds N] [--first K]
 
-Asks the original (oracle/README.md), in edition 2 mended, and target/answers (built and run by host/drivers/answers.sh) the same questions and
+Asks the original (oracle/README.md), from edition 2 on mended, and target/answers (built and run by host/drivers/answers.sh) the same questions and
 compares the answers line by line:
 
   lists     replay.py's lists of tables, scores, bounds and scans, made anew for each of N seeds (default 100): passes by the tables that
             they end in, scores by their bits, counts and budgets, both scans
   short     the table of every text of up to five bytes over an alphabet in which each byte means something to some pass, and of texts full of 4s
   files     the table of each copyright file of the installed Debian packages to 10,000 bytes, and scans of them against a store of common licences
+  pairs     in edition 3 the table of each two code points up to U+00FF, one behind the other, in each of some places where a pass looks at them
+  wide      in edition 3 the tables of random texts of these code points
 
 Every question on a view or a scan is asked of target/answers twice: with one book, and behind `border K` with two, which the original's one store
 decides as well. The original's unordered ties are settled in its answers as oracle/README.md says. Every area is filled with garbage before a call,
 and target/answers stops where one is not as it must be after it, or where the name's part is not the named licence's. In edition 2 the texts of the
-lists have 4s put into them. Prints the number of cases of each kind, in edition 2 also of how many edition 1 has another answer, and each difference.
+lists have 4s put into them, in edition 3 accents. Prints the number of cases of each kind, in edition 2 also of how many edition 1 has another answer,
+in edition 3 how many ask about a text that is not ASCII, and each difference.
 """
 
 import argparse
@@ -35,6 +38,9 @@ ALPHABET = "aC4 \n$-"
 SHORT = 5
 FILE_MOST = 10000  # bytes; the original takes long for more
 VIEWS, SCANS = ("score", "countbounds"), ("counteliminate", "countdown")
+PLACES = ["z a{0}{1}b c", "z http://{0}{1}b c", "z\ncopyright{0}{1}1 k\nb c", "é{0}{1}x b\né{0}{1}y c\né{0}{1}z d"]  # of two code points
+WIDE_TEXTS = 60000
+OTHERWISE = {1: "", 2: ", edition 1 has another answer to {:8}", 3: ", a text that is not ASCII in {:8}"}
 
 
 class Ours:
@@ -51,11 +57,16 @@ class Ours:
         return answer.rstrip("\n")
 
 
+def not_ascii(word, rest):
+    """Has a text of this question a byte of 128 or more? It is the last word, and on a view the two last."""
+    return any(not bytes.fromhex(text.strip("-")).isascii() for text in rest[-2 if word in VIEWS else -1 :])
+
+
 class Tally:
     """Holds our answers against the original's. The borders are drawn by the seed that the run starts with."""
 
     def __init__(self, edition, seed):
-        self.ours, self.first = Ours(edition), None if edition == 1 else Oracle(1)
+        self.ours, self.edition, self.first = Ours(edition), edition, Oracle(1) if edition == 2 else None
         self.rng = random.Random(f"{seed} borders")
         self.asked, self.otherwise, self.differing, self.licences = Counter(), Counter(), 0, 0
 
@@ -63,11 +74,16 @@ class Tally:
         """With one book; and where two can be lent with two, parted anywhere, also before the first licence and behind the last."""
         word, *rest = question.split(" ")
         self.licences = 0 if word == "clear" else self.licences + (word == "add" and rest[1] == "2")
-        otherwise = self.first is not None and self.first.ask(question) != theirs
+        otherwise = self.first.ask(question) != theirs if self.first else not_ascii(word, rest)
         self.compare(word, question, theirs, otherwise)
         if word in VIEWS + SCANS:
             border = self.rng.randint(0, self.licences if word in SCANS else 1)
             self.compare(f"{word}, two books", f"border {border} {question}", theirs, otherwise)
+
+    def told(self):
+        for kind, count in sorted(self.asked.items()):
+            print(f"{kind:25} {count:8}" + OTHERWISE[self.edition].format(self.otherwise[kind]))
+        print(f"edition {self.edition}: {self.asked.total()} cases, {self.differing} differences")
 
     def compare(self, kind, question, theirs, otherwise):
         ours = self.ours.ask(question)
@@ -100,16 +116,28 @@ def short():
     yield from compare.FOUR_TEXTS
 
 
-def installed():
+def pairs():
+    for place, first, second in itertools.product(PLACES, compare.POINTS, compare.POINTS):
+        yield place.format(first, second)
+
+
+def wide(seed):
+    rng = random.Random(f"{seed} wide")
+    return (compare.wide_text(rng) for _ in range(WIDE_TEXTS))
+
+
+def installed(edition):
+    """Without what this edition does not take."""
+    last = "\xff" if edition == 3 else "\x7f"
     for path in sorted(glob.glob("/usr/share/doc/*/copyright")):
-        with open(path, "rb") as file:
-            text = bytes(b for b in file.read() if b < 128).decode("ascii")
+        with open(path, encoding="utf-8", errors="ignore", newline="") as file:
+            text = "".join(c for c in file.read() if c <= last)
         if len(text) <= FILE_MOST:
             yield text
 
 
 def files(tally, oracle):
-    texts = list(dict.fromkeys(installed()))
+    texts = list(dict.fromkeys(installed(oracle.edition)))
     tables(tally, oracle, texts)
     questions = ["clear"]
     for i, text in enumerate(replay.licences()):
@@ -131,9 +159,9 @@ def main():
     lists(tally, oracle, options.first, options.seeds)
     tables(tally, oracle, short())
     files(tally, oracle)
-    for kind, count in sorted(tally.asked.items()):
-        print(f"{kind:25} {count:8}" + f", edition 1 has another answer to {tally.otherwise[kind]:8}" * (options.edition != 1))
-    print(f"edition {options.edition}: {tally.asked.total()} cases, {tally.differing} differences")
+    if options.edition == 3:
+        tables(tally, oracle, itertools.chain(pairs(), wide(options.first)))
+    tally.told()
     return 1 if tally.differing else 0
 
 

@@ -88,12 +88,12 @@ fn without_prefix(input: &str) -> Cow<'_, str> {
     stripped.join("\n").into()
 }
 
-/// The common prefix of two ASCII lines, trimmed.
+/// The common prefix of two lines, cut to whole characters and trimmed.
 fn common_prefix<'a>(first: &'a str, second: &str) -> &'a str {
     let len = first
-        .bytes()
-        .zip(second.bytes())
-        .take_while(|(f, s)| f == s)
-        .count();
+        .char_indices()
+        .zip(second.chars())
+        .find(|((_, f), s)| f != s)
+        .map_or(first.len().min(second.len()), |((at, _), _)| at);
     first[..len].trim()
 }

@@ -1,0 +1,106 @@
+#!/usr/bin/env python3
+"""Holds model.py, the second reading of the rules, against the original Rust: lines, views, tables, scores, bounds and both scans.
+
+    oracle/agree.py [--edition E] [--seed N] [--texts N]
+
+The texts are those of compare.py in this edition (default 3: code points up to U+00FF). No archive and no `rt` is needed. Prints the number of cases
+of each kind and each difference; exit status 0 none, 1 some, 2 the comparison could not be made.
+"""
+
+import argparse
+import collections
+import dataclasses
+import random
+import struct
+import sys
+
+import asking
+import compare
+import model
+from compare import WHOLE, Oracle, Trouble, hexed
+
+
+class Tally:
+    def __init__(self):
+        self.asked, self.differing = collections.Counter(), 0
+
+    def hold(self, kind, told, theirs, ours):
+        self.asked[kind] += 1
+        if theirs != ours:
+            self.differing += 1
+            print(f"differs: {kind} {told}\n  original {theirs}\n  model    {ours}")
+
+
+def passes(tally, oracle, t):
+    lines = model.lines_of(t.encode("utf-8"), oracle.edition)
+    tally.hold("lines", repr(t), oracle.lines(t), lines)
+    tally.hold("views", repr(t), oracle.view(t, 0, len(lines)), model.processed(lines))
+    tally.hold("tables", repr(t), oracle.body(t), model.compiled(t.encode("utf-8"), oracle.edition))
+
+
+def every_pair(tally, oracle):
+    """Two code points between letters, all pairs of one first point in one text: a line for each."""
+    for first in compare.POINTS:
+        passes(tally, oracle, "\n".join(f"a{first}{second}b" for second in compare.POINTS if "\n" not in first + second))
+
+
+def shelved(rng, oracle, seed, i):
+    """A store of the oracle's, its book, and a note."""
+    plain, salt = compare.shelf(rng), f"{seed} agree {i}"
+    texts = [s._replace(text=compare.drawn(oracle.edition, salt, s.text)) for s in plain]
+    oracle.stock(texts)
+    return texts, asking.book_of(asking.book_records(rng, texts, oracle.edition)), compare.drawn(oracle.edition, salt, compare.note(rng, plain, 9))
+
+
+def scanned(a):
+    """The model's answer as the oracle's protocol has it."""
+    numbers = struct.iter_unpack("<IIII", a.results[: 16 * a.records])
+    return compare.Counted(a.refusal, a.count, a.score, a.part if a.kind else None, [tuple(r) for r in numbers])
+
+
+def jobs(tally, oracle, rng, seed, i):
+    texts, book, t = shelved(rng, oracle, seed, i)
+    note, k = t.encode("utf-8"), rng.randrange(len(texts))
+    n = note.count(b"\n") + 1
+    start, end = compare.any_view(rng, n)
+    areas = {"area": bytes(8 * len(note) + 64), "words": bytes(4 * (12 * len(note) + 64))}
+    q = model.Question("score", text=note, books=(book,), start=start, end=end, number=k, **areas)
+    told = f"{start} {end} of {t!r} against {texts[k].text!r}"
+    tally.hold("scores", told, int(oracle.ask("scores", start, end, hexed(t)).split(" ")[k], 16), model.answered(q).score)
+    b = model.answered(dataclasses.replace(q, job="bounds"))
+    theirs = oracle.ask("countbounds", start, end, hexed(t), hexed(texts[k].text))
+    tally.hold("bounds", told, theirs, f"{b.count} {b.first} {b.after} {b.score:08x}")
+    threshold, shallow = rng.choice([compare.ZERO, compare.HALF, compare.NINETY]), compare.ONE
+    q = dataclasses.replace(q, threshold=threshold, shallow=shallow, optimize=True, passes=3, step=rng.choice([1, 2, 3]), budget=WHOLE)
+    for job, before, room in (("eliminate", "1 3", 48), ("down", q.step, 16 * n)):
+        ours = scanned(model.answered(dataclasses.replace(q, job=job, results=bytes(room))))
+        theirs = oracle.counted(f"count{job} {threshold:08x} {shallow:08x} {before} {WHOLE} {hexed(t)}")
+        part = None if theirs.named is None else model.shelved((book,))[theirs.named].part
+        tally.hold(job, f"{threshold:08x} {before} of {t!r}", theirs._replace(named=part), ours)
+
+
+def main():
+    options = argparse.ArgumentParser(description="Holds the second reading against the original.")
+    options.add_argument("--edition", type=int, choices=model.EDITIONS, default=3)
+    options.add_argument("--seed", default="1", help="another seed gives other texts (default 1)")
+    options.add_argument("--texts", type=int, default=5000)
+    options = options.parse_args()
+    oracle, tally, rng = Oracle(options.edition), Tally(), random.Random(f"{options.seed} agree")
+    if options.edition == model.ACCENTS:
+        every_pair(tally, oracle)
+    fixed = compare.fixed_texts(options.edition)
+    for i in range(options.texts):
+        passes(tally, oracle, fixed[i] if i < len(fixed) else compare.text_of(options.edition, rng, f"{options.seed} agree {i}"))
+    for i in range(options.texts // 10):
+        jobs(tally, oracle, rng, options.seed, i)
+    print(", ".join(f"{kind} {count}" for kind, count in tally.asked.items()))
+    print(f"edition {options.edition}, seed {options.seed}: {tally.asked.total()} cases, {tally.differing} differences")
+    return 1 if tally.differing else 0
+
+
+if __name__ == "__main__":
+    try:
+        sys.exit(main())
+    except Trouble as trouble:
+        print(f"agree: {trouble}", file=sys.stderr)
+        sys.exit(2)
