@@ -1,4 +1,4 @@
-// The library's face for C: the six jobs with plain types, the scan as two calls, since an enum does not cross. include/chultarvi.h describes
+// The library's face for C: the six jobs with plain types, the scan as two calls, since an enum does not cross, and the two calls on expressions. include/chultarvi.h describes
 // them. Assumes of a C caller that no slice that it lends to be written overlaps another of the same call.
 ghost use mathlib.Core.Path.{_≡_};
 ghost use mathlib.Core.List.{[], _∷_};
@@ -7,6 +7,7 @@ ghost use Rattle.rules.specs.Book.{edition};
 ghost use Rattle.rules.specs.declared.Mode.the-variants.{Elimination, TopDown};
 ghost use Rattle.answers_c.specs.Answers.{compiledOf, scoredOf, boundedOf, scannedOf, namedOf};
 ghost use Rattle.rules.specs.Jobs.{ScoreDone, BoundsDone, NameDone, ScanDone, check, CompileDone};
+ghost use Rattle.expression.specs.Jobs.{WriteDone, satisfy as satisfied};
 use answers_c::BookChecked;
 use answers_c::BoundsFound;
 use answers_c::NoteScanned;
@@ -24,6 +25,10 @@ use bounds_job::bounds_of;
 use compile::compile;
 use detection_check::check_book;
 use detection_edition::edition_of;
+use expression::Satisfied;
+use expression::Spelled;
+use expression_job::satisfy;
+use expression_job::write_expression;
 use name_job::name_both;
 use name_job::name_of;
 use rules::Limits;
@@ -256,4 +261,20 @@ pub extern "C" fn chultarvi_top_down_both<'a>(
         results,
     );
     scanned_for_c(s)
+}
+
+// Whether a list of accepted parts, one a line, satisfies a licence expression.
+#[no_mangle]
+pub extern "C" fn chultarvi_satisfy(text: &[u8], list: &[u8]) -> Satisfied
+    ensures { λ r. ⌜ r ≡ satisfied (now (text .entry)) (now (list .entry)) ⌝ }
+{
+    satisfy(text, list)
+}
+
+// A licence expression written back with single spaces and only the parentheses that it needs.
+#[no_mangle]
+pub extern "C" fn chultarvi_write_expression(text: &[u8], out: &mut [u8]) -> Spelled
+    ensures { λ r. ⌜ WriteDone (now (text .entry)) (now (out .entry)) (now (out .exit)) r ⌝ }
+{
+    write_expression(text, out)
 }

@@ -1,0 +1,2 @@
+-- What the leaves on bytes say.
+pub mod Front

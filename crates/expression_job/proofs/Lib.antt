@@ -1,0 +1,2 @@
+pub mod WholeLaws
+pub mod SpacedLaws

@@ -1,0 +1,2 @@
+-- What is said of a whole text.
+pub mod Whole

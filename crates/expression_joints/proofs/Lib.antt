@@ -1,0 +1,2 @@
+-- Laws of what stands between operands.
+pub mod JointLaws

@@ -1,0 +1,2 @@
+-- What the functions between operands say.
+pub mod Joints

@@ -1,0 +1,2 @@
+-- What the functions that read a level say.
+pub mod Levels

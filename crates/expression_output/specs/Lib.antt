@@ -1,0 +1,2 @@
+-- What the writers of an expression say.
+pub mod Output

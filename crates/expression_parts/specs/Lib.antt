@@ -1,0 +1,3 @@
+-- What the functions that read a part say.
+pub mod Simple
+pub mod Parts

@@ -1,0 +1,2 @@
+-- A line of a list of accepted parts, read without the automaton.
+pub mod Line
