@@ -1,8 +1,8 @@
 #!/bin/sh
 # shellcheck disable=SC1091,SC2086,SC2154
-# Passes all tests of the host: builds what is missing, runs host/tests/callers.sh, host/tests/face.c compiled as C and as C++,
-# oracle/rows.py --quick, oracle/unicode.py, and line.sh, desk.sh, commands.sh, editions.sh, accents.sh, drivers.sh, measure.sh and install.sh of
-# host/tests. All that it makes stands in a folder of its own under target/, so that several runs at once do not meet.
+# Passes all tests of the host: builds what is missing, runs host/tests/callers.sh, host/tests/face.c and expressions.c compiled as C and as C++,
+# oracle/rows.py --quick, oracle/expressions_rows.py --quick, oracle/unicode.py, and line.sh, desk.sh, commands.sh, editions.sh, accents.sh,
+# expressions.sh, drivers.sh, measure.sh and install.sh of host/tests. All that it makes stands in a folder of its own under target/, so that several runs at once do not meet.
 # The last line is 'N passed, M failed', the sum; the exit status is 0 only where M is 0.
 set -eu
 root=$(cd "$(dirname "$(readlink -f "$0")")/.." && pwd)
@@ -17,9 +17,11 @@ warn='-O2 -Wall -Wextra -Wconversion -Wshadow -Werror'
 wraps='-Wl,--wrap=read,--wrap=write,--wrap=fsync,--wrap=close,--wrap=rename,--wrap=malloc'
 echo 'host: building the tests' >&2
 # Linked by the C compiler and without libm: the static one of Debian's cross packages names files that are not there.
-$CC -std=c11 -D_GNU_SOURCE $warn $LINK -o "$folder/face_c" host/tests/face.c "$archive"
-$CXX -x c++ -std=c++17 -fno-exceptions $warn -c -o "$folder/face_cxx.o" host/tests/face.c
-$CC $LINK -o "$folder/face_cxx" "$folder/face_cxx.o" "$archive"
+for face in face expressions; do
+    $CC -std=c11 -D_GNU_SOURCE $warn $LINK -o "$folder/${face}_c" "host/tests/$face.c" "$archive"
+    $CXX -x c++ -std=c++17 -fno-exceptions $warn -c -o "$folder/${face}_cxx.o" "host/tests/$face.c"
+    $CC $LINK -o "$folder/${face}_cxx" "$folder/${face}_cxx.o" "$archive"
+done
 $CC -std=c11 -D_GNU_SOURCE $warn $LINK $wraps -o "$folder/faulty" $sources host/tests/faults.c "$archive"
 
 passed=0 failed=0
@@ -46,12 +48,15 @@ part() {
 part 'who scores' sh host/tests/callers.sh
 part 'the header from C' $RUN "$folder/face_c"
 part 'the header from C++' $RUN "$folder/face_cxx"
+part 'expressions from C' $RUN "$folder/expressions_c"
+part 'expressions from C++' $RUN "$folder/expressions_cxx"
 export RUN CC LINK
 if command -v python3 >/dev/null; then
     part 'answers and areas against a second reading' python3 oracle/rows.py --quick
+    part 'expressions against a second reading' python3 oracle/expressions_rows.py --quick
     part 'the classes of characters against Unicode' python3 oracle/unicode.py
 else
-    echo 'not run here: answers and areas against a second reading, the classes of characters against Unicode (no python3)'
+    echo 'not run here: answers, areas and expressions against a second reading, the classes of characters against Unicode (no python3)'
 fi
 set -- target/chultarvi "$folder/faulty" books/debian-3.book examples/note.txt
 part 'the command line: scan' sh host/tests/line.sh "$@"
@@ -59,6 +64,7 @@ part 'the command line: for the desk' sh host/tests/desk.sh "$@"
 part 'the command line: the other commands' sh host/tests/commands.sh "$@"
 part 'the command line: editions' sh host/tests/editions.sh "$@"
 part 'the command line: accents' sh host/tests/accents.sh "$@"
+part 'the command line: expressions' sh host/tests/expressions.sh "$@"
 part 'the drivers' sh host/tests/drivers.sh
 part 'the measure of a book' sh host/tests/measure.sh target/chultarvi books/debian-3.book examples/note.txt
 part 'the installation' sh host/tests/install.sh

@@ -3,7 +3,7 @@
 
    Platform. libchultarvi.a is x86-64 code (ELF, the System V ABI: Linux and the BSDs, not Windows). Of other libraries it calls memcpy and memset only.
    It has no unwind tables: a debugger or profiler cannot walk the stack through it; no exception can pass, since it calls nothing that throws. Floating
-   point must round to nearest, as it does when a program starts. A call takes less than 8 KiB of stack.
+   point must round to nearest, as it does when a program starts. A call takes less than 8 KiB of stack, one on a licence expression less than 16 KiB.
 
    Arguments. A slice is two arguments, a pointer and a count of elements (not bytes: for uint32_t one element is four bytes). A pointer may
    be null only where its count is 0; that is an empty slice. Pointers to uint32_t are aligned as C has it.
@@ -14,8 +14,8 @@
    own. The time of a call grows with the areas lent, since they are cleared: lend no more than the text needs.
 
    Answers. `refusal` is 0, or the first of `enum chultarvi_refusal` that applies, as they stand there: 15 comes behind 5. With 1 to 11 and with 15 all
-   else in the answer is 0. With 12 the answer holds what the scan had until it stopped.
-   After 1 to 10 and after 15 no lent area has changed. After 0, 11 and 12 every element of area and words is 0, also those beyond what the text needs;
+   else in the answer is 0. With 12 the answer holds what the scan had until it stopped. 13 and 14, with their place, are of licence expressions alone.
+   After 1 to 10 and after 13 to 15 no lent area has changed. After 0, 11 and 12 every element of area and words is 0, also those beyond what the text needs;
    out and results have changed only where the answer says that something was written (with 11: nowhere).
 
    Lines count from 0, and a text has one line more than it has newline bytes, so an empty text has one. A range of lines is its first line
@@ -56,9 +56,9 @@
 extern "C" {
 #endif
 
-#define CHULTARVI_VERSION "0.4.0"
+#define CHULTARVI_VERSION "0.5.0"
 #define CHULTARVI_VERSION_MAJOR 0
-#define CHULTARVI_VERSION_MINOR 4
+#define CHULTARVI_VERSION_MINOR 5
 #define CHULTARVI_VERSION_PATCH 0
 
 #define CHULTARVI_TEXT_MOST 1048576u   /* bytes of a text */
@@ -69,6 +69,7 @@ extern "C" {
 #define CHULTARVI_EDITION_MOST 3u      /* the last edition; the first is 1 */
 #define CHULTARVI_RECORD_WIDTH 4u      /* numbers of a record in the results */
 #define CHULTARVI_RECORD_HEAD 6u       /* bytes of a book's record before its body */
+#define CHULTARVI_DEPTH_MOST 32u       /* parentheses of a licence expression that are open at once */
 
 /* Kinds of a book's records. An answer names CHULTARVI_NONE or that of a stored text: CHULTARVI_ORIGINAL, _ALTERNATE, _HEADER. */
 enum {
@@ -81,7 +82,7 @@ enum {
     CHULTARVI_EDITION = 6
 };
 
-/* In the order in which they are tested. 13 and 14 are no refusals. */
+/* In the order in which they are tested. 13 and 14 are of licence expressions: which of them it is the earlier byte decides; then 11. */
 enum chultarvi_refusal {
     CHULTARVI_ANSWERED = 0,
     CHULTARVI_REFUSED_TEXT_LONG = 1,
@@ -97,7 +98,9 @@ enum chultarvi_refusal {
     CHULTARVI_REFUSED_NUMBER = 9, /* a stored number of N or more */
     CHULTARVI_REFUSED_AREA_SMALL = 10,
     CHULTARVI_REFUSED_OUTPUT_SHORT = 11,
-    CHULTARVI_STOPPED_BY_BUDGET = 12
+    CHULTARVI_STOPPED_BY_BUDGET = 12,
+    CHULTARVI_REFUSED_NO_EXPRESSION = 13,
+    CHULTARVI_REFUSED_TOO_DEEP = 14 /* more than CHULTARVI_DEPTH_MOST parentheses open at once */
 };
 
 /* A refusal in words, in English, for people; "unknown" for a number that is none. Never null. */
@@ -115,10 +118,10 @@ static inline const char *chultarvi_refusal_text(uint32_t refusal)
         "the view is out of the text's range",
         "the book has no stored text of this number",
         "a lent area is too small",
-        "the output is shorter than the table",
+        "the output is too short",
         "stopped by the budget",
-        "unknown",
-        "unknown",
+        "the text is no licence expression",
+        "more than 32 parentheses are open",
         "the two books are of differing editions",
     };
     return refusal < sizeof refusal_texts / sizeof *refusal_texts ? refusal_texts[refusal] : "unknown";
@@ -239,6 +242,30 @@ static inline const uint8_t *chultarvi_stored_name(const uint8_t *book, const ui
 {
     return chultarvi_byte_at(book, second, answer->second, answer->name_at);
 }
+
+/* Licence expressions, such as `MIT OR (Apache-2.0 AND BSD-3-Clause)`, by the annex on them of SPDX 2.3. They have nothing to do with books, and no area is
+   lent for them; text and list have any length and any bytes.
+     part        an identifier: one or more of A-Z a-z 0-9 - . that are not AND, OR or WITH; `+` may follow it. Or LicenseRef- and such bytes, before which
+                 DocumentRef-, such bytes and a colon may stand. Behind either may stand WITH, blanks on both its sides, and an exception, an identifier too
+     expression  parts joined by AND and OR, each with a blank or a parenthesis on both its sides; AND binds before OR. Parentheses hold an expression again
+   Identifiers are judged by their form, not by SPDX's list. The three words are in capitals, blanks are byte 32, any number, at both ends too.
+   Refusals: 13, no expression; `place` is the first byte with which no expression begins, counted from 0, and text_len where it breaks off (proved:
+   first-bad, crates/expression_place/proofs). 14: at `place` stands a parenthesis that finds 32 open. 11: out is shorter than what would be written. */
+
+/* Does a list of accepted parts satisfy the text? A list has a part a line (byte 10 between), each as it would be written: single blanks, none at an
+   end, and so no carriage return. A line that is none, an empty one too, accepts nothing. A part is met by its equal alone, identifier, `+` and exception,
+   letters A-Z as a-z: GPL-2.0+ not by GPL-2.0. satisfied is false where it is refused, by 13 or 14. The time grows with the parts of the text times
+   the bytes of the list. Text and list may be the same memory: one line satisfies itself exactly if it is a part as it would be written (proved:
+   line-itself, crates/expression_place/proofs). */
+typedef struct { uint32_t refusal; bool satisfied; size_t place; } chultarvi_expression_satisfied;
+chultarvi_expression_satisfied chultarvi_satisfy(const uint8_t *text, size_t text_len, const uint8_t *list, size_t list_len);
+
+/* Writes the text back: single blanks, parts and operators in their order and letters, parentheses only round an OR under an AND. The same lists satisfy
+   it, and written again it stays (proved: same-satisfied, spell-twice, crates/expression_spelling/proofs). It stands at the front of out; len: its bytes,
+   at most CHULTARVI_SPELLED_MOST of text_len (proved: spelled-fits). Where it is refused len is 0 and nothing is written. Refusals 13, 14, then 11. */
+#define CHULTARVI_SPELLED_MOST(n) ((n) + (n) / 5)
+typedef struct { uint32_t refusal; size_t place, len; } chultarvi_expression_spelled;
+chultarvi_expression_spelled chultarvi_write_expression(const uint8_t *text, size_t text_len, uint8_t *out, size_t out_len);
 
 #ifdef __cplusplus
 }

@@ -6,8 +6,6 @@
 #include <stdlib.h>
 #include <string.h>
 
-enum { LIST_MOST = 4194304 };
-
 /* One line of the list. file: the alias itself where the kind is alias. table, len: a text's table in the book, once it is compiled. */
 typedef struct { const char *name, *file; const uint8_t *table; size_t len, line; uint32_t kind; } entry;
 /* status: the worst that was met so far. ascii: texts become what the edition takes. edition: by which they are read. */
@@ -59,22 +57,11 @@ static const char *wrong_entry(const entry *e) {
     return is_name(e->file) ? 0 : "the alias is not 1 to 64 bytes of 33 to 126";
 }
 
-/* An empty line and one that begins with `# ` say nothing. (`#` alone begins no comment: `#1` is a name.) */
-static bool is_comment(const char *line) { return *line == 0 || strcmp(line, "#") == 0 || strncmp(line, "# ", 2) == 0; }
-
-/* Cuts the line at p off the next one, whose beginning it gives; null behind the last. A line may end with CR LF. */
-static char *cut_line(char *p) {
-    char *next = strchr(p, '\n'), *end = next ? next : p + strlen(p);
-    if (next) *next++ = 0;
-    if (end > p && end[-1] == '\r') end[-1] = 0;
-    return next;
-}
-
 /* A line that is wrong is said and left out. */
-static void read_entries(entries *all, char *text) {
-    size_t line = 1;
+static void read_entries(entries *all, char *text, char *end) {
+    size_t line = 1, len;
     for (char *p = text, *next; p; p = next, line++) {
-        next = cut_line(p);
+        next = cut_line(p, end, &len);
         if (is_comment(p)) continue;
         char *kind = cut(p), *file = cut(kind);
         entry e = {.name = p, .file = file, .line = line, .kind = kind_of(kind)};
@@ -273,8 +260,8 @@ static int stand(const book *b, const char *out, const char *list) {
     return DONE;
 }
 
-static void make_book(const char *out, entries *all, char *text) {
-    read_entries(all, text);
+static void make_book(const char *out, entries *all, char *text, size_t len) {
+    read_entries(all, text, text + len);
     if (are_many(all)) return;
     bool whole = all->status == DONE;
     /* without the lines left out a name may seem to lack its original */
@@ -288,21 +275,6 @@ static void make_book(const char *out, entries *all, char *text) {
         all->status = stand(&b, out, all->list);
     }
     free(b.bytes);
-}
-
-/* The list with a zero behind it; null where it cannot be read, which is said. The caller frees it. */
-static char *read_list(const char *list, size_t *len) {
-    char *text = take(LIST_MOST + 1);
-    const char *why = read_file(list, (uint8_t *)text, LIST_MOST, len);
-    if (!why && *len > LIST_MOST) why = "over 4,194,304 bytes";
-    if (!why && memchr(text, 0, *len)) why = "a list is text, and this has a zero byte";
-    if (!why) {
-        text[*len] = 0;
-        return text;
-    }
-    unreadable(list, why);
-    free(text);
-    return 0;
 }
 
 int run_book(int count, char **words) {
@@ -321,7 +293,7 @@ int run_book(int count, char **words) {
     if (!text) return TROUBLE;
     /* a good line has at least nine bytes, as `A alias b`, and its newline */
     entries all = {.at = take((len / 10 + 1) * sizeof(entry)), .list = words[2], .status = DONE, .ascii = ascii, .edition = edition};
-    make_book(words[1], &all, text);
+    make_book(words[1], &all, text, len);
     if (all.status != DONE) say_of(words[1], "no new book stands there");
     free(all.at);
     free(text);

@@ -1,5 +1,5 @@
 /* The command line of Chultarvi over the archive: the entry, which finds the command. Each command has a file of its own: scan.c, list.c (list and
-   check), book.c, compile.c; help.c holds the help. Build and run: host/run.sh. */
+   check), book.c, compile.c, expression.c; help.c holds the help. Build and run: host/run.sh. */
 #include "host.h"
 #include <fcntl.h>
 #include <signal.h>
@@ -19,6 +19,7 @@ static bool is_one_of(const char *word, const char *one, const char *two, const 
 static int run(int count, char **words) {
     static const struct { const char *name; int (*run)(int, char **); } commands[] = {
         {"scan", run_scan}, {"list", run_list}, {"check", run_check}, {"book", run_book}, {"compile", run_compile},
+        {"expression", run_expression},
     };
     if (count < 2) {
         say("no command; chultarvi --help tells more");

@@ -43,7 +43,7 @@ static int compile_to(const char *path, uint32_t edition, const char *out, const
 
 int run_compile(int count, char **words) {
     const char *out = 0, *edition_word = 0;
-    const option_place places[] = {{'o', 0, &out, 0}, {.name = "edition", .value = &edition_word}};
+    const option_place places[] = {{.letter = 'o', .value = &out}, {.name = "edition", .value = &edition_word}};
     uint32_t edition;
     int status;
     if (!read_options(&count, words, places, 2, &status)) return status;

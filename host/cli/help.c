@@ -2,7 +2,7 @@
 #include "host.h"
 #include <string.h>
 
-#define STATUS "Exit status: 0 all is answered; 1 something was refused, or stopped by the budget; 2 wrong usage, or trouble with a file.\n"
+#define STATUS "Exit status: 0 all is answered; 1 something was refused, not satisfied, or stopped by the budget; 2 wrong usage, or trouble with a file.\n"
 #define ENDING "Options stand before or behind the names; '--' ends them. -h and --help print this.\n" STATUS
 
 #define EDITIONS ": 1, the digit 4 counts as a space; 2, it stays; 3, it stays, and UTF-8 up to U+00FF is taken (1)"
@@ -15,6 +15,7 @@ static const char program_help[] =
     "  chultarvi check BOOK...                 are books sound, how many licences and texts, which edition?\n"
     "  chultarvi book OUT LIST                 make a book from a list of lines NAME KIND FILE\n"
     "  chultarvi compile TEXT [-o OUT]         the table of a text: its size; its bytes into OUT\n"
+    "  chultarvi expression EXPRESSION...      licence expressions as they are written; whether accepted parts satisfy them\n"
     "  chultarvi COMMAND --help                the options of a command, and what it prints\n"
     "  chultarvi --help | --version\n"
     "\n"
@@ -90,9 +91,29 @@ static const char compile_help[] =
     "  --edition N   for a book of this edition" EDITIONS "\n"
     "\n" ENDING;
 
+static const char expression_help[] =
+    "chultarvi expression [--accept LIST]... [--accept-part PART]... [--json] EXPRESSION...\n"
+    "\n"
+    "Writes licence expressions, such as 'MIT OR (Apache-2.0 AND BSD-3-Clause)', with single blanks and only the parentheses that they\n"
+    "need. With accepted parts it says of each whether these satisfy it, and which of its parts are not accepted. '-' reads expressions\n"
+    "from standard input, one a line.\n"
+    "\n"
+    "  --accept LIST        accept the parts of this file, one a line, as they are written here. An empty line and one that begins with '# '\n"
+    "                       say nothing, lines may end with CR LF, and a line that is no part is warned of. May stand several times\n"
+    "  --accept-part PART   accept this part. May stand several times\n"
+    "  --json               one line of JSON for each expression; in it bytes count from 0, and for people from 1\n"
+    "\n"
+    "A part is an identifier of the bytes A-Z a-z 0-9 - . with '+' behind it or not, or LicenseRef-NAME, or DocumentRef-NAME:LicenseRef-NAME;\n"
+    "WITH and an exception may follow it. AND and OR join parts, and parentheses hold an expression again, 32 open at most; AND binds before\n"
+    "OR. AND, OR and WITH are in capitals and no identifiers; identifiers are judged by their form. A part is met by its equal alone,\n"
+    "letter case aside: GPL-2.0+ not by GPL-2.0.\n"
+    "Lists, and expressions from standard input, have at most 4,194,304 bytes.\n"
+    "\n" ENDING;
+
 static const char *help_of(const char *command) {
     static const struct { const char *name, *text; } helps[] = {
         {"scan", scan_help}, {"list", list_help}, {"check", check_help}, {"book", book_help}, {"compile", compile_help},
+        {"expression", expression_help},
     };
     if (!command) return program_help;
     for (size_t i = 0; i < sizeof helps / sizeof *helps; i++)

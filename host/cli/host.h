@@ -14,6 +14,9 @@ enum { DONE = 0, REFUSED = 1, TROUBLE = 2 };
 
 enum { KIND_NAME = CHULTARVI_LICENCE_NAME, KIND_ALIAS = CHULTARVI_ALIAS, RECORD_HEAD = CHULTARVI_RECORD_HEAD };
 
+/* Bytes of a text or of a book. */
+typedef struct { const uint8_t *bytes; size_t len; } part;
+
 /* files.c */
 
 /* Reads all of a file, or of standard input for "-", but never more than one byte above `most`: that byte suffices for the library to
@@ -27,6 +30,17 @@ bool write_file(const char *path, const uint8_t *bytes, size_t len);
    written is not tried again. One thread at a time. */
 int flush_output(void);
 
+/* lines.c */
+
+/* A list of lines, with a zero byte behind it; null where it cannot be read, which is said. The caller frees it. It has at most LIST_MOST bytes. */
+enum { LIST_MOST = 4194304 };
+char *read_list(const char *file, size_t *len);
+/* Cuts the line at p off the next one, whose beginning it gives; null behind the last. A zero byte stands at `end` and, then, behind the line of `len`
+   bytes. A line may end with CR LF. */
+char *cut_line(char *p, char *end, size_t *len);
+/* An empty line and one that begins with `# ` say nothing. (`#` alone begins no comment: `#1` is a name.) */
+bool is_comment(const char *line);
+
 /* words.c */
 
 void say(const char *format, ...) __attribute__((format(printf, 1, 2)));
@@ -35,8 +49,9 @@ void say_of(const char *name, const char *format, ...) __attribute__((format(pri
 int unreadable(const char *path, const char *why);
 /* What stands behind a word that is counted: "s", or nothing behind one. */
 const char *plural(size_t count);
-/* A file name as a person may see it: controls and bytes that are no UTF-8 are written \n, \t, \xHH, a backslash twice. */
+/* A file name as a person may see it: controls and bytes that are no UTF-8 are written \n, \t, \xHH, a backslash twice. Or any bytes, so. */
 void put_plain(FILE *to, const char *name);
+void put_plain_bytes(FILE *to, part bytes);
 /* A JSON string with its quotes. A byte that is no UTF-8 is written as \udcHH, which says which byte it was. */
 void put_json(FILE *to, const char *bytes, size_t len);
 const char *kind_words(uint32_t kind);
@@ -94,6 +109,7 @@ void free_memory(memory *m);
 int run_book(int count, char **words);
 int run_check(int count, char **words);
 int run_compile(int count, char **words);
+int run_expression(int count, char **words);
 int run_list(int count, char **words);
 int run_scan(int count, char **words);
 
@@ -118,8 +134,10 @@ int wrong_words(const char *command, const char *why);
 
 /* options.c */
 
-/* An option of a command: its letter, its long name or null, and where the value goes; without a place for one it is a switch. */
-typedef struct { char letter; const char *name; const char **value; bool *given; } option_place;
+/* The values of an option that may stand several times. */
+typedef struct { const char **at; size_t count; } word_list;
+/* An option of a command: its letter, its long name or null, and where the value goes, or the values; without a place for one it is a switch. */
+typedef struct { char letter; const char *name; const char **value; bool *given; word_list *values; } option_place;
 /* Reads a command's options wherever they stand before `--`, and -h and --help of each command. The names that are left follow words[0], and *count
    counts them with it. False where all is said, and *status is the exit status; then there is nothing more to do. */
 bool read_options(int *count, char **words, const option_place *places, size_t many, int *status);

@@ -109,7 +109,7 @@ static void put_book(const lent_book *b, bool json) {
 
 int run_list(int count, char **words) {
     bool json = false;
-    const option_place places[] = {{0, "json", 0, &json}};
+    const option_place places[] = {{.name = "json", .given = &json}};
     int status;
     if (!read_options(&count, words, places, 1, &status)) return status;
     if (count != 2) return wrong_words("list", "wants one book");

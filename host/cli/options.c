@@ -1,4 +1,4 @@
-/* The options of the commands list, check, book and compile: each has few, and all read them alike. */
+/* The options of the commands list, check, book, compile and expression: each has few, and all read them alike. */
 #include "host.h"
 #include <getopt.h>
 #include <stdlib.h>
@@ -9,14 +9,16 @@ enum { NAME = 1, HELP = 256, PLACES, PLACES_MOST = 4 };
 /* What getopt_long wants. The '-' hands names over in their turn, so that no variable of the environment changes where options may stand. */
 typedef struct { char letters[4 + 2 * PLACES_MOST]; struct option names[PLACES_MOST + 2]; } tables;
 
+static bool takes_value(const option_place *place) { return place->value || place->values; }
+
 static tables tables_of(const option_place *places, size_t many) {
     tables t = {"-:h", {{"help", no_argument, 0, HELP}}};
     char *letter = t.letters + 3;
     struct option *name = t.names + 1;
     for (size_t i = 0; i < many; i++) {
         if (places[i].letter) *letter++ = places[i].letter;
-        if (places[i].letter && places[i].value) *letter++ = ':';
-        if (places[i].name) *name++ = (struct option){places[i].name, places[i].value ? required_argument : no_argument, 0, PLACES + (int)i};
+        if (places[i].letter && takes_value(places + i)) *letter++ = ':';
+        if (places[i].name) *name++ = (struct option){places[i].name, takes_value(places + i) ? required_argument : no_argument, 0, PLACES + (int)i};
     }
     return t;
 }
@@ -44,10 +46,17 @@ static int wrong_value(const char *command, const option_place *place, const cha
     return TROUBLE;
 }
 
+static int add_value(word_list *values) {
+    values->at = more_room(values->at, (values->count + 1) * sizeof *values->at);
+    values->at[values->count++] = optarg;
+    return DONE;
+}
+
 static int fill_place(const char *command, const option_place *place) {
     if (place->given) *place->given = true;
-    if (!place->value) return DONE;
+    if (!takes_value(place)) return DONE;
     if (*optarg == 0) return wrong_value(command, place, "wants a value that is not empty");
+    if (place->values) return add_value(place->values);
     if (*place->value) return wrong_value(command, place, "stands twice");
     *place->value = optarg;
     return DONE;

@@ -57,9 +57,6 @@ typedef struct {
     size_t unheld;
 } report;
 
-/* Bytes of a text or of a book. */
-typedef struct { const uint8_t *bytes; size_t len; } part;
-
 /* One worker's memory, taken once. `raw` is for the note as it was read, where --ascii changes it; `blanked` for the note without what was found
    (doubt.c); what is by lines, for further.c; from `table` on, for choice.c. */
 typedef struct {

@@ -34,9 +34,11 @@ static size_t shown_len(const uint8_t *p, size_t left) {
 
 static bool control(uint8_t byte) { return byte < 32 || byte == 127; }
 
-void put_plain(FILE *to, const char *name) {
-    const uint8_t *p = (const uint8_t *)name;
-    for (size_t left = strlen(name), n; left > 0; p += n, left -= n) {
+void put_plain(FILE *to, const char *name) { put_plain_bytes(to, (part){(const uint8_t *)name, strlen(name)}); }
+
+void put_plain_bytes(FILE *to, part bytes) {
+    const uint8_t *p = bytes.bytes;
+    for (size_t left = bytes.len, n; left > 0; p += n, left -= n) {
         n = shown_len(p, left);
         if (*p == '\\') fputs("\\\\", to);
         else if (*p == '\n') fputs("\\n", to);

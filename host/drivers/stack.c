@@ -43,6 +43,11 @@ static void top_down_both(call_t *c) {
     c->refusal = chultarvi_top_down_both(TEXT, BOTH, 0.1f, 1.0f, c->text.lines / 3 + 1, WHOLE, AREAS, RESULTS).refusal;
 }
 
+/* 14 is an answer too: `(` over and over */
+static uint32_t answered(uint32_t refusal) { return refusal == CHULTARVI_REFUSED_TOO_DEEP ? 0 : refusal; }
+static void write_expression(call_t *c) { c->refusal = answered(chultarvi_write_expression(TEXT, c->out, CHULTARVI_SPELLED_MOST(c->text.len)).refusal); }
+static void satisfy(call_t *c) { c->refusal = answered(chultarvi_satisfy(TEXT, (const uint8_t *)"q\na", 3).refusal); }
+
 /* ---- the painted stack */
 static void *entry(void *p) { call_t *c = p; c->run(c); return 0; }
 static size_t paint_gone(call_t *c) {
@@ -91,6 +96,17 @@ static text_t accented(text_t from) {
     }
     return t;
 }
+/* the unit over and over and `a`, in so many groups that the text has at most n bytes */
+static text_t chain(size_t n, const char *unit, size_t groups) {
+    static const char front[] = "x AND (y OR ";
+    size_t k = strlen(unit), f = sizeof front - 1;
+    text_t t = {room(n), 0, 1};
+    while (t.len < groups * f) t.bytes[t.len] = (uint8_t)front[t.len % f], t.len++;
+    for (size_t left = (n - t.len - groups - 1) / k; left > 0; left--, t.len += k) memcpy(t.bytes + t.len, unit, k);
+    t.bytes[t.len++] = 'a';
+    for (size_t i = 0; i < groups; i++) t.bytes[t.len++] = ')';
+    return t;
+}
 /* two licences, the first a piece of the text, so that a scan finds what it must look at again */
 static void make_book(text_t text) {
     size_t area_len = chultarvi_area_bytes(text.len), words_len = chultarvi_area_words(text.len), out_len = chultarvi_table_bytes(text.len);
@@ -136,11 +152,25 @@ static void levels(void) {
     }
 }
 
+static void expressions(void) {
+    static const struct { const char *title, *unit; size_t groups; } kinds[] = {
+        {"`a AND a AND ..`", "a AND ", 0}, {"`a OR a OR ..`", "a OR ", 0}, {"`a AND a AND ..` in 32 groups", "a AND ", 32}, {"`((((..`", "(", 0},
+    };
+    for (size_t i = 0; i < sizeof kinds / sizeof *kinds; i++)
+        for (size_t n = 1024; n <= CHULTARVI_TEXT_MOST; n *= 1024) {
+            text_t text = chain(n, kinds[i].unit, kinds[i].groups);
+            printf("%s, %zu bytes: write_expression %zu, satisfy %zu bytes of stack\n", kinds[i].title, text.len, used(text, write_expression),
+                   used(text, satisfy));
+            free(text.bytes);
+        }
+}
+
 int main(void) {
     text_t lines = words_of(CHULTARVI_TEXT_MOST, 8, 12), letters = words_of(CHULTARVI_TEXT_MOST - 1, 1, 0);
     exports("words in lines", lines);
     exports("words in lines, with accents", accented(lines));
     exports("524,288 random one-letter words", letters);
     levels();
+    expressions();
     return 0;
 }

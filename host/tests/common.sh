@@ -75,9 +75,9 @@ same() { cmp -s "$1" "$2" && good || bad "$1 and $2 differ"; }
 holds() { [ "$(cat "$1")" = "$2" ] && good || bad "$1 does not hold: $2"; }
 # json EXPRESSION WANT: what a JSON parser makes of the lines of standard output, each an element of `notes`
 if command -v python3 >/dev/null; then
-    # every line of `scan --json` and of `list --json` is held against its schema
+    # every line of `scan --json`, `list --json` and `expression --json` is held against its schema
     schema() {
-        case " $ran " in " scan "*" --json "*) form=scan ;; " list "*" --json "*) form=list ;; *) return ;; esac
+        case " $ran " in " scan "*" --json "*) form=scan ;; " list "*" --json "*) form=list ;; " expression "*" --json "*) form=expression ;; *) return ;; esac
         # a note may be named --json
         case $out in '{'*) ;; *) return ;; esac
         value=$(python3 "$root/host/tests/schema.py" "$root/host/$form.schema.json" <.out 2>&1) && good || bad "schema: $value"

@@ -125,7 +125,7 @@ else
 fi
 grep -q "Chultarvi $version" "$page" && good || bad 'the man page has another version'
 plain=$(sed 's/\\-/-/g' "$page")
-for command in scan list check book compile; do
+for command in scan list check book compile expression; do
     case $plain in *".B chultarvi $command"*) good ;; *) bad "the man page has no $command" ;; esac
     for option in $($RUN "$work/first/bin/chultarvi" help $command | grep -oE '(^| )--?[a-z][a-z-]*' | sort -u); do
         case $plain in *"$option"*) good ;; *) bad "the man page has no $option of $command" ;; esac
@@ -209,9 +209,9 @@ if command -v cmake >/dev/null; then
     try_example
     run 1 cmake "$@" -B "$work/arm" -DCMAKE_SYSTEM_PROCESSOR=aarch64
     err_has 'libchultarvi.a is for x86-64, and this build is for aarch64'
-    for other in 0.3 0.5 1.0; do
+    for other in 0.4 0.6 1.0; do
         mkdir "$work/other-$other"
-        sed "s/find_package(chultarvi 0.4/find_package(chultarvi $other/" examples/CMakeLists.txt >"$work/other-$other/CMakeLists.txt"
+        sed "s/find_package(chultarvi 0.5/find_package(chultarvi $other/" examples/CMakeLists.txt >"$work/other-$other/CMakeLists.txt"
         cp examples/embed.c "$work/other-$other"
         shift 2
         set -- -S "$work/other-$other" "$@"

@@ -1,14 +1,16 @@
 -- The grammar as the annex writes it and the grammar by precedence are one: `reads-annex` forgets the ranks, `annex-reads` finds them, by joining two
--- chains into one. With soundness and completeness the automaton accepts exactly the annex's texts: `read-annex`.
+-- chains into one. With soundness and completeness the automaton accepts exactly the annex's texts: `read-annex`. What the annex derives with more
+-- parentheses open than 32 is refused with 14, never with 13: `annex-deep`.
 -- Assumes nothing.
 use mathlib.Core.Path.{_≡_}
 use Prim.Native.Nat.{ℕ}
 use mathlib.Core.List.{List, [], _∷_, _++_, append-assoc}
-use mathlib.Core.Logic.{_↔_}
+use mathlib.Core.Logic.{_↔_, _⊎_, inl, inr}
 use Rattle.expression.specs.Reading.{andWord, orWord, Tree, accepted, verdict}
 use Rattle.expression.specs.Annex.{Ends, Begins, Annex, Rank, operand, ands, ors, Reads}
 use Rattle.expression_annex.proofs.TextLaws.{ends-append, ends-back, begins-more, begins-front, three-more}
-use Rattle.expression_annex.proofs.SoundLaws.{reads-told}
+use Rattle.expression_annex.proofs.WalkLaws.{Sinks}
+use Rattle.expression_annex.proofs.SoundLaws.{reads-told, reads-deep}
 use Rattle.expression_annex.proofs.CompleteLaws.{told-reads}
 
 -- ---- ranks forgotten
@@ -108,3 +110,10 @@ read-annex s = (there, back) where
 
   back : Annex 32 s → Accepted s
   back h = let j = annex-reads h in record { tree = j .tree; told = reads-told (j .reads) }
+
+-- ---- and with any number of parentheses open
+pub annex-deep : {d : ℕ} {s : List ℕ} → Annex d s → Accepted s ⊎ Sinks (verdict s)
+annex-deep {s = s} h = let j = annex-reads h in one (j .tree) (reads-deep (j .reads)) where
+  one : (t : Tree) → (verdict s ≡ accepted t) ⊎ Sinks (verdict s) → Accepted s ⊎ Sinks (verdict s)
+  one t (inl e) = inl record { tree = t; told = e }
+  one t (inr k) = inr k

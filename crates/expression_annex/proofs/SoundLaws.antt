@@ -1,24 +1,26 @@
 -- A text that the grammar reads as a tree is accepted with that tree: `reads-told`. By induction over the derivation, for each rank what its text's
--- walk does from where it may begin; and so a text is read as one tree only, `reads-one`.
+-- walk does from where it may begin; and so a text is read as one tree only, `reads-one`. One that it reads with any number of parentheses open is accepted,
+-- or refused with 14: `reads-deep`.
 -- Assumes nothing.
 use mathlib.Core.Path.{_≡_, refl, sym, ap, _∙_}
 use Prim.Native.Nat.{ℕ, suc, _+_, _≤_, _<_}
 use mathlib.Core.Bool.{Bool, true, false, false≢true}
 use mathlib.Core.List.{List, [], _∷_, _++_, append-assoc, append-nil}
+use mathlib.Core.Logic.{_⊎_, inl, inr}
 use mathlib.Core.Option.{Option, none, some}
 use native.Mathlib.Omega.{arith}
-use borrow.Author.Tests.{lt-ltb}
-use lib.Dec.{eqb}
+use borrow.Author.Tests.{ltb-false}
+use lib.Dec.{eqb, ltb}
 use lib.ListN.{length}
 use Rattle.rules.specs.Bytes.{within}
 use Rattle.expression.specs.Reading.{idByte, isWord, andWord, orWord, withWord, licenseRef, documentRef, Kind, kindOf, part, Tree, leaf, and, or}
-use Rattle.expression.specs.Reading.{andOf, orOf, Level, fresh, whole, anded, ored, Ctl, to, opening, closing, atEnded, atDone, atSimple, leave}
+use Rattle.expression.specs.Reading.{andOf, orOf, Level, fresh, whole, anded, ored, Ctl, Move, to, opening, closing, atEnded, atDone, atSimple, leave}
 use Rattle.expression.specs.Reading.{next, accepted, finish, ofKind, stop, verdict}
 use Rattle.expression.specs.Annex.{Idstring, ExceptionId, LicenseRef, Simple, plussed, blanks, excepted, Ends, Begins, Rank, operand, ands, ors}
 use Rattle.expression.specs.Annex.{Reads}
 use Rattle.expression.proofs.PartLaws.{lastOf, last-append, shuts, shuts-strange, part-last, exc-last, ends-last}
 use Rattle.expression_annex.proofs.TextLaws.{front-id, kind-license, kind-reference, kind-document}
-use Rattle.expression_annex.proofs.WalkLaws.{walk, walk-on, walk-run, blanks-walk, colon-walk, name-walk, exc-walk, ref-walk}
+use Rattle.expression_annex.proofs.WalkLaws.{walk, walk-on, walk-run, Sinks, walk-deep, Comes, comes-on, comes-low, blanks-walk, colon-walk, name-walk, exc-walk, ref-walk}
 
 -- ---- states behind a simple expression, with no blank yet
 data Simply : List ℕ → Bool → Ctl → Type 0 where
@@ -143,7 +145,7 @@ level x y = record { any = x; all = y }
 
 record Operand (d : ℕ) (s : List ℕ) (t : Tree) : Type 0 where
   lands : Lands s t
-  goes : (l : Level) (fs : List Level) → length fs + d ≤ 32 → walk s (to Ctl.want l fs) ≡ to (lands .state) l fs
+  goes : (l : Level) (fs : List Level) → Comes (length fs + d) (walk s (to Ctl.want l fs)) (to (lands .state) l fs)
 
 -- what AND joins begins where nothing stands since the last OR, and leaves all but its last operand there
 record Ands (d : ℕ) (s : List ℕ) (t : Tree) : Type 0 where
@@ -151,7 +153,7 @@ record Ands (d : ℕ) (s : List ℕ) (t : Tree) : Type 0 where
   last : Tree
   tree : andOf all last ≡ t
   lands : Lands s last
-  goes : (x : Option Tree) (fs : List Level) → length fs + d ≤ 32 → walk s (to Ctl.want (level x none) fs) ≡ to (lands .state) (level x all) fs
+  goes : (x : Option Tree) (fs : List Level) → Comes (length fs + d) (walk s (to Ctl.want (level x none) fs)) (to (lands .state) (level x all) fs)
 
 record Ors (d : ℕ) (s : List ℕ) (t : Tree) : Type 0 where
   any : Option Tree
@@ -159,7 +161,7 @@ record Ors (d : ℕ) (s : List ℕ) (t : Tree) : Type 0 where
   last : Tree
   tree : orOf any (andOf all last) ≡ t
   lands : Lands s last
-  goes : (fs : List Level) → length fs + d ≤ 32 → walk s (to Ctl.want fresh fs) ≡ to (lands .state) (level any all) fs
+  goes : (fs : List Level) → Comes (length fs + d) (walk s (to Ctl.want fresh fs)) (to (lands .state) (level any all) fs)
 
 abbrev Read : Rank → ℕ → List ℕ → Tree → Type 0
 Read operand d s t = Operand d s t
@@ -169,7 +171,7 @@ Read ors d s t = Ors d s t
 read-simple : (d : ℕ) (w : List ℕ) (plus : Bool) → Simple w plus → Simples w plus → Operand d (plussed w plus) (leaf (part w plus []))
 read-simple d w plus h s = record {
   lands = record { state = s .state; behind = simply (s .simply); free = λ z e. absurd (false≢true (sym (part-last shuts shuts-strange h z) ∙ e)) };
-  goes = λ l fs h. s .goes l fs;
+  goes = λ l fs. inl (s .goes l fs);
 }
 
 exc-goes : (a b : ℕ) (w x : List ℕ) (plus : Bool) (l : Level) (fs : List Level) → Simples w plus → Idstring x →
@@ -185,27 +187,35 @@ exc-goes a b w x plus l fs s i =
 read-exc : (d a b : ℕ) (w x : List ℕ) (plus : Bool) → Simples w plus → ExceptionId x → Operand d (excepted w plus a b x) (leaf (part w plus x))
 read-exc d a b w x plus s i = record {
   lands = record { state = Ctl.exc w plus x; behind = exc (i .no-word); free = λ z e. absurd (false≢true (sym (exc-last shuts shuts-strange w plus a b i z) ∙ e)) };
-  goes = λ l fs h. exc-goes a b w x plus l fs s (i .string);
+  goes = λ l fs. inl (exc-goes a b w x plus l fs s (i .string));
 }
 
-open-walk : (l : Level) (fs : List Level) → length fs < 32 → walk (40 ∷ []) (to Ctl.want l fs) ≡ to Ctl.want fresh (l ∷ fs)
+open-walk : (d : ℕ) (l : Level) (fs : List Level) → Comes (length fs + suc d) (walk (40 ∷ []) (to Ctl.want l fs)) (to Ctl.want fresh (l ∷ fs))
 unfolding next opening
-open-walk l fs h = rw (lt-ltb (length fs) 32 h)
+open-walk d l fs = go (ltb (length fs) 32) refl where
+  go : (b : Bool) → ltb (length fs) 32 ≡ b → Comes (length fs + suc d) (walk (40 ∷ []) (to Ctl.want l fs)) (to Ctl.want fresh (l ∷ fs))
+  go true e = inl (rw e)
+  go false e = let h = ltb-false (length fs) 32 e in inr (omega (arith, h), rw e)
+
+-- a group has one more
+one-more : (d : ℕ) (l : Level) (fs : List Level) {m o : Move} → Comes (length (l ∷ fs) + d) m o → Comes (length fs + suc d) m o
+one-more d l fs (inl e) = inl e
+one-more d l fs (inr f) = inr (omega (arith, f .0), f .1)
 
 read-group : (d : ℕ) (s : List ℕ) (t : Tree) → Ors d s t → Operand (suc d) (40 ∷ (s ++ 41 ∷ [])) t
 unfolding closing whole level
 read-group d s t o = record {
   lands = record { state = Ctl.done t; behind = loose (done t); free = λ z e. done t };
-  goes = λ l fs h. walk-on (40 ∷ []) (s ++ 41 ∷ []) (to Ctl.want l fs) _ (open-walk l fs (omega (arith, h)))
-      (walk-on s (41 ∷ []) (to Ctl.want fresh (l ∷ fs)) _ (o .goes (l ∷ fs) (omega (arith, h)))
-      (after-close (level (o .any) (o .all)) (l ∷ fs) (o .lands .behind) ∙ rw (o .tree)));
+  goes = λ l fs. comes-on (length fs + suc d) (40 ∷ []) (s ++ 41 ∷ []) (to Ctl.want l fs) _ (open-walk d l fs)
+      (comes-on (length fs + suc d) s (41 ∷ []) (to Ctl.want fresh (l ∷ fs)) _ (one-more d l fs (o .goes (l ∷ fs)))
+      (inl (after-close (level (o .any) (o .all)) (l ∷ fs) (o .lands .behind) ∙ rw (o .tree))));
 }
 
 read-before : (d : ℕ) (s : List ℕ) (t : Tree) → Operand d s t → Operand d (32 ∷ s) t
 unfolding next
 read-before d s t o = record {
   lands = record { state = o .lands .state; behind = o .lands .behind; free = λ z e. o .lands .free 32 e };
-  goes = λ l fs h. o .goes l fs h;
+  goes = λ l fs. o .goes l fs;
 }
 
 read-behind : (d : ℕ) (s : List ℕ) (t : Tree) → Operand d s t → Operand d (s ++ 32 ∷ []) t
@@ -213,16 +223,16 @@ read-behind d s t o =
     let b = after-blank (o .lands .behind) in
     record {
       lands = record { state = b .state; behind = loose (b .free); free = λ z e. b .free };
-      goes = λ l fs h. walk-on s (32 ∷ []) (to Ctl.want l fs) _ (o .goes l fs h) (b .goes l fs);
+      goes = λ l fs. comes-on (length fs + d) s (32 ∷ []) (to Ctl.want l fs) _ (o .goes l fs) (inl (b .goes l fs));
     }
 
 read-and : (d : ℕ) (s : List ℕ) (t : Tree) → Operand d s t → Ands d s t
 unfolding andOf level
-read-and d s t o = record { all = none; last = t; tree = refl; lands = o .lands; goes = λ x fs h. o .goes (level x none) fs h }
+read-and d s t o = record { all = none; last = t; tree = refl; lands = o .lands; goes = λ x fs. o .goes (level x none) fs }
 
 read-or : (d : ℕ) (s : List ℕ) (t : Tree) → Ands d s t → Ors d s t
 unfolding orOf level fresh
-read-or d s t o = record { any = none; all = o .all; last = o .last; tree = o .tree; lands = o .lands; goes = λ fs h. o .goes none fs h }
+read-or d s t o = record { any = none; all = o .all; last = o .last; tree = o .tree; lands = o .lands; goes = λ fs. o .goes none fs }
 
 -- a landing behind more text
 lands-on : (k s : List ℕ) (t : Tree) → Lands s t → Lands (k ++ s) t
@@ -237,9 +247,9 @@ read-ands d s u a t i e o b =
       last = t;
       tree = refl;
       lands = from;
-      goes = λ x fs h. walk-on s (andWord ++ u) (to Ctl.want (level x none) fs) _ (i .goes x fs h)
-          (walk-on andWord u (to (i .lands .state) (level x (i .all)) fs) _ (and-walk (level x (i .all)) fs (i .lands .free 0 (ends-last e 0)))
-          (begin-walk (anded (level x (i .all)) (i .last)) fs b ∙ rw (i .tree) (o .goes (level x (some a)) fs h)));
+      goes = λ x fs. comes-on (length fs + d) s (andWord ++ u) (to Ctl.want (level x none) fs) _ (i .goes x fs)
+          (comes-on (length fs + d) andWord u (to (i .lands .state) (level x (i .all)) fs) _ (inl (and-walk (level x (i .all)) fs (i .lands .free 0 (ends-last e 0))))
+          (rw (begin-walk (anded (level x (i .all)) (i .last)) fs b, i .tree) (o .goes (level x (some a)) fs)));
     }
 
 read-ors : (d : ℕ) (s u : List ℕ) (a t : Tree) → Ors d s a → Ends s → Ands d u t → Begins u → Ors d (s ++ (orWord ++ u)) (or a t)
@@ -252,10 +262,10 @@ read-ors d s u a t i e o b =
       last = o .last;
       tree = rw (o .tree);
       lands = from;
-      goes = λ fs h. walk-on s (orWord ++ u) (to Ctl.want fresh fs) _ (i .goes fs h)
-          (walk-on orWord u (to (i .lands .state) (level (i .any) (i .all)) fs) _
-          (or-walk (level (i .any) (i .all)) fs (i .lands .free 0 (ends-last e 0)))
-          (begin-walk (ored (level (i .any) (i .all)) (i .last)) fs b ∙ rw (i .tree) (o .goes (some a) fs h)));
+      goes = λ fs. comes-on (length fs + d) s (orWord ++ u) (to Ctl.want fresh fs) _ (i .goes fs)
+          (comes-on (length fs + d) orWord u (to (i .lands .state) (level (i .any) (i .all)) fs) _
+          (inl (or-walk (level (i .any) (i .all)) fs (i .lands .free 0 (ends-last e 0))))
+          (rw (begin-walk (ored (level (i .any) (i .all)) (i .last)) fs b, i .tree) (o .goes (some a) fs)));
     }
 
 reads : {r : Rank} {d : ℕ} {s : List ℕ} {t : Tree} → Reads r d s t → Read r d s t
@@ -269,15 +279,24 @@ reads (Reads.more-and {d = d} {s = s} {u = u} {a = a} {t = t} h e k b) = read-an
 reads (Reads.one-or {d = d} {s = s} {t = t} h) = read-or d s t (reads h)
 reads (Reads.more-or {d = d} {s = s} {u = u} {a = a} {t = t} h e k b) = read-ors d s u a t (reads h) e (reads k) b
 
-told : (s : List ℕ) (t : Tree) → Ors 32 s t → verdict s ≡ accepted t
+told : (d : ℕ) (s : List ℕ) (t : Tree) (o : Ors d s t) → walk s (to Ctl.want fresh []) ≡ to (o .lands .state) (level (o .any) (o .all)) [] → verdict s ≡ accepted t
 unfolding verdict finish whole level
-told s t o =
-    walk-run s Ctl.want (o .lands .state) fresh (level (o .any) (o .all)) [] [] 0 (o .goes [] (omega arith))
+told d s t o e =
+    walk-run s Ctl.want (o .lands .state) fresh (level (o .any) (o .all)) [] [] 0 e
     ∙ after-stop (level (o .any) (o .all)) [] (0 + length s) (o .lands .behind)
     ∙ rw (o .tree)
 
 pub reads-told : {s : List ℕ} {t : Tree} → Reads ors 32 s t → verdict s ≡ accepted t
-reads-told {s} {t} h = told s t (reads h)
+reads-told {s} {t} h = let o = reads h in told 32 s t o (comes-low (o .goes []) (omega arith))
+
+deep-told : (d : ℕ) (s : List ℕ) (t : Tree) (o : Ors d s t) → Comes (0 + d) (walk s (to Ctl.want fresh [])) (to (o .lands .state) (level (o .any) (o .all)) [])
+    → (verdict s ≡ accepted t) ⊎ Sinks (verdict s)
+unfolding verdict
+deep-told d s t o (inl e) = inl (told d s t o e)
+deep-told d s t o (inr f) = inr (walk-deep s Ctl.want fresh [] 0 (f .1))
+
+pub reads-deep : {d : ℕ} {s : List ℕ} {t : Tree} → Reads ors d s t → (verdict s ≡ accepted t) ⊎ Sinks (verdict s)
+reads-deep {d} {s} {t} h = let o = reads h in deep-told d s t o (o .goes [])
 
 same-tree : {t u : Tree} → accepted t ≡ accepted u → t ≡ u
 same-tree e = cc

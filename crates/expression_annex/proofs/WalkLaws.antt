@@ -1,10 +1,12 @@
 -- Walks: where the bytes of a text lead from a state, without places and without a verdict. A walk over two texts is one after the other, and the
--- run of a text whose walk leads on stops where that leads. Runs of identifier bytes, of blanks and of letters that are due.
+-- run of a text whose walk leads on stops where that leads; one that is too deep is refused with 14. Runs of identifier bytes, of blanks and of letters that
+-- are due.
 -- Assumes nothing.
 use mathlib.Core.Path.{_≡_, refl, sym, ap, _∙_}
-use Prim.Native.Nat.{ℕ, zero, suc, _+_}
+use Prim.Native.Nat.{ℕ, zero, suc, _+_, _≤_, _<_}
 use mathlib.Core.Bool.{Bool, true, false, false≢true}
 use mathlib.Core.List.{List, [], _∷_, _++_, append-assoc, append-nil}
+use mathlib.Core.Logic.{_⊎_, inl, inr}
 use native.Mathlib.Omega.{arith}
 use borrow.Author.Tests.{eq-eqb}
 use lib.ListN.{length}
@@ -61,6 +63,39 @@ walk-run (b ∷ s) c c' l l' fs fs' p e = go (next c l fs b) (λ c0 l0 fs0. walk
   go dead ih h = absurd (false≢true (ap leads (sym (stuck-dead s) ∙ h)))
   go deep ih h = absurd (false≢true (ap leads (sym (stuck-deep s) ∙ h)))
   go (to c0 l0 fs0) ih h = let q : p + 1 + length s ≡ p + suc (length s) = omega arith in ih c0 l0 fs0 h ∙ rw q
+
+-- a walk that is too deep
+pub record Sinks (v : Verdict) : Type 0 where
+  pub place : ℕ
+  pub told : v ≡ refused 14 place
+
+isDeep : Move → Bool
+isDeep dead = false
+isDeep deep = true
+isDeep (to c l fs) = false
+
+pub walk-deep : (s : List ℕ) (c : Ctl) (l : Level) (fs : List Level) (p : ℕ) → walk s (to c l fs) ≡ deep → Sinks (run s c l fs p)
+unfolding run follow isDeep
+walk-deep [] c l fs p e = absurd (false≢true (ap isDeep e))
+walk-deep (b ∷ s) c l fs p e = go (next c l fs b) (λ c0 l0 fs0. walk-deep s c0 l0 fs0 (p + 1)) e where
+  go : (m : Move) → ((c0 : Ctl) (l0 : Level) (fs0 : List Level) → walk s (to c0 l0 fs0) ≡ deep → Sinks (run s c0 l0 fs0 (p + 1)))
+      → walk s m ≡ deep → Sinks (follow p (λ c0 l0 fs0. run s c0 l0 fs0 (p + 1)) m)
+  go dead ih h = absurd (false≢true (ap isDeep (sym (stuck-dead s) ∙ h)))
+  go deep ih h = record { place = p; told = refl }
+  go (to c0 l0 fs0) ih h = ih c0 l0 fs0 h
+
+-- ---- a walk comes to a state, or is too deep, which needs more than 32 of the n parentheses that may be open
+abbrev pub Comes : ℕ → Move → Move → Type 0
+Comes n m o = (m ≡ o) ⊎ ((32 < n) × (m ≡ deep))
+
+pub comes-on : (n : ℕ) (s u : List ℕ) (m k : Move) {o : Move} → Comes n (walk s m) k → Comes n (walk u k) o → Comes n (walk (s ++ u) m) o
+comes-on n s u m k (inl e) (inl f) = inl (walk-on s u m k e f)
+comes-on n s u m k (inl e) (inr f) = inr (f .0, walk-on s u m k e (f .1))
+comes-on n s u m k (inr e) f = inr (e .0, walk-on s u m deep (e .1) (stuck-deep u))
+
+pub comes-low : {n : ℕ} {m o : Move} → Comes n m o → n ≤ 32 → m ≡ o
+comes-low (inl e) h = e
+comes-low (inr f) h = absurd (omega (arith, f .0, h))
 
 -- ---- runs of bytes
 pub ids-walk : (c : List ℕ → Ctl) (l : Level) (fs : List Level) →

@@ -1,5 +1,5 @@
 -- A list of accepted parts, line by line: the part that `lineAt` reads meets what the line's verdict meets (`line-met`), and a list's parts are
--- those of its first line and of what stands behind it (`met-lines`).
+-- those of its first line and of what stands behind it (`met-lines`). A line satisfies itself exactly if it is a part as it would be written (`line-itself`).
 -- Assumes nothing.
 use mathlib.Core.Path.{_≡_, refl, sym, ap, ap₂, _∙_}
 use Prim.Native.Nat.{ℕ, suc, _+_}
@@ -12,13 +12,14 @@ use lib.Dec.{eqb, ltb, leb·suc-suc}
 use lib.ListN.{length, take, drop, take-append-drop}
 use lib.Seq.{take-at}
 use Rattle.rules.specs.Bytes.{every, within, newline, lead, lineLen, same, split, onFirst}
-use Rattle.expression.specs.Reading.{idByte, licenseRef, documentRef, Part, part, leaf, and, or, Verdict, accepted, refused, verdict}
-use Rattle.expression.specs.Writing.{spellExc, spellPart, meets, met, metIn}
+use Rattle.expression.specs.Reading.{idByte, licenseRef, documentRef, Part, part, Tree, leaf, and, or, Verdict, accepted, refused, verdict}
+use Rattle.expression.specs.Writing.{spellExc, spellPart, spell, meets, met, metIn, satisfied}
 use Rattle.expression.specs.Annex.{LicenseRef, Simple}
 use Rattle.expression.proofs.WordLaws.{id-not, same-is, same-self}
 use Rattle.expression.proofs.EveryLaws.{every-then, every-both}
 use Rattle.expression_annex.proofs.TextLaws.{front-id}
 use Rattle.expression_place.specs.Line.{lineAt, metBy}
+use Rattle.expression_place.proofs.CaseLaws.{case-self}
 use Rattle.expression_place.proofs.FormLaws.{Form, leaf-form, part-reads}
 use Rattle.expression_place.proofs.FrontLaws.{line-ends, line-is}
 use Rattle.expression_place.proofs.LineLaws.{Laid, line-laid, form-line, none-some}
@@ -123,3 +124,25 @@ met-lines p list =
       on : (t : Bool) → metIn p (cond t (split 10 (drop (lineLen list + 1) list)) []) ≡ cond t (metIn p (split 10 (drop (lineLen list + 1) list))) false
       on true = refl
       on false = refl
+
+-- ---- a list of one line
+unfoldable pub isPart : Tree → Bool
+isPart (leaf p) = true
+isPart (and a b) = false
+isPart (or a b) = false
+
+-- a line of several parts accepts none of them
+none-of : (s : List ℕ) (t : Tree) → split 10 s ≡ s ∷ [] → ((p : Part) → met p s (verdict s) ≡ false) → satisfied s t ≡ false
+unfolding satisfied metIn
+none-of s (leaf p) alone never = rw (alone, never p)
+none-of s (and a b) alone never = rw (none-of s a alone never)
+none-of s (or a b) alone never = rw (none-of s a alone never, none-of s b alone never)
+
+pub line-itself : (s : List ℕ) (t : Tree) → split 10 s ≡ s ∷ [] → verdict s ≡ accepted t → satisfied s t ≡ (isPart t && same (spell t) s)
+unfolding isPart satisfied metIn met spell
+line-itself s (leaf p) alone e = whole (same (spellPart p) s) refl where
+  whole : (b : Bool) → same (spellPart p) s ≡ b → satisfied s (leaf p) ≡ b
+  whole true f = rw (alone, e, f, case-self p)
+  whole false f = rw (alone, e, f)
+line-itself s (and a b) alone e = none-of s (and a b) alone (λ p. ap (met p s) e)
+line-itself s (or a b) alone e = none-of s (or a b) alone (λ p. ap (met p s) e)

@@ -1,5 +1,6 @@
 -- The place of a refusal is that of the first byte that cannot go on: what stands before it can be completed to an expression, and with it
--- nothing can (`first-bad`). Its number is 13 or 14, and 14 only at a parenthesis that finds 32 open.
+-- nothing can (`first-bad`). Its number is 13 or 14; 13 only where nothing can with any number of parentheses open (`no-expression`, `no-way-on`), 14 only at
+-- a parenthesis that finds 32 open (`too-deep`).
 -- Assumes nothing.
 use mathlib.Core.Path.{_≡_, refl, sym, ap, _∙_}
 use Prim.Native.Nat.{ℕ, suc, _+_, _≤_, _<_}
@@ -13,7 +14,10 @@ use Rattle.rules.specs.Bytes.{order, same, starts, within}
 use Rattle.expression.specs.Reading.{idByte, andWord, orWord, withWord, licenseRef, documentRef, isWord, Kind, bare, license, reference, document}
 use Rattle.expression.specs.Reading.{kindOf, part, Tree, leaf, Level, fresh, whole, Ctl, Move, dead, deep, to, Verdict, accepted, refused, closing}
 use Rattle.expression.specs.Reading.{atEnded, atDone, atSimple, leave, next, finish, ofKind, stop, follow, run, verdict}
+use Rattle.expression.specs.Annex.{Annex}
 use Rattle.expression.proofs.WordLaws.{word-is, bare-is}
+use Rattle.expression_annex.proofs.WalkLaws.{Sinks}
+use Rattle.expression_annex.proofs.AnnexLaws.{Accepted, annex-deep}
 use Rattle.expression_place.proofs.DepthLaws.{State, begin, one, Good, dies, sinks, goes, step-good}
 
 unfoldable pub isAccepted : Verdict → Bool
@@ -263,6 +267,22 @@ run-number (b ∷ bs) c l fs p k r e = step-number b bs p k r (λ c' l' fs'. run
 pub refused-number : (s : List ℕ) (k r : ℕ) → verdict s ≡ refused k r → (k ≡ 13) ⊎ (k ≡ 14)
 unfolding verdict
 refused-number s k r e = run-number s Ctl.want fresh [] 0 k r e
+
+-- ---- 13 does not come of the depth: the annex derives no such text, with however many parentheses open
+thirteen : (v : Verdict) (r : ℕ) → v ≡ refused 13 r → (t : Tree) → v ≡ accepted t → ⊥
+unfolding isAccepted
+thirteen v r e t f = false≢true (ap isAccepted (sym e ∙ f))
+
+pub no-expression : (s : List ℕ) (r : ℕ) → verdict s ≡ refused 13 r → (d : ℕ) → Annex d s → ⊥
+no-expression s r e d h = neither (annex-deep h) where
+  neither : Accepted s ⊎ Sinks (verdict s) → ⊥
+  neither (inl a) = thirteen (verdict s) r e (a .tree) (a .told)
+  neither (inr k) = let f = k .told in let z : _≡_ {A = ℕ} 13 14 = cc in absurd (omega arith)
+
+pub no-way-on : (s : List ℕ) (r : ℕ) → verdict s ≡ refused 13 r → r < length s → (d : ℕ) (q : List ℕ) → Annex d (take (suc r) s ++ q) → ⊥
+no-way-on s r e h d q =
+    let f = first-bad s 13 r e in
+    no-expression (take (suc r) s ++ q) r (ap (λ n. verdict (take (suc n) s ++ q)) (f .place) ∙ f .stuck (omega (arith, f .place)) q) d
 
 -- how often b stands in s
 unfoldable pub count : ℕ → List ℕ → ℕ
