@@ -233,6 +233,17 @@ static int answer_word(const asked *a, const char *word) {
     return answer(a, (part){(const uint8_t *)word, strlen(word)}, 0);
 }
 
+static int answer_words(asked *a, word_list lists, word_list parts, int count, char **words) {
+    if (count < 2) return wrong_words("expression", "wants an expression, or several");
+    a->judged = lists.count + parts.count > 0;
+    int status = accept_parts(&a->accepted, lists, parts) ? DONE : TROUBLE;
+    for (int i = 1; i < count && status != TROUBLE; i++) {
+        int one = answer_word(a, words[i]);
+        if (one > status) status = one;
+    }
+    return status;
+}
+
 int run_expression(int count, char **words) {
     asked a = {0};
     word_list lists = {0}, parts = {0};
@@ -240,14 +251,7 @@ int run_expression(int count, char **words) {
     int status;
     /* a list may have two million wrong lines: each message is one write */
     setvbuf(stderr, 0, _IOLBF, BUFSIZ);
-    if (!read_options(&count, words, places, 3, &status)) return status;
-    if (count < 2) return wrong_words("expression", "wants an expression, or several");
-    a.judged = lists.count + parts.count > 0;
-    status = accept_parts(&a.accepted, lists, parts) ? DONE : TROUBLE;
-    for (int i = 1; i < count && status != TROUBLE; i++) {
-        int one = answer_word(&a, words[i]);
-        if (one > status) status = one;
-    }
+    if (read_options(&count, words, places, 3, &status)) status = answer_words(&a, lists, parts, count, words);
     free(lists.at);
     free(parts.at);
     free(a.accepted.bytes);
