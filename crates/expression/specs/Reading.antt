@@ -104,9 +104,12 @@ pub data Move : Type 0 where
   deep : Move
   to : Ctl → Level → List Level → Move
 
--- at most 32 parentheses are open
+-- parentheses that may be open at once
+abbrev pub depthMost : ℕ
+depthMost = 32
+
 unfoldable pub opening : Level → List Level → Move
-opening l fs = cond (ltb (length fs) 32) (to want fresh (l ∷ fs)) deep
+opening l fs = cond (ltb (length fs) depthMost) (to want fresh (l ∷ fs)) deep
 
 unfoldable pub closing : Tree → List Level → Move
 closing t [] = dead

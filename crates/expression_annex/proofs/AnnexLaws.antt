@@ -6,7 +6,7 @@ use mathlib.Core.Path.{_≡_}
 use Prim.Native.Nat.{ℕ}
 use mathlib.Core.List.{List, [], _∷_, _++_, append-assoc}
 use mathlib.Core.Logic.{_↔_, _⊎_, inl, inr}
-use Rattle.expression.specs.Reading.{andWord, orWord, Tree, accepted, verdict}
+use Rattle.expression.specs.Reading.{andWord, orWord, depthMost, Tree, accepted, verdict}
 use Rattle.expression.specs.Annex.{Ends, Begins, Annex, Rank, operand, ands, ors, Reads}
 use Rattle.expression_annex.proofs.TextLaws.{ends-append, ends-back, begins-more, begins-front, three-more}
 use Rattle.expression_annex.proofs.WalkLaws.{Sinks}
@@ -103,12 +103,12 @@ pub record Accepted (s : List ℕ) : Type 0 where
   pub tree : Tree
   pub told : verdict s ≡ accepted tree
 
-pub read-annex : (s : List ℕ) → Accepted s ↔ Annex 32 s
+pub read-annex : (s : List ℕ) → Accepted s ↔ Annex depthMost s
 read-annex s = (there, back) where
-  there : Accepted s → Annex 32 s
+  there : Accepted s → Annex depthMost s
   there a = reads-annex (told-reads s (a .tree) (a .told))
 
-  back : Annex 32 s → Accepted s
+  back : Annex depthMost s → Accepted s
   back h = let j = annex-reads h in record { tree = j .tree; told = reads-told (j .reads) }
 
 -- ---- and with any number of parentheses open

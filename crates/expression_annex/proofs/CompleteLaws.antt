@@ -12,7 +12,7 @@ use borrow.Author.Tests.{eqb-true, ltb-true}
 use lib.Dec.{eqb, ltb}
 use lib.ListN.{length}
 use Rattle.expression.specs.Reading.{idByte, isWord, andWord, orWord, withWord, licenseRef, documentRef, Kind, bare, license, reference, document}
-use Rattle.expression.specs.Reading.{kindOf, part, Tree, leaf, andOf, orOf, Level, fresh, whole, anded, ored, Ctl, Move, opening, closing, atEnded}
+use Rattle.expression.specs.Reading.{kindOf, part, Tree, leaf, andOf, orOf, Level, fresh, whole, anded, ored, Ctl, depthMost, Move, opening, closing, atEnded}
 use Rattle.expression.specs.Reading.{atDone, atSimple, leave, next, Verdict, accepted, refused, finish, ofKind, stop, follow, run, verdict}
 use Rattle.expression.specs.Annex.{Idstring, LicenseRef, Simple, plussed, blanks, excepted, Ends, Begins, operand, ands, ors, Reads}
 use Rattle.expression_annex.proofs.TextLaws.{id-one, id-more, ends-append, ends-back, begins-more, license-back, reference-simple}
@@ -61,11 +61,11 @@ held-joins {u = u} (and-due (later {x = x} {y = y} c f s g) e) r b =
 
 -- ---- the levels outside, in the text before the present one; d parentheses may still be opened
 data Outer : ℕ → List ℕ → List Level → Type 0 where
-  outside : Outer 32 [] []
+  outside : Outer depthMost [] []
   inside : {d : ℕ} {o h : List ℕ} {l : Level} {fs : List Level} (n : ℕ) → Outer (suc d) o fs → Held (suc d) h (l .any) (l .all) →
       Outer d (o ++ (h ++ (blanks n ++ 40 ∷ []))) (l ∷ fs)
 
-room : {d : ℕ} {o : List ℕ} {fs : List Level} → Outer d o fs → d + length fs ≡ 32
+room : {d : ℕ} {o : List ℕ} {fs : List Level} → Outer d o fs → d + length fs ≡ depthMost
 room outside = refl
 room (inside n o h) = omega (arith, room o)
 
@@ -150,9 +150,9 @@ begins-open (suc n) u = Begins.blank (blanks n ++ 40 ∷ u)
 opens : (d n : ℕ) (o h s : List ℕ) (l : Level) (fs : List Level) → Outer d o fs → Held d h (l .any) (l .all) →
     s ++ 40 ∷ [] ≡ text o h n (40 ∷ []) → Holds s 40 (opening l fs)
 unfolding opening fresh blanks
-opens zero n o h s l fs k g e = branch (ltb (length fs) 32) (λ q. absurd (omega (arith, room k, ltb-true (length fs) 32 q))) (λ q. too-deep)
+opens zero n o h s l fs k g e = branch (ltb (length fs) depthMost) (λ q. absurd (omega (arith, room k, ltb-true (length fs) depthMost q))) (λ q. too-deep)
 opens (suc d) n o h s l fs k g e =
-    branch (ltb (length fs) 32)
+    branch (ltb (length fs) depthMost)
     (λ q. leads-as (e ∙ sym (append-nil (text o h n (40 ∷ [])))) (in-operand 0 (inside n k g) nothing want tt))
     (λ q. too-deep)
 
@@ -322,7 +322,7 @@ move b (in-word h xs k g e) = at-word h xs b k g e
 
 -- ---- the end of a text
 data Given (s : List ℕ) : Verdict → Type 0 where
-  given : {t : Tree} → Reads ors 32 s t → Given s (accepted t)
+  given : {t : Tree} → Reads ors depthMost s t → Given s (accepted t)
   not-given : {k p : ℕ} → Given s (refused k p)
 
 given-if : {s : List ℕ} (t : Bool) {v w : Verdict} → (t ≡ true → Given s v) → (t ≡ false → Given s w) → Given s (cond t v w)
@@ -379,13 +379,13 @@ runs (b ∷ bs) {s = s} {c = c} {l = l} {fs = fs} i h = go (λ c' l' fs' k. runs
   go ih (leads {c = c'} {l = l'} {fs = fs'} k) = rw (← append-assoc s (b ∷ []) bs) (ih c' l' fs' k)
 
 abbrev Said : List ℕ → Verdict → Type 0
-Said s (accepted t) = Reads ors 32 s t
+Said s (accepted t) = Reads ors depthMost s t
 Said s (refused k p) = Unit
 
 given-said : {s : List ℕ} {v : Verdict} → Given s v → Said s v
 given-said (given r) = r
 given-said not-given = tt
 
-pub told-reads : (s : List ℕ) (t : Tree) → verdict s ≡ accepted t → Reads ors 32 s t
+pub told-reads : (s : List ℕ) (t : Tree) → verdict s ≡ accepted t → Reads ors depthMost s t
 unfolding verdict fresh blanks
 told-reads s t e = subst (Said s) e (given-said (runs s 0 (in-operand 0 outside nothing want tt)))

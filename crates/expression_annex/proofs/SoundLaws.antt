@@ -14,7 +14,7 @@ use lib.Dec.{eqb, ltb}
 use lib.ListN.{length}
 use Rattle.rules.specs.Bytes.{within}
 use Rattle.expression.specs.Reading.{idByte, isWord, andWord, orWord, withWord, licenseRef, documentRef, Kind, kindOf, part, Tree, leaf, and, or}
-use Rattle.expression.specs.Reading.{andOf, orOf, Level, fresh, whole, anded, ored, Ctl, Move, to, opening, closing, atEnded, atDone, atSimple, leave}
+use Rattle.expression.specs.Reading.{andOf, orOf, Level, fresh, whole, anded, ored, Ctl, depthMost, Move, to, opening, closing, atEnded, atDone, atSimple, leave}
 use Rattle.expression.specs.Reading.{next, accepted, finish, ofKind, stop, verdict}
 use Rattle.expression.specs.Annex.{Idstring, ExceptionId, LicenseRef, Simple, plussed, blanks, excepted, Ends, Begins, Rank, operand, ands, ors}
 use Rattle.expression.specs.Annex.{Reads}
@@ -192,10 +192,10 @@ read-exc d a b w x plus s i = record {
 
 open-walk : (d : ℕ) (l : Level) (fs : List Level) → Comes (length fs + suc d) (walk (40 ∷ []) (to Ctl.want l fs)) (to Ctl.want fresh (l ∷ fs))
 unfolding next opening
-open-walk d l fs = go (ltb (length fs) 32) refl where
-  go : (b : Bool) → ltb (length fs) 32 ≡ b → Comes (length fs + suc d) (walk (40 ∷ []) (to Ctl.want l fs)) (to Ctl.want fresh (l ∷ fs))
+open-walk d l fs = go (ltb (length fs) depthMost) refl where
+  go : (b : Bool) → ltb (length fs) depthMost ≡ b → Comes (length fs + suc d) (walk (40 ∷ []) (to Ctl.want l fs)) (to Ctl.want fresh (l ∷ fs))
   go true e = inl (rw e)
-  go false e = let h = ltb-false (length fs) 32 e in inr (omega (arith, h), rw e)
+  go false e = let h = ltb-false (length fs) depthMost e in inr (omega (arith, h), rw e)
 
 -- a group has one more
 one-more : (d : ℕ) (l : Level) (fs : List Level) {m o : Move} → Comes (length (l ∷ fs) + d) m o → Comes (length fs + suc d) m o
@@ -286,8 +286,8 @@ told d s t o e =
     ∙ after-stop (level (o .any) (o .all)) [] (0 + length s) (o .lands .behind)
     ∙ rw (o .tree)
 
-pub reads-told : {s : List ℕ} {t : Tree} → Reads ors 32 s t → verdict s ≡ accepted t
-reads-told {s} {t} h = let o = reads h in told 32 s t o (comes-low (o .goes []) (omega arith))
+pub reads-told : {s : List ℕ} {t : Tree} → Reads ors depthMost s t → verdict s ≡ accepted t
+reads-told {s} {t} h = let o = reads h in told depthMost s t o (comes-low (o .goes []) (omega arith))
 
 deep-told : (d : ℕ) (s : List ℕ) (t : Tree) (o : Ors d s t) → Comes (0 + d) (walk s (to Ctl.want fresh [])) (to (o .lands .state) (level (o .any) (o .all)) [])
     → (verdict s ≡ accepted t) ⊎ Sinks (verdict s)
@@ -301,5 +301,5 @@ reads-deep {d} {s} {t} h = let o = reads h in deep-told d s t o (o .goes [])
 same-tree : {t u : Tree} → accepted t ≡ accepted u → t ≡ u
 same-tree e = cc
 
-pub reads-one : {s : List ℕ} {t u : Tree} → Reads ors 32 s t → Reads ors 32 s u → t ≡ u
+pub reads-one : {s : List ℕ} {t u : Tree} → Reads ors depthMost s t → Reads ors depthMost s u → t ≡ u
 reads-one h k = same-tree (sym (reads-told h) ∙ reads-told k)

@@ -11,7 +11,7 @@ use native.Mathlib.Omega.{arith}
 use borrow.Author.Tests.{eq-eqb}
 use lib.ListN.{length}
 use Rattle.rules.specs.Bytes.{every, within}
-use Rattle.expression.specs.Reading.{idByte, Level, Ctl, Move, dead, deep, to, Verdict, refused, next, stop, follow, run}
+use Rattle.expression.specs.Reading.{idByte, Level, Ctl, depthMost, Move, dead, deep, to, Verdict, refused, next, stop, follow, run}
 use Rattle.expression.specs.Annex.{Idstring, blanks}
 use Rattle.expression.proofs.WordLaws.{id-not}
 use Rattle.expression.proofs.EveryLaws.{every-cons}
@@ -84,16 +84,16 @@ walk-deep (b ∷ s) c l fs p e = go (next c l fs b) (λ c0 l0 fs0. walk-deep s c
   go deep ih h = record { place = p; told = refl }
   go (to c0 l0 fs0) ih h = ih c0 l0 fs0 h
 
--- ---- a walk comes to a state, or is too deep, which needs more than 32 of the n parentheses that may be open
+-- ---- a walk comes to a state, or is too deep, which needs n, the parentheses that may be open, above `depthMost`
 abbrev pub Comes : ℕ → Move → Move → Type 0
-Comes n m o = (m ≡ o) ⊎ ((32 < n) × (m ≡ deep))
+Comes n m o = (m ≡ o) ⊎ ((depthMost < n) × (m ≡ deep))
 
 pub comes-on : (n : ℕ) (s u : List ℕ) (m k : Move) {o : Move} → Comes n (walk s m) k → Comes n (walk u k) o → Comes n (walk (s ++ u) m) o
 comes-on n s u m k (inl e) (inl f) = inl (walk-on s u m k e f)
 comes-on n s u m k (inl e) (inr f) = inr (f .0, walk-on s u m k e (f .1))
 comes-on n s u m k (inr e) f = inr (e .0, walk-on s u m deep (e .1) (stuck-deep u))
 
-pub comes-low : {n : ℕ} {m o : Move} → Comes n m o → n ≤ 32 → m ≡ o
+pub comes-low : {n : ℕ} {m o : Move} → Comes n m o → n ≤ depthMost → m ≡ o
 comes-low (inl e) h = e
 comes-low (inr f) h = absurd (omega (arith, f .0, h))
 

@@ -10,7 +10,7 @@ use borrow.Author.Tests.{lt-ltb, le-ltb}
 use lib.Dec.{eqb}
 use lib.ListN.{length, drop}
 use Rattle.rules.specs.Bytes.{lead, split}
-use Rattle.expression.specs.Reading.{Tree, leaf, Level, fresh, Ctl, Verdict, refused, next, opening, follow, run}
+use Rattle.expression.specs.Reading.{Tree, leaf, Level, fresh, Ctl, depthMost, Verdict, refused, next, opening, follow, run}
 use Rattle.expression.specs.Writing.{isOr, spell, spellPart, satisfied, metIn}
 use Rattle.expression_bytes.specs.Front.{headIs}
 use Rattle.expression_bytes.proofs.StateLaws as state
@@ -67,23 +67,23 @@ module _ (list text : List ℕ) (at depth : ℕ) (s : List ℕ) (o : ℕ) where
 
   -- ---- a group
   module _ (from : ℕ) (b : from ≡ at + lead (eqb 32) (drop at text)) (opens : headIs 40 (drop from text) ≡ true) where
-    pub too-deep : 32 ≤ depth → Told (λ l. l) list text at depth (32 ∷ []) s o (No 14 from) s
+    pub too-deep : depthMost ≤ depth → Told (λ l. l) list text at depth (32 ∷ []) s o (No 14 from) s
     unfolding next opening follow
     too-deep k =
-        no {k = 14} {p = from} (λ l fs h. sym (state.step (drop from text) Ctl.want l fs from 40 opens ∙ rw (h, le-ltb depth 32 k)) ∙ over text at from b l fs) refl
+        no {k = 14} {p = from} (λ l fs h. sym (state.step (drop from text) Ctl.want l fs from 40 opens ∙ rw (h, le-ltb depth depthMost k)) ∙ over text at from b l fs) refl
 
-    inside : depth < 32 → (l : Level) (fs : List Level) → length fs ≡ depth → run (drop (from + 1) text) Ctl.want fresh (l ∷ fs) (from + 1) ≡ run (drop at text) Ctl.want l fs at
+    inside : depth < depthMost → (l : Level) (fs : List Level) → length fs ≡ depth → run (drop (from + 1) text) Ctl.want fresh (l ∷ fs) (from + 1) ≡ run (drop at text) Ctl.want l fs at
     unfolding next opening follow
     inside k l fs h =
-        sym (state.step (drop from text) Ctl.want l fs from 40 opens ∙ rw (h, lt-ltb depth 32 k) (answer.one-on text from Ctl.want fresh (l ∷ fs))) ∙ over text at from b l fs
+        sym (state.step (drop from text) Ctl.want l fs from 40 opens ∙ rw (h, lt-ltb depth depthMost k) (answer.one-on text from Ctl.want fresh (l ∷ fs))) ∙ over text at from b l fs
 
     deeper : (fs : List Level) (l : Level) → length fs ≡ depth → length (l ∷ fs) ≡ depth + 1
     deeper fs l h = ap suc h ∙ sym (add-one depth)
 
-    pub group-no : depth < 32 → {k p : ℕ} {d : List ℕ} → Tree-none onlyFresh text (from + 1) (depth + 1) s d k p → Told (λ l. l) list text at depth (32 ∷ []) s o (No k p) d
+    pub group-no : depth < depthMost → {k p : ℕ} {d : List ℕ} → Tree-none onlyFresh text (from + 1) (depth + 1) s d k p → Told (λ l. l) list text at depth (32 ∷ []) s o (No k p) d
     group-no i n = no (λ l fs h. n .same tt (l ∷ fs) (deeper fs l h) ∙ inside i l fs h) (n .kept)
 
-    module _ (i : depth < 32) {v : Value} {d : List ℕ} (w : Tree-read onlyFresh list text (from + 1) (depth + 1) (32 ∷ 65 ∷ 79 ∷ []) s o v d) where
+    module _ (i : depth < depthMost) {v : Value} {d : List ℕ} (w : Tree-read onlyFresh list text (from + 1) (depth + 1) (32 ∷ 65 ∷ 79 ∷ []) s o v d) where
       filled : (l : Level) (fs : List Level) → length fs ≡ depth → run (drop (v .next) text) (Ctl.done (w .tree)) fresh (l ∷ fs) (v .next) ≡ run (drop at text) Ctl.want l fs at
       filled l fs h = w .same tt (l ∷ fs) (deeper fs l h) ∙ inside i l fs h
 

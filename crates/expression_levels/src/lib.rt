@@ -5,6 +5,7 @@ ghost use mathlib.Core.Bool.{false};
 ghost use mathlib.Core.List.{[], _∷_};
 ghost use Prim.Native.Nat.{_≤_};
 ghost use lib.ListN.{length, drop};
+ghost use Rattle.expression.specs.Reading.{depthMost};
 ghost use Rattle.expression_bytes.specs.Front.{headIs};
 ghost use Rattle.expression_levels.specs.Levels.{onlyAny, onlyFresh, AtAnyDepth, Told};
 use expression_bytes::blanks;
@@ -24,7 +25,7 @@ use expression_parts::parts::Went;
 use expression_parts::parts::read_part;
 
 // The parentheses that may be open at once.
-const DEEPEST: usize = 32;
+const DEPTH_MOST: usize = 32;
 
 // What is told, or a refusal and its place.
 pub enum Read {
@@ -54,14 +55,14 @@ fn leaf(list: &[u8], text: &[u8], at: usize, out: &mut [u8], o: usize) -> Read
 
 // A group or a part, with the blanks before and behind it, under `depth` parentheses; it is written from the place o on.
 fn operand(list: &[u8], text: &[u8], at: usize, depth: usize, out: &mut [u8], o: usize) -> Read
-    requires { ⌜ (at ≤ length (now text)) × (depth ≤ 32) ⌝ }
+    requires { ⌜ (at ≤ length (now text)) × (depth ≤ depthMost) ⌝ }
     ensures { λ r. ⌜ Told (λ l. l) (now (list .entry)) (now (text .entry)) at depth (32 ∷ []) (now (out .entry)) o r (now (out .exit)) ⌝ }
 {
     let from = blanks(text, at);
     if !stands(text, from, 40) {
         return leaf(list, text, from, out, o);
     }
-    if DEEPEST <= depth {
+    if DEPTH_MOST <= depth {
         return Read::No(14, from);
     }
     match or_level(list, text, from + 1, depth + 1, out, o) {
@@ -80,7 +81,7 @@ fn operand(list: &[u8], text: &[u8], at: usize, depth: usize, out: &mut [u8], o:
 
 // Operands with AND between. An OR among several gets parentheses in the output once it is known that it is not alone.
 fn and_level(list: &[u8], text: &[u8], at: usize, depth: usize, out: &mut [u8], o: usize) -> Read
-    requires { ⌜ (at ≤ length (now text)) × (depth ≤ 32) ⌝ }
+    requires { ⌜ (at ≤ length (now text)) × (depth ≤ depthMost) ⌝ }
     ensures { λ r. ⌜ Told onlyAny (now (list .entry)) (now (text .entry)) at depth (32 ∷ 65 ∷ []) (now (out .entry)) o r (now (out .exit)) ⌝ }
 {
     let mut from = at;
@@ -117,7 +118,7 @@ fn and_level(list: &[u8], text: &[u8], at: usize, depth: usize, out: &mut [u8], 
 
 // What AND joins, with OR between.
 pub fn or_level(list: &[u8], text: &[u8], at: usize, depth: usize, out: &mut [u8], o: usize) -> Read
-    requires { ⌜ (at ≤ length (now text)) × (depth ≤ 32) ⌝ }
+    requires { ⌜ (at ≤ length (now text)) × (depth ≤ depthMost) ⌝ }
     ensures { λ r. ⌜ Told onlyFresh (now (list .entry)) (now (text .entry)) at depth (32 ∷ 65 ∷ 79 ∷ []) (now (out .entry)) o r (now (out .exit)) ⌝ }
 {
     let mut from = at;

@@ -11,7 +11,7 @@ use lib.Dec.{eqb, ltb}
 use lib.ListN.{length}
 use Rattle.rules.specs.Bytes.{every, within}
 use Rattle.expression.specs.Reading.{idByte, licenseRef, isWord, Kind, bare, license, reference, document, kindOf, part, Tree, leaf, Level, fresh}
-use Rattle.expression.specs.Reading.{whole, anded, ored, Ctl, Move, dead, deep, to, opening, closing, atEnded, atDone, atSimple, leave, next}
+use Rattle.expression.specs.Reading.{whole, anded, ored, Ctl, depthMost, Move, dead, deep, to, opening, closing, atEnded, atDone, atSimple, leave, next}
 use Rattle.expression.proofs.WordLaws.{id-not}
 use Rattle.expression.proofs.EveryLaws.{every-cons}
 
@@ -32,7 +32,7 @@ due (Ctl.word xs) = xs
 
 pub record State (c : Ctl) (fs : List Level) : Type 0 where
   pub letters : every idByte (due c) ≡ true
-  pub few : length fs ≤ 32
+  pub few : length fs ≤ depthMost
 
 -- what a byte b does to the number of open parentheses
 unfoldable pub one : ℕ → ℕ → ℕ
@@ -40,7 +40,7 @@ one x b = cond (eqb b x) 1 0
 
 pub data Good (b : ℕ) (fs : List Level) : Move → Type 0 where
   dies : Good b fs dead
-  sinks : b ≡ 40 → length fs ≡ 32 → Good b fs deep
+  sinks : b ≡ 40 → length fs ≡ depthMost → Good b fs deep
   goes : (c : Ctl) (l : Level) (gs : List Level) → State c gs → length gs + one 41 b ≡ length fs + one 40 b → Good b fs (to c l gs)
 
 -- ---- bytes that are no parenthesis
@@ -59,12 +59,12 @@ branch : {b : ℕ} {fs : List Level} (t : Bool) {x y : Move} → (t ≡ true →
 branch true h k = h refl
 branch false h k = k refl
 
-closing-good : (b : ℕ) (fs : List Level) (t : Tree) → length fs ≤ 32 → eqb b 41 ≡ true → Good b fs (closing t fs)
+closing-good : (b : ℕ) (fs : List Level) (t : Tree) → length fs ≤ depthMost → eqb b 41 ≡ true → Good b fs (closing t fs)
 unfolding closing one every
 closing-good b [] t few e = dies
 closing-good b (f ∷ fs) t few e = goes (Ctl.done t) f fs (record { letters = refl; few = omega arith }) (rw (eqb-true b 41 e) (omega arith))
 
-module _ (b : ℕ) (l : Level) (fs : List Level) (few : length fs ≤ 32) where
+module _ (b : ℕ) (l : Level) (fs : List Level) (few : length fs ≤ depthMost) where
   -- as deep as before
   keeps : (c : Ctl) (k : Level) → Plain b → every idByte (due c) ≡ true → Good b fs (to c k fs)
   unfolding one
@@ -82,9 +82,9 @@ module _ (b : ℕ) (l : Level) (fs : List Level) (few : length fs ≤ 32) where
   opening-good : eqb b 40 ≡ true → Good b fs (opening l fs)
   unfolding opening one every
   opening-good e =
-      branch (ltb (length fs) 32)
-      (λ k. goes Ctl.want fresh (l ∷ fs) (record { letters = refl; few = omega (arith, ltb-true (length fs) 32 k) }) (rw (eqb-true b 40 e) (omega arith)))
-      (λ k. sinks (eqb-true b 40 e) (let m = ltb-false (length fs) 32 k in omega arith))
+      branch (ltb (length fs) depthMost)
+      (λ k. goes Ctl.want fresh (l ∷ fs) (record { letters = refl; few = omega (arith, ltb-true (length fs) depthMost k) }) (rw (eqb-true b 40 e) (omega arith)))
+      (λ k. sinks (eqb-true b 40 e) (let m = ltb-false (length fs) depthMost k in omega arith))
 
   ended-good : (t : Tree) → Good b fs (atEnded t l fs b)
   unfolding atEnded every
@@ -108,7 +108,7 @@ module _ (b : ℕ) (l : Level) (fs : List Level) (few : length fs ≤ 32) where
   leave-good document w = branch (eqb b 58) (by 58 (Ctl.colon (w ++ 58 ∷ []) licenseRef) l (refl, refl) refl) (λ _. dies)
 
 -- a byte of an identifier leads on, another as m says
-ids-good : (b : ℕ) (l : Level) (fs : List Level) → length fs ≤ 32 → (c : Ctl) → every idByte (due c) ≡ true → {m : Move} → Good b fs m →
+ids-good : (b : ℕ) (l : Level) (fs : List Level) → length fs ≤ depthMost → (c : Ctl) → every idByte (due c) ≡ true → {m : Move} → Good b fs m →
     Good b fs (cond (idByte b) (to c l fs) m)
 ids-good b l fs few c f h = branch (idByte b) (λ e. keeps b l fs few c l (plain-id b e) f) (λ _. h)
 

@@ -12,7 +12,7 @@ use borrow.Author.Tests.{eq-eqb}
 use lib.ListN.{length, take, getD}
 use Rattle.rules.specs.Bytes.{order, same, starts, within}
 use Rattle.expression.specs.Reading.{idByte, andWord, orWord, withWord, licenseRef, documentRef, isWord, Kind, bare, license, reference, document}
-use Rattle.expression.specs.Reading.{kindOf, part, Tree, leaf, Level, fresh, whole, Ctl, Move, dead, deep, to, Verdict, accepted, refused, closing}
+use Rattle.expression.specs.Reading.{kindOf, part, Tree, leaf, Level, fresh, whole, Ctl, depthMost, Move, dead, deep, to, Verdict, accepted, refused, closing}
 use Rattle.expression.specs.Reading.{atEnded, atDone, atSimple, leave, next, finish, ofKind, stop, follow, run, verdict}
 use Rattle.expression.specs.Annex.{Annex}
 use Rattle.expression.proofs.WordLaws.{word-is, bare-is}
@@ -295,7 +295,7 @@ record Sunk (s : List ℕ) (d p r : ℕ) : Type 0 where
   pub place : r ≡ p + n
   pub inside : n < length s
   pub paren : getD s n 0 ≡ 40
-  pub open-32 : d + count 40 (take n s) ≡ 32 + count 41 (take n s)
+  pub all-open : d + count 40 (take n s) ≡ depthMost + count 41 (take n s)
 
 step-sunk : (b : ℕ) (bs : List ℕ) (fs : List Level) (p r : ℕ)
     → ((c : Ctl) (l : Level) (gs : List Level) → State c gs → run bs c l gs (p + 1) ≡ refused 14 r → Sunk bs (length gs) (p + 1) r)
@@ -304,7 +304,7 @@ unfolding follow count
 step-sunk b bs fs p r ih m dies e = let z : _≡_ {A = ℕ} 13 14 = cc in absurd (omega arith)
 step-sunk b bs fs p r ih m (sinks f g) e =
     let q : r ≡ p = cc in
-    record { n = 0; place = omega arith; inside = omega arith; paren = f; open-32 = omega arith }
+    record { n = 0; place = omega arith; inside = omega arith; paren = f; all-open = omega arith }
 step-sunk b bs fs p r ih m (goes c l gs st q) e =
     let k = ih c l gs st e in
     record {
@@ -312,7 +312,7 @@ step-sunk b bs fs p r ih m (goes c l gs st q) e =
       place = omega (arith, k .place);
       inside = omega (arith, k .inside);
       paren = k .paren;
-      open-32 = omega (arith, k .open-32, q);
+      all-open = omega (arith, k .all-open, q);
     }
 
 run-sunk : (s : List ℕ) (c : Ctl) (l : Level) (fs : List Level) (p r : ℕ) → State c fs → run s c l fs p ≡ refused 14 r → Sunk s (length fs) p r
@@ -324,11 +324,11 @@ run-sunk (b ∷ bs) c l fs p r st e = step-sunk b bs fs p r (λ c' l' fs'. run-s
 pub record Deep (s : List ℕ) (r : ℕ) : Type 0 where
   pub inside : r < length s
   pub paren : getD s r 0 ≡ 40
-  pub open-32 : count 40 (take r s) ≡ 32 + count 41 (take r s)
+  pub all-open : count 40 (take r s) ≡ depthMost + count 41 (take r s)
 
 pub too-deep : (s : List ℕ) (r : ℕ) → verdict s ≡ refused 14 r → Deep s r
 unfolding verdict
 too-deep s r e =
     let d = run-sunk s Ctl.want fresh [] 0 r begin e in
     let q : d .n ≡ r = omega (arith, d .place) in
-    record { inside = rw (← q) (d .inside); paren = rw (← q) (d .paren); open-32 = rw (← q) (omega (arith, d .open-32)) }
+    record { inside = rw (← q) (d .inside); paren = rw (← q) (d .paren); all-open = rw (← q) (omega (arith, d .all-open)) }

@@ -7,6 +7,7 @@ use native.Mathlib.Omega.{arith}
 use lib.ListN.{length}
 use borrow.Author.Tests.{not-true, not-false}
 use borrow.Author.Needs.{needs}
+use Rattle.expression.specs.Reading.{depthMost}
 use Rattle.expression.specs.Writing.{spell}
 use Rattle.expression_bytes.proofs.FrontLaws.{head-within, blanks-high, blanks-stop}
 use Rattle.expression_joints.proofs.JointLaws.{shut-at, shut-bad, jointed-on, jointed-off}
@@ -359,7 +360,7 @@ operand-or-level-requires t c κs =
     let r : Operand-room t = search in
     let h = head-within (b .args .text .now) (e .blanks .result) 40 (sym (s .stands .ensures) ∙ not-false _ (n .if1 .left)) in
     let i : e .blanks .result + 1 ≤ length (b .args .text .now) = omega (arith, h) in
-    let j : b .args .depth + 1 ≤ 32 = omega (arith, r .if2 .left) in
+    let j : b .args .depth + 1 ≤ depthMost = omega (arith, r .if2 .left) in
     (omega (arith, b .pre .0, e .blanks .ensures), (i, j))
 
 operand-enum-known-k : (t : ℕ) → operand-lts.Need-enum-known-k (operand-claims t) (operand-at t) operand.Post
