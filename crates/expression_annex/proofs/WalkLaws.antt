@@ -69,7 +69,7 @@ pub record Sinks (v : Verdict) : Type 0 where
   pub place : ℕ
   pub told : v ≡ refused 14 place
 
-isDeep : Move → Bool
+unfoldable pub isDeep : Move → Bool
 isDeep dead = false
 isDeep deep = true
 isDeep (to c l fs) = false

@@ -1,5 +1,5 @@
 // The bytes of an expression, put over a lent output as far as it reaches; each writer answers the place behind, which stops at 2^64 - 1.
-// So a run with an output of no bytes tells the length. Assumes nothing.
+// So a run with an output of any size tells the length. Assumes nothing.
 ghost use mathlib.Core.Path.{_≡_};
 ghost use mathlib.Core.Bool.{cond};
 ghost use mathlib.Core.List.{[], _∷_};

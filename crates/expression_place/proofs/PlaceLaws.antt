@@ -1,6 +1,6 @@
 -- The place of a refusal is that of the first byte that cannot go on: what stands before it can be completed to an expression, and with it
 -- nothing can (`first-bad`). Its number is 13 or 14; 13 only where nothing can with any number of parentheses open (`no-expression`, `no-way-on`), 14 only at
--- a parenthesis that finds 32 open (`too-deep`).
+-- a parenthesis that finds 32 open (`too-deep`), and only where an operand is due (`deep-due`): where none is, it is 13, however many are open.
 -- Assumes nothing.
 use mathlib.Core.Path.{_≡_, refl, sym, ap, _∙_}
 use Prim.Native.Nat.{ℕ, suc, _+_, _≤_, _<_}
@@ -9,6 +9,7 @@ use mathlib.Core.List.{List, [], _∷_, _++_}
 use mathlib.Core.Logic.{_⊎_, inl, inr}
 use native.Mathlib.Omega.{arith}
 use borrow.Author.Tests.{eq-eqb}
+use lib.Dec.{eqb}
 use lib.ListN.{length, take, getD}
 use Rattle.rules.specs.Bytes.{order, same, starts, within}
 use Rattle.expression.specs.Reading.{idByte, andWord, orWord, withWord, licenseRef, documentRef, isWord, Kind, bare, license, reference, document}
@@ -16,7 +17,7 @@ use Rattle.expression.specs.Reading.{kindOf, part, Tree, leaf, Level, fresh, wh
 use Rattle.expression.specs.Reading.{atEnded, atDone, atSimple, leave, next, finish, ofKind, stop, follow, run, verdict}
 use Rattle.expression.specs.Annex.{Annex}
 use Rattle.expression.proofs.WordLaws.{word-is, bare-is}
-use Rattle.expression_annex.proofs.WalkLaws.{Sinks}
+use Rattle.expression_annex.proofs.WalkLaws.{Sinks, isDeep}
 use Rattle.expression_annex.proofs.AnnexLaws.{Accepted, annex-deep}
 use Rattle.expression_place.proofs.DepthLaws.{State, begin, one, Good, dies, sinks, goes, step-good}
 
@@ -332,3 +333,95 @@ too-deep s r e =
     let d = run-sunk s Ctl.want fresh [] 0 r begin e in
     let q : d .n ≡ r = omega (arith, d .place) in
     record { inside = rw (← q) (d .inside); paren = rw (← q) (d .paren); all-open = rw (← q) (omega (arith, d .all-open)) }
+
+-- ---- 14 only where an operand is due: a name could stand there
+record Due (c : Ctl) (l : Level) (fs : List Level) (p : ℕ) : Type 0 where
+  pub rest : List ℕ
+  pub goes : isAccepted (run (32 ∷ 97 ∷ rest) c l fs p) ≡ true
+
+module _ (l : Level) (fs : List Level) where
+  want-due : (p : ℕ) → Due Ctl.want l fs p
+  unfolding run follow next idByte within
+  want-due p = let a = name-alive l fs (97 ∷ []) (p + 1 + 1) in record { rest = a .rest; goes = a .goes }
+
+  word-due : (p : ℕ) → Due (Ctl.word []) l fs p
+  unfolding run follow next idByte within
+  word-due p = let a = name-alive l fs (97 ∷ []) (p + 1 + 1) in record { rest = a .rest; goes = a .goes }
+
+  never-deep : {A : Type 0} (m : Move) → isDeep m ≡ false → m ≡ deep → A
+  unfolding isDeep
+  never-deep m h e = absurd (false≢true (sym h ∙ ap isDeep e))
+
+  -- a letter that is due, or the end
+  letter : (t : Bool) (c : Ctl) → isDeep (cond t (to c l fs) dead) ≡ false
+  unfolding isDeep
+  letter true c = refl
+  letter false c = refl
+
+  nowhere : (t : Bool) → isDeep (cond t dead dead) ≡ false
+  unfolding isDeep
+  nowhere true = refl
+  nowhere false = refl
+
+  left : (k : Kind) (w : List ℕ) → isDeep (leave k w l fs 40) ≡ false
+  unfolding isDeep leave atSimple atEnded
+  left bare w = refl
+  left license w = refl
+  left reference w = refl
+  left document w = refl
+
+  -- in all other states a parenthesis cannot go on
+  opens-due : (c : Ctl) (p : ℕ) → next c l fs 40 ≡ deep → Due c l fs p
+  unfolding isDeep next idByte within atSimple atDone atEnded
+  opens-due Ctl.want p e = want-due p
+  opens-due (Ctl.name w) p e = never-deep _ (left (kindOf w) w) e
+  opens-due (Ctl.colon w []) p e = never-deep _ refl e
+  opens-due (Ctl.colon w (x ∷ xs)) p e = never-deep _ (letter (eqb 40 x) _) e
+  opens-due (Ctl.ref w) p e = never-deep _ refl e
+  opens-due (Ctl.simple w plus) p e = never-deep _ refl e
+  opens-due (Ctl.spaced w plus) p e = never-deep _ refl e
+  opens-due (Ctl.withs w plus []) p e = never-deep _ refl e
+  opens-due (Ctl.withs w plus (x ∷ xs)) p e = never-deep _ (letter (eqb 40 x) _) e
+  opens-due (Ctl.excDue w plus) p e = never-deep _ refl e
+  opens-due (Ctl.exc w plus x) p e = never-deep _ (nowhere (isWord x)) e
+  opens-due (Ctl.done t) p e = never-deep _ refl e
+  opens-due (Ctl.word []) p e = word-due p
+  opens-due (Ctl.word (x ∷ xs)) p e = never-deep _ (letter (eqb 40 x) _) e
+
+-- at n places on
+record Due-on (s : List ℕ) (c : Ctl) (l : Level) (fs : List Level) (p r : ℕ) : Type 0 where
+  pub n : ℕ
+  pub place : r ≡ p + n
+  pub rest : List ℕ
+  pub goes : isAccepted (run (take n s ++ 32 ∷ 97 ∷ rest) c l fs p) ≡ true
+
+step-due : (b : ℕ) (bs : List ℕ) (c : Ctl) (l : Level) (fs : List Level) (p r : ℕ)
+    → ((c' : Ctl) (l' : Level) (gs : List Level) → State c' gs → run bs c' l' gs (p + 1) ≡ refused 14 r → Due-on bs c' l' gs (p + 1) r)
+    → (m : Move) → next c l fs b ≡ m → Good b fs m → follow p (λ c' l' gs. run bs c' l' gs (p + 1)) m ≡ refused 14 r → Due-on (b ∷ bs) c l fs p r
+unfolding follow run
+step-due b bs c l fs p r ih m e dies f = let z : _≡_ {A = ℕ} 13 14 = cc in absurd (omega arith)
+step-due b bs c l fs p r ih m e (sinks q g) f =
+    let d = opens-due l fs c p (rw q at e) in
+    let i : r ≡ p = cc in
+    record { n = 0; place = omega (arith, i); rest = d .rest; goes = d .goes }
+step-due b bs c l fs p r ih m e (goes c' l' gs st q) f =
+    let k = ih c' l' gs st f in
+    record { n = suc (k .n); place = omega (arith, k .place); rest = k .rest; goes = rw e (k .goes) }
+
+run-due : (s : List ℕ) (c : Ctl) (l : Level) (fs : List Level) (p r : ℕ) → State c fs → run s c l fs p ≡ refused 14 r → Due-on s c l fs p r
+unfolding run
+run-due [] c l fs p r st e = let z = (at-end c l fs p 14 r e) .1 in absurd (omega arith)
+run-due (b ∷ bs) c l fs p r st e =
+    step-due b bs c l fs p r (λ c' l' fs'. run-due bs c' l' fs' (p + 1) r) (next c l fs b) refl (step-good l fs b c st) e
+
+-- with a blank and a name for the parenthesis, some completion is accepted
+pub record Operand-due (s : List ℕ) (r : ℕ) : Type 0 where
+  pub rest : List ℕ
+  pub goes : isAccepted (verdict (take r s ++ 32 ∷ 97 ∷ rest)) ≡ true
+
+pub deep-due : (s : List ℕ) (r : ℕ) → verdict s ≡ refused 14 r → Operand-due s r
+unfolding verdict
+deep-due s r e =
+    let d = run-due s Ctl.want fresh [] 0 r begin e in
+    let q : d .n ≡ r = omega (arith, d .place) in
+    record { rest = d .rest; goes = ap (λ (n : ℕ). isAccepted (verdict (take n s ++ 32 ∷ 97 ∷ d .rest))) (sym q) ∙ d .goes }

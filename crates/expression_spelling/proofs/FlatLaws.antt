@@ -1,10 +1,11 @@
--- A tree and its flat form: satisfied by the same lists (`spell-same`), written alike (`spell-flat`), and both an OR or neither (`flat-or`).
+-- A tree and its flat form: satisfied by the same lists (`spell-same`), written alike (`spell-flat`), with the same parts and operators in their order
+-- (`spell-order`), and both an OR or neither (`flat-or`).
 -- Assumes nothing.
 use mathlib.Core.Path.{_≡_, refl, _∙_}
 use Prim.Native.Nat.{ℕ}
 use mathlib.Core.Bool.{true, false, _&&_, _||_, and-assoc, or-assoc}
-use mathlib.Core.List.{List, _∷_, _++_, append-assoc}
-use Rattle.expression.specs.Reading.{Tree, leaf, and, or}
+use mathlib.Core.List.{List, [], _∷_, _++_, append-assoc}
+use Rattle.expression.specs.Reading.{Part, Tree, leaf, and, or}
 use Rattle.expression.specs.Writing.{satisfied, spell, wrap, isOr}
 use Rattle.expression_spelling.specs.Flat.{andChain, orChain, flat}
 
@@ -66,3 +67,32 @@ unfolding spell flat
 spell-flat (leaf p) = refl
 spell-flat (and a b) = spell-and (flat a) (flat b) ∙ rw (flat-or a, flat-or b, spell-flat a, spell-flat b)
 spell-flat (or a b) = spell-or (flat a) (flat b) ∙ rw (spell-flat a, spell-flat b)
+
+-- ---- parts and operators, in their order
+pub data Sign : Type 0 where
+  one-part : Part → Sign
+  an-and : Sign
+  an-or : Sign
+
+unfoldable pub signs : Tree → List Sign
+signs (leaf p) = one-part p ∷ []
+signs (and a b) = signs a ++ an-and ∷ signs b
+signs (or a b) = signs a ++ an-or ∷ signs b
+
+and-order : (a b : Tree) → signs (andChain a b) ≡ signs a ++ an-and ∷ signs b
+unfolding signs andChain
+and-order a (leaf p) = refl
+and-order a (and b c) = rw (and-order a b) (append-assoc (signs a) (an-and ∷ signs b) (an-and ∷ signs c))
+and-order a (or b c) = refl
+
+or-order : (a b : Tree) → signs (orChain a b) ≡ signs a ++ an-or ∷ signs b
+unfolding signs orChain
+or-order a (leaf p) = refl
+or-order a (and b c) = refl
+or-order a (or b c) = rw (or-order a b) (append-assoc (signs a) (an-or ∷ signs b) (an-or ∷ signs c))
+
+pub spell-order : (e : Tree) → signs (flat e) ≡ signs e
+unfolding signs flat
+spell-order (leaf p) = refl
+spell-order (and a b) = and-order (flat a) (flat b) ∙ rw (spell-order a, spell-order b)
+spell-order (or a b) = or-order (flat a) (flat b) ∙ rw (spell-order a, spell-order b)
