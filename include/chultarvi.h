@@ -1,5 +1,5 @@
 /* Chultarvi for C and C++: a licence-note scanner whose every answer is proved. examples/embed.c is a whole caller to copy; host/cli/ is a larger one,
-   and host/tests/face.c calls everything here. host/install.sh puts header, archive, pkg-config file and CMake config in place.
+   and host/tests/face.c and expressions.c call everything here. host/install.sh puts header, archive, pkg-config file and CMake config in place.
 
    Platform. libchultarvi.a is x86-64 code (ELF, the System V ABI: Linux and the BSDs, not Windows). Of other libraries it calls memcpy and memset only.
    It has no unwind tables: a debugger or profiler cannot walk the stack through it; no exception can pass, since it calls nothing that throws. Floating
@@ -82,7 +82,7 @@ enum {
     CHULTARVI_EDITION = 6
 };
 
-/* In the order in which they are tested. 13 and 14 are of licence expressions: which of them it is the earlier byte decides; then 11. */
+/* In the order in which they are tested. 13 and 14 are of licence expressions and come before 11: of the two the one at the earlier byte, 13 on a tie. */
 enum chultarvi_refusal {
     CHULTARVI_ANSWERED = 0,
     CHULTARVI_REFUSED_TEXT_LONG = 1,
@@ -245,12 +245,17 @@ static inline const uint8_t *chultarvi_stored_name(const uint8_t *book, const ui
 
 /* Licence expressions, such as `MIT OR (Apache-2.0 AND BSD-3-Clause)`, by the annex on them of SPDX 2.3. They have nothing to do with books, and no area is
    lent for them; text and list have any length and any bytes.
-     part        an identifier: one or more of A-Z a-z 0-9 - . that are not AND, OR or WITH; `+` may follow it. Or LicenseRef- and such bytes, before which
-                 DocumentRef-, such bytes and a colon may stand. Behind either may stand WITH, blanks on both its sides, and an exception, an identifier too
-     expression  parts joined by AND and OR, each with a blank or a parenthesis on both its sides; AND binds before OR. Parentheses hold an expression again
-   Identifiers are judged by their form, not by SPDX's list. The three words are in capitals, blanks are byte 32, any number, at both ends too.
+     name        one or more of A-Z a-z 0-9 - .
+     part        a name other than AND, OR and WITH that begins neither with LicenseRef- nor with DocumentRef-; `+` may follow it, with no blank between.
+                 Or a reference: LicenseRef- and a name, before which DocumentRef-, a name and a colon may stand; no `+` follows it
+                 Behind either, once, may stand WITH, blanks on both its sides, and an exception: a name other than AND, OR and WITH
+     expression  parts joined by AND and OR, each with a blank or a parenthesis on both its sides; AND binds before OR. Parentheses hold an expression again,
+                 and no WITH follows them
+   Names are judged by their form, not by SPDX's list. The three words are in capitals, and LicenseRef- and DocumentRef- as they stand here; blanks are byte
+   32, any number, at both ends too.
    Refusals: 13, no expression; `place` is the first byte with which no expression begins, counted from 0, and text_len where it breaks off (proved:
-   first-bad, crates/expression_place/proofs). 14: at `place` stands a parenthesis that finds 32 open. 11: out is shorter than what would be written. */
+   first-bad, crates/expression_place/proofs). 14: at `place` stands a parenthesis that could go on but finds 32 open. 11, after these: out is shorter
+   than what would be written. */
 
 /* Does a list of accepted parts satisfy the text? A list has a part a line (byte 10 between), each as it would be written: single blanks, none at an
    end, and so no carriage return. A line that is none, an empty one too, accepts nothing. A part is met by its equal alone, identifier, `+` and exception,

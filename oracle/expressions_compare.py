@@ -7,7 +7,7 @@ Of each text: whether it is an expression, its tree, the refusal and its place; 
 that place; which lists satisfy it; and of what is written that it is the same expression in the one spelling, that writing it again changes nothing,
 that 5 of its bytes are at most 6 of the text's, and that the output's room decides refusal 11. The texts:
 
-  marked    those of the request, with the answers that it gives
+  marked    marked ones, with the answers that docs/RULES.md gives, or that were read off the annex by hand
   bytes     every text of up to 7 bytes over each of three alphabets of 6
   pieces    every text of up to 5, 6 or 7 pieces over each of four alphabets of 6: references, exceptions and mixed operators need more than 7 bytes
   damage    each byte put in the place of each, and before each, of some texts, and each left out
@@ -302,7 +302,7 @@ def apart_in_room(reading, text, spelling):
 
 
 def apart_marked(reading):
-    """The answers that the request gives."""
+    """The answers to the marked texts."""
     for text, answer, more in MARKED:
         if isinstance(answer, int):
             wanted, got = (answer, more), reading.expression(text.encode())
@@ -476,10 +476,11 @@ def changed(old, new):
 
 
 def found(judge, reading, text):
+    """By a difference; a wrong reading may well break, which is none."""
     try:
         return next(apart(judge, reading, text, random.Random(text)), None) is not None
-    except Exception:  # a wrong reading may well break
-        return True
+    except Exception:
+        return False
 
 
 def try_wrong(seed):

@@ -3,7 +3,7 @@
 
     oracle/expressions_rows.py [--seed N] [--texts N] [--quick]
 
-Asks target/expressions (built and run by host/drivers/expressions.sh) and the second reading the same questions: every text of expressions_compare.py, with lists
+Asks target/expressions (built and run by host/drivers/expressions.sh) and the second reading the same questions: texts of the kinds of expressions_compare.py, with lists
 that have its parts, parts almost like them and lines that are none, and outputs of the written length, one less, one more and others, filled with garbage.
 Compares both answers and every byte of the output; text, list and the bytes behind each buffer must be as they were. Each answer must be met at
 least 20 times. The last line is 'N passed, M failed'. Exit status: 0 none failed, 1 some did, 2 the comparison could not be made.
@@ -100,7 +100,8 @@ class Archive:
     def read(self, size):
         out = self.process.stdout.read(size)
         if len(out) != size:
-            sys.exit("target/expressions breaks off")
+            print("expressions_rows: target/expressions breaks off", file=sys.stderr)
+            sys.exit(2)
         return out
 
 

@@ -1,10 +1,19 @@
 /* The accepted parts of the subcommand expression: from lists, a part a line, and from single parts behind options, as one list that the library takes.
-   What a line is, the library judges: one line satisfies itself exactly if it is a part as it would be written. */
+   What a line is, the library judges: one line satisfies itself exactly if it is a part as it would be written (`line-itself`). */
 #include "expression.h"
 #include <stdlib.h>
 #include <string.h>
 
-static bool is_part(part line) { return chultarvi_satisfy(line.bytes, line.len, line.bytes, line.len).satisfied; }
+/* The library's time grows with the parts of a line times its length, so it is asked only of what may be one: no parenthesis, and no blanks but the two
+   of WITH. */
+static bool is_part(part line) {
+    size_t blanks = 0;
+    for (size_t i = 0; i < line.len; i++) {
+        if (line.bytes[i] == '(') return false;
+        blanks += line.bytes[i] == ' ';
+    }
+    return blanks <= 2 && chultarvi_satisfy(line.bytes, line.len, line.bytes, line.len).satisfied;
+}
 
 chultarvi_expression_spelled written_form(part text, uint8_t **bytes) {
     size_t room = CHULTARVI_SPELLED_MOST(text.len);
@@ -16,9 +25,12 @@ chultarvi_expression_spelled written_form(part text, uint8_t **bytes) {
     return w;
 }
 
-static void put_short(FILE *to, part bytes) {
-    put_plain_bytes(to, (part){bytes.bytes, bytes.len < SHOWN_MOST ? bytes.len : SHOWN_MOST});
-    if (bytes.len > SHOWN_MOST) fputs("..", to);
+void put_short(FILE *to, part bytes, size_t most) {
+    size_t len = bytes.len < most ? bytes.len : most;
+    /* not within a character, which has at most three bytes behind its first: 80 to BF */
+    for (int i = 0; i < 3 && len < bytes.len && len > 0 && (bytes.bytes[len] & 0xc0) == 0x80; i++) len--;
+    put_plain_bytes(to, (part){bytes.bytes, len});
+    if (len < bytes.len) fputs("..", to);
 }
 
 /* What to write instead of a line that is no part: the same as the library writes it, each part of several, or something else. */
@@ -28,7 +40,7 @@ static void put_advice(FILE *to, part line) {
     if (w.refusal) fputs("a part is such as MIT, GPL-2.0+ or GPL-2.0 WITH Classpath-exception-2.0", to);
     else if (is_part((part){bytes, w.len})) {
         fputs("write ", to);
-        put_short(to, (part){bytes, w.len});
+        put_short(to, (part){bytes, w.len}, SHOWN_MOST);
     } else fputs("give each part by itself", to);
     free(bytes);
 }
@@ -36,7 +48,7 @@ static void put_advice(FILE *to, part line) {
 /* Behind what names the place: `'MIT OR x' accepts nothing; give each part by itself`. */
 static void put_no_part(part line) {
     fputc('\'', stderr);
-    put_short(stderr, line);
+    put_short(stderr, line, SHOWN_MOST);
     fputs("' accepts nothing; ", stderr);
     put_advice(stderr, line);
     fputc('\n', stderr);

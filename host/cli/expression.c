@@ -57,13 +57,14 @@ static int by_place(const void *a, const void *b) {
     return x->bytes < y->bytes ? -1 : x->bytes > y->bytes;
 }
 
-static int compare_bytes(const part *x, const part *y) {
-    int order = memcmp(x->bytes, y->bytes, x->len < y->len ? x->len : y->len);
+/* Letter case aside, as parts are compared. */
+static int compare_parts(const part *x, const part *y) {
+    int order = strncasecmp((const char *)x->bytes, (const char *)y->bytes, x->len < y->len ? x->len : y->len);
     return order ? order : x->len < y->len ? -1 : x->len > y->len;
 }
 
-static int by_bytes(const void *a, const void *b) {
-    int order = compare_bytes(a, b);
+static int by_part(const void *a, const void *b) {
+    int order = compare_parts(a, b);
     return order ? order : by_place(a, b);
 }
 
@@ -71,7 +72,7 @@ static int by_bytes(const void *a, const void *b) {
 static void leave_equal(part_list *all) {
     size_t kept = 0;
     for (size_t i = 0; i < all->count; i++)
-        if (kept == 0 || compare_bytes(all->at + kept - 1, all->at + i) != 0) all->at[kept++] = all->at[i];
+        if (kept == 0 || compare_parts(all->at + kept - 1, all->at + i) != 0) all->at[kept++] = all->at[i];
     all->count = kept;
 }
 
@@ -82,10 +83,10 @@ static void leave_met(part_list *all, const asked *a) {
     all->count = kept;
 }
 
-/* Each once, where it stands first. The list is walked for each part, so equal ones are left out before. */
+/* Each once, letter case aside, where it stands first. The list is walked for each part, so equal ones are left out before. */
 static part_list unmet_parts(const asked *a, part written) {
     part_list all = parts_of(written);
-    qsort(all.at, all.count, sizeof *all.at, by_bytes);
+    qsort(all.at, all.count, sizeof *all.at, by_part);
     leave_equal(&all);
     leave_met(&all, a);
     qsort(all.at, all.count, sizeof *all.at, by_place);
@@ -94,28 +95,37 @@ static part_list unmet_parts(const asked *a, part written) {
 
 /* ---- what is refused */
 
-/* Where the letters at a place begin, and where they end. */
-static size_t letters_from(part text, size_t at) {
-    while (at > 0 && isalpha(text.bytes[at - 1])) at--;
+static bool in_name(uint8_t byte) { return isalnum(byte) || byte == '-' || byte == '.'; }
+
+/* Where the name at a place begins, and where it ends. */
+static size_t name_from(part text, size_t at) {
+    while (at > 0 && in_name(text.bytes[at - 1])) at--;
     return at;
 }
-static size_t letters_to(part text, size_t at) {
-    while (at < text.len && isalpha(text.bytes[at])) at++;
+static size_t name_to(part text, size_t at) {
+    while (at < text.len && in_name(text.bytes[at])) at++;
     return at;
 }
 
-/* The word at a place is AND, OR or WITH, but for its letters' case. */
+/* Behind a closing parenthesis, and blanks. */
+static bool behind_group(part text, size_t at) {
+    while (at > 0 && text.bytes[at - 1] == ' ') at--;
+    return at > 0 && text.bytes[at - 1] == ')';
+}
+
+/* The name at a place is AND, OR or WITH but for its letters' case, and would be right so: WITH is not where a group is before it. */
 static bool is_small_word(part text, size_t place) {
     static const char *const words[] = {"AND", "OR", "WITH"};
-    size_t from = letters_from(text, place), to = letters_to(text, place);
-    for (size_t i = 0; i < sizeof words / sizeof *words; i++)
-        if (strlen(words[i]) == to - from && strncasecmp((const char *)text.bytes + from, words[i], to - from) == 0)
-            return memcmp(text.bytes + from, words[i], to - from) != 0;
+    if (place == text.len || !isalpha(text.bytes[place])) return false;
+    size_t from = name_from(text, place), len = name_to(text, place) - from;
+    for (size_t i = 0; i < sizeof words / sizeof *words - behind_group(text, from); i++)
+        if (strlen(words[i]) == len && strncasecmp((const char *)text.bytes + from, words[i], len) == 0)
+            return memcmp(text.bytes + from, words[i], len) != 0;
     return false;
 }
 
 static const char *next_step(const chultarvi_expression_spelled *w, part text) {
-    if (w->refusal == CHULTARVI_REFUSED_TOO_DEEP) return "leave out pairs that are not needed";
+    if (w->refusal == CHULTARVI_REFUSED_TOO_DEEP) return "leave out pairs that are not needed, or write it with fewer in one another";
     if (is_small_word(text, w->place)) return "AND, OR and WITH are written in capitals";
     return "chultarvi expression --help says what may";
 }
@@ -131,11 +141,11 @@ static void refused_message(char to[MESSAGE_MOST], const chultarvi_expression_sp
 
 /* The text about the place, and a caret under it. All that stands before the place could go on, so it is ASCII and one column a byte. */
 static void put_caret(FILE *to, part text, size_t place) {
-    size_t from = place > SHOWN_MOST ? place - SHOWN_MOST : 0, left = text.len - from;
+    size_t from = place > SHOWN_MOST ? place - SHOWN_MOST : 0;
     const char *cut = from ? ".." : "";
     fprintf(to, "    %s", cut);
-    put_plain_bytes(to, (part){text.bytes + from, left < SHOWN_MOST + 20 ? left : SHOWN_MOST + 20});
-    fprintf(to, "%s\n    %*s^\n", left > SHOWN_MOST + 20 ? ".." : "", (int)(strlen(cut) + place - from), "");
+    put_short(to, (part){text.bytes + from, text.len - from}, SHOWN_MOST + 20);
+    fprintf(to, "\n    %*s^\n", (int)(strlen(cut) + place - from), "");
 }
 
 /* ---- what is said */

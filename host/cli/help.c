@@ -103,10 +103,12 @@ static const char expression_help[] =
     "  --accept-part PART   accept this part. May stand several times\n"
     "  --json               one line of JSON for each expression; in it bytes count from 0, and for people from 1\n"
     "\n"
-    "A part is an identifier of the bytes A-Z a-z 0-9 - . with '+' behind it or not, or LicenseRef-NAME, or DocumentRef-NAME:LicenseRef-NAME;\n"
-    "WITH and an exception may follow it. AND and OR join parts, and parentheses hold an expression again, 32 open at most; AND binds before\n"
-    "OR. AND, OR and WITH are in capitals and no identifiers; identifiers are judged by their form. A part is met by its equal alone,\n"
-    "letter case aside: GPL-2.0+ not by GPL-2.0.\n"
+    "A name is of the bytes A-Z a-z 0-9 - . and a part is a name, which AND, OR and WITH are not, with '+' right behind it or not; or LicenseRef-NAME or\n"
+    "DocumentRef-NAME:LicenseRef-NAME, without '+': a name that begins so must be one of these. Behind a part, once, may stand WITH and an exception, a\n"
+    "name, with blanks on both sides of WITH. AND and OR join parts, with a blank or a parenthesis on both sides; AND binds before OR. Parentheses hold\n"
+    "an expression again, 32 open at most, and no WITH follows them. The three words are in capitals. Blanks are spaces, no tabs, any number, also at both\n"
+    "ends. Names are judged by their form. A part is met by its equal alone, letter case aside: GPL-2.0+ not by GPL-2.0.\n"
+    "An expression that begins with '-' stands behind '--'; '-' alone is standard input there too.\n"
     "Lists, and expressions from standard input, have at most 4,194,304 bytes.\n"
     "\n" ENDING;
 

@@ -7,7 +7,7 @@ char *read_list(const char *file, size_t *len) {
     char *text = take(LIST_MOST + 1);
     const char *why = read_file(file, (uint8_t *)text, LIST_MOST, len);
     if (!why && *len > LIST_MOST) why = "over 4,194,304 bytes";
-    if (!why && memchr(text, 0, *len)) why = "a list is text, and this has a zero byte";
+    if (!why && memchr(text, 0, *len)) why = "it has a zero byte, and only lines of text are read";
     if (!why) {
         text[*len] = 0;
         return text;

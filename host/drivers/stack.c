@@ -46,7 +46,10 @@ static void top_down_both(call_t *c) {
 /* 14 is an answer too: `(` over and over */
 static uint32_t answered(uint32_t refusal) { return refusal == CHULTARVI_REFUSED_TOO_DEEP ? 0 : refusal; }
 static void write_expression(call_t *c) { c->refusal = answered(chultarvi_write_expression(TEXT, c->out, CHULTARVI_SPELLED_MOST(c->text.len)).refusal); }
-static void satisfy(call_t *c) { c->refusal = answered(chultarvi_satisfy(TEXT, (const uint8_t *)"q\na", 3).refusal); }
+static void satisfy(call_t *c) {
+    static const char list[] = "q\na\na+ WITH ANY\nDocumentRef-a:LicenseRef-b WITH ANY";
+    c->refusal = answered(chultarvi_satisfy(TEXT, (const uint8_t *)list, sizeof list - 1).refusal);
+}
 
 /* ---- the painted stack */
 static void *entry(void *p) { call_t *c = p; c->run(c); return 0; }
@@ -154,7 +157,12 @@ static void levels(void) {
 
 static void expressions(void) {
     static const struct { const char *title, *unit; size_t groups; } kinds[] = {
-        {"`a AND a AND ..`", "a AND ", 0}, {"`a OR a OR ..`", "a OR ", 0}, {"`a AND a AND ..` in 32 groups", "a AND ", 32}, {"`((((..`", "(", 0},
+        {"`a AND a AND ..`", "a AND ", 0},
+        {"`a OR a OR ..`", "a OR ", 0},
+        {"`a AND a AND ..` in 32 groups", "a AND ", 32},
+        {"`a+ WITH ANY OR ..` in 32 groups", "a+ WITH ANY OR ", 32},
+        {"references with exceptions in 32 groups", "DocumentRef-a:LicenseRef-b WITH ANY AND ", 32},
+        {"`((((..`", "(", 0},
     };
     for (size_t i = 0; i < sizeof kinds / sizeof *kinds; i++)
         for (size_t n = 1024; n <= CHULTARVI_TEXT_MOST; n *= 1024) {

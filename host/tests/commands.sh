@@ -249,7 +249,7 @@ same stands.book a.book
 run 2 book stands.book nowhere
 printf 'A original license\000\n' >list
 run 2 book stands.book list
-err_is 'chultarvi: list: cannot be read: a list is text, and this has a zero byte'
+err_is 'chultarvi: list: cannot be read: it has a zero byte, and only lines of text are read'
 run 2 book stands.book /dev/zero
 err_is 'chultarvi: /dev/zero: cannot be read: over 4,194,304 bytes'
 yes x | head -c 4194304 >list

@@ -39,6 +39,7 @@ from() {
     got=$?
     out=$(cat .out) err=$(cat .err)
     judge "$want"
+    schema
 }
 # so STATUS SHELL-WORDS: a line of the shell, in which $program stands for the program
 so() {

@@ -185,11 +185,24 @@ static uint8_t *repeated(const char *unit, char last, size_t *len) {
     p[(*len)++] = (uint8_t)last;
     return p;
 }
+/* What is written is the text, with a blank behind each `)` that AND follows at once. */
+static bool is_grown(const uint8_t *text, const uint8_t *out, size_t grown) {
+    bool due = false;
+    for (size_t i = 0; i < grown; i++) {
+        if (out[i] != (due ? ' ' : *text++)) return false;
+        due = !due && out[i] == ')' && *text == 'A';
+    }
+    return true;
+}
 /* more: by how many bytes each unit grows when it is written */
 static void test_large(void) {
-    static const struct { const char *unit; char last; uint32_t refusal; size_t place, more; } texts[] = {
-        {"a AND ", 'b', 0, 0, 0}, {"a OR ", 'b', 0, 0, 0},  {"(a OR b)AND ", 'x', 0, 0, 1},    {"a", '+', 0, 0, 0},
-        {"(", '(', 14, 32, 0},    {"a+ ", 'b', 13, 3, 0},   {"LicenseRef-a", ':', 13, 1048572, 0}, {"(a OR(b))AND", ')', 13, 1048572, 0},
+    static const struct { const char *unit; char last; uint32_t refusal; size_t place, more; bool satisfied; } texts[] = {
+        {"a AND ", 'b', 0, 0, 0, true},         {"a AND ", 'x', 0, 0, 0, false},
+        {"x OR ", 'b', 0, 0, 0, true},          {"x OR ", 'y', 0, 0, 0, false},
+        {"(a OR x)AND ", 'b', 0, 0, 1, true},   {"(a OR b)AND ", 'x', 0, 0, 1, false},
+        {"a", '+', 0, 0, 0, false},             {"(", '(', 14, 32, 0, false},
+        {"a+ ", 'b', 13, 3, 0, false},          {"LicenseRef-a", ':', 13, 1048572, 0, false},
+        {"(a OR(b))AND", ')', 13, 1048572, 0, false},
     };
     uint8_t *out = garbage(CHULTARVI_SPELLED_MOST(LARGE));
     for (size_t i = 0; i < sizeof texts / sizeof *texts; i++) {
@@ -198,10 +211,11 @@ static void test_large(void) {
         size_t grown = len + (len - 1) / strlen(texts[i].unit) * texts[i].more;
         chultarvi_expression_spelled w = chultarvi_write_expression(text, len, out, CHULTARVI_SPELLED_MOST(len));
         check(w.refusal == texts[i].refusal && w.place == texts[i].place && w.len == (w.refusal ? 0 : grown), "1 MiB", texts[i].unit);
-        if (!w.refusal && !texts[i].more) check(memcmp(text, out, len) == 0, "1 MiB, written", texts[i].unit);
-        if (!w.refusal) check(chultarvi_write_expression(text, len, out, grown - 1).refusal == 11, "1 MiB, a byte short", texts[i].unit);
+        if (!w.refusal) check(is_grown(text, out, grown), "1 MiB, written", texts[i].unit);
+        memset(out, GARBAGE, grown);
+        if (!w.refusal) check(chultarvi_write_expression(text, len, out, grown - 1).refusal == 11 && is_garbage(out, grown), "1 MiB, a byte short", texts[i].unit);
         chultarvi_expression_satisfied s = chultarvi_satisfy(text, len, (const uint8_t *)"q\na\nb", 5);
-        check(s.refusal == texts[i].refusal && s.place == texts[i].place, "1 MiB, satisfied", texts[i].unit);
+        check(s.refusal == texts[i].refusal && s.place == texts[i].place && s.satisfied == texts[i].satisfied, "1 MiB, satisfied", texts[i].unit);
         free(text);
     }
     free(out);

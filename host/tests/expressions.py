@@ -32,7 +32,8 @@ def expected(text, accepted):
     word, tree = expressions.expression(text)
     if word != "tree":
         return {"refusal": word, "place": tree}
-    unmet = [part.decode() for part in dict.fromkeys(parts_of(tree)) if not expressions.satisfied(accepted, part)]
+    each = {part.lower(): part for part in reversed(parts_of(tree))}  # letter case aside, where it stands first
+    unmet = [part.decode() for part in sorted(each.values(), key=parts_of(tree).index) if not expressions.satisfied(accepted, part)]
     return {"refusal": 0, "written": expressions.written(text).decode(), "satisfied": expressions.satisfied(accepted, text), "unmet": unmet}
 
 

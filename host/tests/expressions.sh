@@ -97,7 +97,7 @@ run 2 expression --accept /dev/zero MIT
 err_is 'chultarvi: /dev/zero: cannot be read: over 4,194,304 bytes'
 printf 'a\000b\n' >zero
 run 2 expression --accept zero MIT
-err_is 'chultarvi: zero: cannot be read: a list is text, and this has a zero byte'
+err_is 'chultarvi: zero: cannot be read: it has a zero byte, and only lines of text are read'
 broken read 2 expression --accept ok.list MIT
 err_has 'ok.list: cannot be read: Input/output error'
 broken malloc 2 expression --accept ok.list MIT
@@ -121,7 +121,12 @@ for text in 'MIT or x' 'MIT Or x' 'MIT and x' 'MIT with x' 'MIT WItH x'; do
     run 1 expression "$text"
     err_has 'cannot stand there; AND, OR and WITH are written in capitals'
 done
-for text in 'MIT AND OR' 'AND' 'MIT, x' 'MIT order x' '(MIT' 'MIT)' 'MIT WITH' 'MIT AND AND x'; do
+for text in '(a)or b' '(a) AND b Or c' 'MIT WITH x and b'; do
+    run 1 expression "$text"
+    err_has '; AND, OR and WITH are written in capitals'
+done
+for text in 'MIT AND OR' 'AND' 'MIT, x' 'MIT order x' '(MIT' 'MIT)' 'MIT WITH' 'MIT AND AND x' '(and' '(a OR with' 'DocumentRef-or' 'or, x' 'and(b)' 'MIT AND or(' \
+    'GPL-2.0 or-later' '(a) with b' 'MIT or.x'; do
     run 1 expression "$text"
     err_has "; $may"
 done
@@ -131,7 +136,7 @@ err_is "chultarvi: refused (13): $none: byte 4 cannot stand there; $may
        ^"
 deep='(((((((((((((((((((((((((((((((('
 run 1 expression "$deep(a"
-err_is "chultarvi: refused (14): more than 32 parentheses are open: byte 33 opens one more; leave out pairs that are not needed
+err_is "chultarvi: refused (14): more than 32 parentheses are open: byte 33 opens one more; leave out pairs that are not needed, or write it with fewer in one another
     $deep(a
                                     ^"
 run 1 expression "${deep}a("
@@ -146,6 +151,18 @@ run 1 expression "$long, and so on, and on, and on, and on"
 err_is "chultarvi: refused (13): $none: byte 121 cannot stand there; $may
     ..a AND a AND a AND a AND a AND a AND a AND a AND a AND a AND , and so on, and on,..
                                                                   ^"
+
+# a word that begins with '-' stands behind '--'; '-' is standard input there too
+run 0 expression --accept-part MIT --help
+out_has 'chultarvi expression '
+run 1 expression --accept-part MIT -- --help
+out_is '--help: not satisfied; not accepted: --help'
+printf -- '-\n' >dash
+from dash 1 expression --accept-part MIT -- -
+out_is '-: not satisfied; not accepted: -'
+# parts that differ in the case of letters alone are one
+run 1 expression --accept-part z 'mit OR MIT OR Mit OR b WITH X OR B WITH x'
+out_is 'mit OR MIT OR Mit OR b WITH X OR B WITH x: not satisfied; not accepted: mit, b WITH X'
 
 # several: the worst counts, and each is answered
 run 1 expression MIT 'a b' Zlib
@@ -185,15 +202,19 @@ printf '\n' >one
 from one 1 expression -
 [ "$(grep -c 'it is empty' .err)" = 1 ] && good || bad 'a line that is empty is one text'
 from zero 2 expression -
-err_is 'chultarvi: -: cannot be read: a list is text, and this has a zero byte'
+err_is 'chultarvi: -: cannot be read: it has a zero byte, and only lines of text are read'
 from /dev/zero 2 expression -
 err_is 'chultarvi: -: cannot be read: over 4,194,304 bytes'
 
-# 1 MiB of each: answered, on a stack of 64 KiB too
+# 1 MiB of each: answered, on a stack of 64 KiB too, as 32 parentheses are
 units() { awk -v unit="$1" -v last="$2" 'BEGIN { n = int(1048575 / length(unit)); for (i = 0; i < n; i++) printf "%s", unit; print last }'; }
 units 'a AND ' b >chain
 from chain 0 expression -
 same .out chain
+so 0 "ulimit -s 64; $program expression - <chain"
+same .out chain
+so 0 "ulimit -s 64; $program expression '${deep}a+ WITH b))))))))))))))))))))))))))))))))'"
+out_is 'a+ WITH b'
 from chain 0 expression --accept-part a --accept-part b -
 out_has ' AND b: satisfied'
 units '(a OR b)AND ' x >chain
@@ -206,7 +227,16 @@ err_has 'refused (14): more than 32 parentheses are open: byte 33 opens one more
 awk 'BEGIN { for (i = 0; i < 100000; i++) printf "%sp%d", i ? " OR " : "", i; print "" }' >chain
 from chain 1 expression --json --accept-part q -
 json '[len(notes[0]["unmet"]), notes[0]["unmet"][0], notes[0]["unmet"][-1]]' '[100000, "p0", "p99999"]'
-so 0 "ulimit -s 64; $program expression '$often'"
+# lines of a list that are long and no part: said at once, as the list's other lines are taken
+awk 'BEGIN { for (i = 0; i < 800000; i++) printf "a OR "; print "a"; print "ok" }' >long.list
+run 0 expression --accept long.list ok
+out_is 'ok: satisfied'
+err_is "chultarvi: long.list: line 1: warning: 'a OR a OR a OR a OR a OR a OR a OR a OR a OR a OR a OR a OR ..' accepts nothing; give each part by itself"
+awk 'BEGIN { for (i = 0; i < 500000; i++) printf "(a)OR"; print "(a)" }' >long.list
+run 1 expression --accept long.list a
+awk 'BEGIN { for (i = 0; i < 29; i++) printf "ab"; print "c\303\244\303\244" }' >long.list
+run 1 expression --accept long.list a
+err_has "abc..' accepts nothing"
 
 # 33 kinds of damage to one text: each is refused, or read and written as it then says; nothing ends otherwise than with 0 or 1
 text='(a+ OR LicenseRef-b) AND c WITH d'
