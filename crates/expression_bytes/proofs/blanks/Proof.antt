@@ -10,7 +10,7 @@ use Rattle.expression_bytes.proofs.blanks.Tie as tie
 
 add-result : tie.Need-add-result
 add-result c =
-    let b = c .before .before in
+    let b : tie.Start = search in
     let a = b .args in
     record { fits = omega (arith, c .byte-run .ensures, lead-most (eqb 32) (drop (a .at) (a .text .now)), length-drop (a .at) (a .text .now), b .pre, b .good .0 .0) }
 

@@ -21,13 +21,17 @@ loop-holds c = led-start _ _ _
 
 returns : tie.Need-returns Inv-loop μ-loop
 returns c =
-    let t = c .before .before .before in
-    led-stop (t .loop-test .taken) (sym (c .before .id-byte .ensures) ∙ not-true _ (c .if1 .taken)) (t .before .loop .inv)
+    let l : tie.At-loop Inv-loop μ-loop = search in
+    let t : tie.In-loop Inv-loop μ-loop = search in
+    let b : tie.After-id-byte Inv-loop μ-loop = search in
+    led-stop (t .loop-test .taken) (sym (b .id-byte .ensures) ∙ not-true _ (c .if1 .taken)) (l .loop .inv)
 
 loop-again : tie.Need-loop-again Inv-loop μ-loop
 loop-again c =
-    let t = c .before .before .before in
-    led-more (t .loop-test .taken) (sym (c .before .id-byte .ensures) ∙ not-false _ (c .if1 .left)) (t .before .loop .inv)
+    let l : tie.At-loop Inv-loop μ-loop = search in
+    let t : tie.In-loop Inv-loop μ-loop = search in
+    let b : tie.After-id-byte Inv-loop μ-loop = search in
+    led-more (t .loop-test .taken) (sym (b .id-byte .ensures) ∙ not-false _ (c .if1 .left)) (l .loop .inv)
 
 returns-2 : tie.Need-returns-2 Inv-loop μ-loop
 returns-2 c = led-end (c .loop-test .left) (c .before .loop .inv)

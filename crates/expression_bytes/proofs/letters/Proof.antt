@@ -23,10 +23,16 @@ abbrev μ-loop : tie.MeasureT-loop
 μ-loop text at word n₀ n = length word - n
 
 loop-holds : tie.Need-loop-holds Inv-loop μ-loop
-loop-holds c = (omega (arith, c .before .before .pre), omega arith, let e : c .before .before .args .at + 0 ≡ c .before .before .args .at = omega arith in rw e (spelt-start (c .before .before .args .word .now) (drop (c .before .before .args .at) (c .before .before .args .text .now))))
+loop-holds c =
+    let b : tie.Start Inv-loop μ-loop = search in
+    let e : b .args .at + 0 ≡ b .args .at = omega arith in
+    (omega (arith, b .pre), omega arith, rw e (spelt-start (b .args .word .now) (drop (b .args .at) (b .args .text .now))))
 
 add-stands : tie.Need-add-stands Inv-loop μ-loop
-add-stands c = record { fits = omega (arith, c .before .loop .inv .0, c .before .before .before .before .good .0 .0) }
+add-stands c =
+    let b : tie.Start Inv-loop μ-loop = search in
+    let i : tie.At-loop Inv-loop μ-loop = search in
+    record { fits = omega (arith, i .loop .inv .0, b .good .0 .0) }
 
 shared-slice-read-stands : tie.Need-shared-slice-read-stands Inv-loop μ-loop
 shared-slice-read-stands c = search needs
@@ -34,20 +40,57 @@ shared-slice-read-stands c = search needs
 stands-requires : tie.Need-stands-requires Inv-loop μ-loop
 stands-requires c κs = search needs
 
+-- behind the question whether the next letter stands there
+module _ (s : tie.After-stands Inv-loop μ-loop) where
+  abbrev begin : tie.Start Inv-loop μ-loop
+  begin = search
+
+  abbrev turn : tie.At-loop Inv-loop μ-loop
+  turn = search
+
+  abbrev inside : tie.In-loop Inv-loop μ-loop
+  inside = search
+
+  place : ℕ
+  place = begin .args .at + turn .loop .n
+
 returns : tie.Need-returns Inv-loop μ-loop
-returns c = let l = c .before .before .before .before .before .before .before .args .text .now in let i = c .before .before .before .before .before .before .before .args .at + c .before .before .before .before .loop .n in let e = spelt-less (c .before .before .before .before .before .before .before .args .word .now) (drop i l) (c .before .before .before .before .loop .n) (c .before .before .before .loop-test .taken) (sym (c .before .stands .ensures) ∙ not-true _ (c .if1 .taken)) in omega (arith, c .before .before .before .before .loop .inv .2, e)
+unfolding place
+returns c =
+    let s : tie.After-stands Inv-loop μ-loop = search in
+    let a = begin s .args in
+    let e = spelt-less (a .word .now) (drop (place s) (a .text .now)) (turn s .loop .n) (inside s .loop-test .taken)
+    (sym (s .stands .ensures) ∙ not-true _ (c .if1 .taken)) in
+    omega (arith, turn s .loop .inv .2, e)
 
 add-n : tie.Need-add-n Inv-loop μ-loop
 add-n c = search needs
 
 loop-less : tie.Need-loop-less Inv-loop μ-loop
-loop-less c = omega (arith, c .before .before .before .loop-test .taken)
+loop-less c = let i : tie.In-loop Inv-loop μ-loop = search in omega (arith, i .loop-test .taken)
 
 loop-again : tie.Need-loop-again Inv-loop μ-loop
-loop-again c = let l = c .before .before .before .before .before .before .before .args .text .now in let w = c .before .before .before .before .before .before .before .args .word .now in let n = c .before .before .before .before .loop .n in let i = c .before .before .before .before .before .before .before .args .at + n in let h = sym (c .before .stands .ensures) ∙ not-false _ (c .if1 .left) in let k = head-within l i (getD w n 0) h in let e : spelt (drop n w) (drop i l) ≡ suc (spelt (drop (n + 1) w) (drop (i + 1) l)) = spelt-more w (drop i l) n (c .before .before .before .loop-test .taken) h ∙ ap (λ (t : List ℕ). suc (spelt (drop (n + 1) w) t)) (drop-one i l) in let f : c .before .before .before .before .before .before .before .args .at + (n + 1) ≡ i + 1 = omega arith in (omega arith, omega (arith, c .before .before .before .loop-test .taken), rw f (omega (arith, c .before .before .before .before .loop .inv .2, e)))
+unfolding place
+loop-again c =
+    let s : tie.After-stands Inv-loop μ-loop = search in
+    let a = begin s .args in
+    let l = a .text .now in
+    let w = a .word .now in
+    let n = turn s .loop .n in
+    let i = place s in
+    let h = sym (s .stands .ensures) ∙ not-false _ (c .if1 .left) in
+    let k = head-within l i (getD w n 0) h in
+    let e : spelt (drop n w) (drop i l) ≡ suc (spelt (drop (n + 1) w) (drop (i + 1) l)) =
+    spelt-more w (drop i l) n (inside s .loop-test .taken) h ∙ ap (λ (t : List ℕ). suc (spelt (drop (n + 1) w) t)) (drop-one i l) in
+    let f : a .at + (n + 1) ≡ i + 1 = omega arith in
+    (omega arith, omega (arith, inside s .loop-test .taken), rw f (omega (arith, turn s .loop .inv .2, e)))
 
 returns-2 : tie.Need-returns-2 Inv-loop μ-loop
-returns-2 c = let e = spelt-end (c .before .before .before .before .args .word .now) (drop (c .before .before .before .before .args .at + c .before .loop .n) (c .before .before .before .before .args .text .now)) (c .before .loop .n) (c .loop-test .left) in omega (arith, c .before .loop .inv .2, e)
+returns-2 c =
+    let b : tie.Start Inv-loop μ-loop = search in
+    let i : tie.At-loop Inv-loop μ-loop = search in
+    let e = spelt-end (b .args .word .now) (drop (b .args .at + i .loop .n) (b .args .text .now)) (i .loop .n) (c .loop-test .left) in
+    omega (arith, i .loop .inv .2, e)
 
 pub letters-spec : {M : Type 1} → statement M
 letters-spec =

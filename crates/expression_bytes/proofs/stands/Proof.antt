@@ -10,7 +10,10 @@ shared-slice-read-result : tie.Need-shared-slice-read-result
 shared-slice-read-result c = search needs
 
 returns : tie.Need-returns
-returns c = let a = c .before .before .args in sym (head-here (a .text .now) (a .at) (a .b) (c .before .if1 .taken))
+returns c =
+    let b : tie.Start = search in
+    let n : tie.Then1 = search in
+    sym (head-here (b .args .text .now) (b .args .at) (b .args .b) (n .if1 .taken))
 
 returns-2 : tie.Need-returns-2
 returns-2 c = let a = c .before .args in sym (head-none (a .text .now) (a .at) (a .b) (c .if1 .left))

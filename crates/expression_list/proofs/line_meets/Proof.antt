@@ -69,8 +69,11 @@ module _ (x : tie.After-known-told) where
   abbrev more : Bool
   more = x .before .m .given .0 .1 .0
 
+  abbrev asked : tie.After-simple-at
+  asked = search
+
   found : simpleAt (drop (i begun) (list begun)) ≡ Of m more
-  found = sym (x .before .before .before .simple-at .ensures) ∙ x .before .m .given .1
+  found = sym (asked .simple-at .ensures) ∙ x .before .m .given .1
 
   fits : behind m more ≤ length (drop (i begun) (list begun))
   fits = rw found at (simple-fits (drop (i begun) (list begun)))

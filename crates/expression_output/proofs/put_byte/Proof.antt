@@ -8,10 +8,14 @@ use Rattle.expression_output.proofs.put_byte.Statement.{statement}
 use Rattle.expression_output.proofs.put_byte.Tie as tie
 
 returns : tie.Need-returns
-returns c = let a = c .before .before .args in (sym (overlay-one (a .o) (a .b) (a .out .now)), omega arith)
+returns c = let b : tie.Start = search in let a = b .args in (sym (overlay-one (a .o) (a .b) (a .out .now)), omega arith)
 
 returns-2 : tie.Need-returns-2
-returns-2 c = let a = c .before .before .before .args in (sym (overlay-beyond (a .o) _ (a .out .now) (c .before .if1 .left)), c .onward .ensures)
+returns-2 c =
+    let b : tie.Start = search in
+    let n : tie.Else1 = search in
+    let a = b .args in
+    (sym (overlay-beyond (a .o) _ (a .out .now) (n .if1 .left)), c .onward .ensures)
 
 pub put-byte-spec : {M : Type 1} → statement M
 put-byte-spec =

@@ -9,16 +9,19 @@ use Rattle.expression_output.proofs.put_bytes.Tie as tie
 
 returns : tie.Need-returns
 returns c =
-    let a = c .before .before .before .before .args in
-    (sym (overlay-beyond (a .o) _ (a .out .now) (c .before .if1 .taken)), c .onward .ensures)
+    let b : tie.Start = search in
+    let n : tie.Then1 = search in
+    let a = b .args in
+    (sym (overlay-beyond (a .o) _ (a .out .now) (n .if1 .taken)), c .onward .ensures)
 
 returns-2 : tie.Need-returns-2
 returns-2 c =
     let b : tie.Start = search in
     let a = b .args in
-    let u = c .before .before .before in
-    let l = u .before .before in
-    (u .copy-to .ensures .1 ∙ part-copied (a .at) (a .n) (a .src .now) (b .pre) (a .o) _ (a .out .now) (l .before .if1 .left) (l .least .ensures), c .onward2 .ensures)
+    let u : tie.After-copy-to = search in
+    let l : tie.After-least = search in
+    let n : tie.Else1 = search in
+    (u .copy-to .ensures .1 ∙ part-copied (a .at) (a .n) (a .src .now) (b .pre) (a .o) _ (a .out .now) (n .if1 .left) (l .least .ensures), c .onward2 .ensures)
 
 pub put-bytes-spec : {M : Type 1} → statement M
 put-bytes-spec =

@@ -22,8 +22,8 @@ returns-2 c =
     let b : tie.Start = search in
     let a = b .args in
     let x = take (a .n) (drop (a .x) (a .text .now)) in
-    let u = c .before .before in
-    let v = u .before .before .before .before in
+    let u : tie.After-put-bytes = search in
+    let v : tie.After-put-word = search in
     rw (exception-some x (omega (arith, part-length (a .x) (a .n) (a .text .now) (b .pre))))
     (put-then (a .o) (32 ∷ 87 ∷ 73 ∷ 84 ∷ 72 ∷ 32 ∷ []) x (a .out .now) (omega arith) (v .put-word .ensures)
     (part-put (a .x) (a .n) (a .text .now) (b .pre) _ _ (u .put-bytes .ensures)))

@@ -20,9 +20,9 @@ returns c =
     let w = take (a .n) (drop (a .at) (a .text .now)) in
     let p : List ℕ = cond (a .plus) (43 ∷ []) [] in
     let e = spellExc (take (a .xn) (drop (a .x) (a .text .now))) in
-    let u = c .before .before in
-    let v = u .before .before .before .before in
-    let y = v .before .before .before .before in
+    let u : tie.After-put-exception = search in
+    let v : tie.After-put-plus = search in
+    let y : tie.After-put-bytes = search in
     let l : length (a .out .now) < 18446744073709551616 = omega (arith, b .good .1 .1 .1 .1 .1 .1 .0 .0) in
     let f = part-put (a .at) (a .n) (a .text .now) (b .pre .0) _ _ (y .put-bytes .ensures) in
     rw (← append-assoc w p e) (put-then (a .o) (w ++ p) e (a .out .now) l (put-then (a .o) w p (a .out .now) l f (v .put-plus .ensures)) (u .put-exception .ensures))

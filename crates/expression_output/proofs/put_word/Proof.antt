@@ -13,7 +13,8 @@ returns : tie.Need-returns
 returns c =
     let b : tie.Start = search in
     let a = b .args in
-    let u = c .before .before .put-bytes .ensures in
+    let e : tie.After-put-bytes = search in
+    let u = e .put-bytes .ensures in
     (u .0 ∙ ap (λ (w : List ℕ). overlay (a .o) w (a .out .now)) (take-length (a .word .now)), u .1)
 
 pub put-word-spec : {M : Type 1} → statement M

@@ -15,36 +15,47 @@ abbrev μ-loop : tie.MeasureT-loop
 μ-loop or out₀ from to end c₀ i₀ out c i = end - i
 
 returns : tie.Need-returns Inv-loop μ-loop
-returns c = let a = c .before .before .args in rw (not-true (a .or) (c .if1 .taken)) (wrapped-none (a .from) (a .to) (a .out .now))
+returns c = let b : tie.Start Inv-loop μ-loop = search in let a = b .args in rw (not-true (a .or) (c .if1 .taken)) (wrapped-none (a .from) (a .to) (a .out .now))
 
 loop-holds : tie.Need-loop-holds Inv-loop μ-loop
 loop-holds c = shifting-start _ _ _ _
 
 slice-read-b : tie.Need-slice-read-b Inv-loop μ-loop
-slice-read-b c = let l = c .before .before in omega (arith, shifting-long (l .loop .inv), l .before .least .ensures)
+slice-read-b c =
+    let l : tie.At-loop Inv-loop μ-loop = search in
+    let e : tie.After-least Inv-loop μ-loop = search in
+    omega (arith, shifting-long (l .loop .inv), e .least .ensures)
 
 slice-write-out : tie.Need-slice-write-out Inv-loop μ-loop
-slice-write-out c = let l = c .before .before in omega (arith, shifting-long (l .loop .inv), l .before .least .ensures)
+slice-write-out c =
+    let l : tie.At-loop Inv-loop μ-loop = search in
+    let e : tie.After-least Inv-loop μ-loop = search in
+    omega (arith, shifting-long (l .loop .inv), e .least .ensures)
 
 loop-again : tie.Need-loop-again Inv-loop μ-loop
-loop-again c = let l = c .before .before in shifting-next (l .loop .inv) (c .before .loop-test .taken) (omega (arith, l .before .least .ensures))
+loop-again c =
+    let l : tie.At-loop Inv-loop μ-loop = search in
+    let i : tie.In-loop Inv-loop μ-loop = search in
+    let e : tie.After-least Inv-loop μ-loop = search in
+    shifting-next (l .loop .inv) (i .loop-test .taken) (omega (arith, e .least .ensures))
 
 same-length : tie.Need-same-length Inv-loop μ-loop
 same-length c =
-    let u = c .before .before in
-    let v = u .before .before .before .before in
-    let l = v .before .before .before in
+    let l : tie.At-loop Inv-loop μ-loop = search in
     omega (arith, shifting-long (l .loop .inv))
 
 returns-2 : tie.Need-returns-2 Inv-loop μ-loop
 returns-2 c =
-    let u = c .before .before in
-    let v = u .before .before .before .before in
-    let t = v .before .before in
-    let l = t .before in
-    let a = l .before .before .before .before .args in
-    rw (not-false (a .or) (l .before .before .if1 .left))
-    (wrapped (a .to) (l .loop .inv) (t .loop-test .left) (l .before .least .ensures) (omega arith) (v .put-byte .ensures) (u .put-byte2 .ensures))
+    let u : tie.After-put-byte2 Inv-loop μ-loop = search in
+    let v : tie.After-put-byte Inv-loop μ-loop = search in
+    let t : tie.After-loop Inv-loop μ-loop = search in
+    let l : tie.At-loop Inv-loop μ-loop = search in
+    let e : tie.After-least Inv-loop μ-loop = search in
+    let n : tie.Else1 Inv-loop μ-loop = search in
+    let b : tie.Start Inv-loop μ-loop = search in
+    let a = b .args in
+    rw (not-false (a .or) (n .if1 .left))
+    (wrapped (a .to) (l .loop .inv) (t .loop-test .left) (e .least .ensures) (omega arith) (v .put-byte .ensures) (u .put-byte2 .ensures))
 
 pub wrap-spec : {M : Type 1} → statement M
 wrap-spec =
