@@ -266,8 +266,9 @@ typedef struct { uint32_t refusal; bool satisfied; size_t place; } chultarvi_exp
 chultarvi_expression_satisfied chultarvi_satisfy(const uint8_t *text, size_t text_len, const uint8_t *list, size_t list_len);
 
 /* Writes the text back: single blanks, parts and operators in their order and letters, parentheses only round an OR under an AND. The same lists satisfy
-   it, and written again it stays (proved: same-satisfied, spell-twice, crates/expression_spelling/proofs). It stands at the front of out; len: its bytes,
-   at most CHULTARVI_SPELLED_MOST of text_len (proved: spelled-fits). Where it is refused len is 0 and nothing is written. Refusals 13, 14, then 11. */
+   it, and written again it stays (proved: written-same, written-again, crates/expression_job/proofs). It stands at the front of out; len: its bytes, at most
+   CHULTARVI_SPELLED_MOST of text_len, so that an out of as many is never too short (proved: written-most, room-enough). Where it is refused len is 0 and
+   nothing is written. Refusals 13, 14, then 11. */
 #define CHULTARVI_SPELLED_MOST(n) ((n) + (n) / 5)
 typedef struct { uint32_t refusal; size_t place, len; } chultarvi_expression_spelled;
 chultarvi_expression_spelled chultarvi_write_expression(const uint8_t *text, size_t text_len, uint8_t *out, size_t out_len);
