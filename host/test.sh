@@ -2,7 +2,8 @@
 # shellcheck disable=SC1091,SC2086,SC2154
 # Passes all tests of the host: builds what is missing, runs host/tests/callers.sh, host/tests/face.c and expressions.c compiled as C and as C++,
 # oracle/rows.py --quick, oracle/expressions_rows.py --quick, oracle/unicode.py, and expressions.py, line.sh, desk.sh, commands.sh, editions.sh,
-# accents.sh, expressions.sh, drivers.sh, measure.sh and install.sh of host/tests. All that it makes stands in a folder of its own under target/, so that several runs at once do not meet.
+# accents.sh, expressions.sh, drivers.sh, measure.sh and install.sh of host/tests. All that it makes stands in a folder of its own under target/, so
+# that several runs at once do not meet.
 # The last line is 'N passed, M failed', the sum; the exit status is 0 only where M is 0.
 set -eu
 root=$(cd "$(dirname "$(readlink -f "$0")")/.." && pwd)

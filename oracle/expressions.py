@@ -72,6 +72,11 @@ def tree_of(text):
     return tree if end == len(text) else None
 
 
+def parts_of(tree):
+    """Its parts, in their order."""
+    return [tree] if tree[0] == "part" else [part for each in tree[1:] for part in parts_of(each)]
+
+
 # ---- refusals ------------------------------------------------------------------------------------------------------------------------------
 
 # how a text may go on: behind a word, within one, in a reference; the last is a name by itself. Closing parentheses are added to each.

@@ -164,10 +164,6 @@ def texts(seed, number):
     yield from (text.encode("latin-1") for text in PICKED)
 
 
-def parts_of(tree):
-    return [tree] if tree[0] == "part" else [part for each in tree[1:] for part in parts_of(each)]
-
-
 def beside(part):
     """Itself, and parts that are almost it: with or without `+`, without the exception."""
     kind, name, plus, exception = part
@@ -199,7 +195,7 @@ class Tally:
 
     def hold(self, packages, text, rng):
         word, tree = expressions.expression(text)
-        parts = parts_of(tree) if word == "tree" else []
+        parts = expressions.parts_of(tree) if word == "tree" else []
         lists = lists_for(rng, parts)
         ours = [expressions.satisfied("\n".join(lines).encode(), text) for lines in lists] if parts else None
         answers = {name: package.ask(text, [[line.lower() for line in lines] for lines in lists]) for name, package in packages.items()}

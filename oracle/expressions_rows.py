@@ -36,23 +36,12 @@ Row = collections.namedtuple("Row", "text accepted out")
 # ---- questions -----------------------------------------------------------------------------------------------------------------------------
 
 
-def parts_of(tree):
-    if tree[0] == "part":
-        return [expressions.spelled(tree)]
-    return [part for each in tree[1:] for part in parts_of(each)]
-
-
-def almost(rng, line):
-    ways = [line + b"+", line.replace(b"+", b""), line + b" ", b" " + line, line + b"\r", line + b" WITH x", line.split(b" ")[0], line[:-1], line + b"a"]
-    return rng.choice(ways)
-
-
 def accepted_by(rng, text):
     """A list that has some of the text's parts, letter case aside, and others."""
     word, tree = expressions.expression(text)
-    parts = parts_of(tree) if word == "tree" else [b"a", b"MIT"]
+    parts = [expressions.spelled(part) for part in expressions.parts_of(tree)] if word == "tree" else [b"a", b"MIT"]
     kept = [part.swapcase().replace(b" with ", b" WITH ") if rng.random() < 0.4 else part for part in parts if rng.random() < 0.8]
-    others = [almost(rng, rng.choice(parts)) for _ in range(rng.randrange(3))] + rng.sample([b"", b"AND", b"(a)", b"a OR b", b"zz", b"a  WITH b"], 2)
+    others = [expressions_compare.beside(rng, rng.choice(parts)) for _ in range(rng.randrange(3))] + rng.sample([b"", b"AND", b"(a)", b"a OR b", b"zz", b"a  WITH b"], 2)
     lines = kept + others
     rng.shuffle(lines)
     return b"\n".join(lines) + rng.choice([b"", b"\n"])

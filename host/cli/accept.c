@@ -25,14 +25,6 @@ chultarvi_expression_spelled written_form(part text, uint8_t **bytes) {
     return w;
 }
 
-void put_short(FILE *to, part bytes, size_t most) {
-    size_t len = bytes.len < most ? bytes.len : most;
-    /* not within a character, which has at most three bytes behind its first: 80 to BF */
-    for (int i = 0; i < 3 && len < bytes.len && len > 0 && (bytes.bytes[len] & 0xc0) == 0x80; i++) len--;
-    put_plain_bytes(to, (part){bytes.bytes, len});
-    if (len < bytes.len) fputs("..", to);
-}
-
 /* What to write instead of a line that is no part: the same as the library writes it, each part of several, or something else. */
 static void put_advice(FILE *to, part line) {
     uint8_t *bytes;

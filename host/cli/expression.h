@@ -13,8 +13,6 @@ enum { SHOWN_MOST = 60 };
 typedef struct { uint8_t *bytes; size_t len; } accepted_parts;
 /* From lists and from single parts. What is no part in a list is warned of. False where a list cannot be read or a single part is none, which is said. */
 bool accept_parts(accepted_parts *to, word_list lists, word_list parts);
-/* At most so many bytes, as a person may see them; what is left out is said by two dots. */
-void put_short(FILE *to, part bytes, size_t most);
 /* As the library writes it; the caller frees the bytes. Where it is refused they are null. */
 chultarvi_expression_spelled written_form(part text, uint8_t **bytes);
 

@@ -52,6 +52,8 @@ const char *plural(size_t count);
 /* A file name as a person may see it: controls and bytes that are no UTF-8 are written \n, \t, \xHH, a backslash twice. Or any bytes, so. */
 void put_plain(FILE *to, const char *name);
 void put_plain_bytes(FILE *to, part bytes);
+/* The same of at most so many bytes; what is left out is said by two dots. */
+void put_short(FILE *to, part bytes, size_t most);
 /* A JSON string with its quotes. A byte that is no UTF-8 is written as \udcHH, which says which byte it was. */
 void put_json(FILE *to, const char *bytes, size_t len);
 const char *kind_words(uint32_t kind);

@@ -49,6 +49,14 @@ void put_plain_bytes(FILE *to, part bytes) {
     }
 }
 
+void put_short(FILE *to, part bytes, size_t most) {
+    size_t len = bytes.len < most ? bytes.len : most;
+    /* not within a character, which has at most three bytes behind its first: 80 to BF */
+    for (int i = 0; i < 3 && len < bytes.len && len > 0 && (bytes.bytes[len] & 0xc0) == 0x80; i++) len--;
+    put_plain_bytes(to, (part){bytes.bytes, len});
+    if (len < bytes.len) fputs("..", to);
+}
+
 void put_json(FILE *to, const char *bytes, size_t len) {
     const uint8_t *p = (const uint8_t *)bytes;
     fputc('"', to);

@@ -1,6 +1,7 @@
 /* Shows that both calls on licence expressions are linear in the text: a text of n bytes and of 2n, of each kind that could be slow, timed in one run; and
    how `satisfy` grows with its list. Build and run: host/drivers/chains.sh. Nothing here is part of the gate. */
 #include "../../include/chultarvi.h"
+#include "../chain.h"
 #include <stdio.h>
 #include <stdlib.h>
 #include <string.h>
@@ -13,30 +14,16 @@ static size_t list_len;
 static void stop(const char *why) { fprintf(stderr, "chains: %s\n", why); exit(2); }
 
 /* ---- the kinds: each fills at most n bytes, and gives how many */
-static size_t repeat(size_t n, const char *unit, const char *last) {
-    size_t k = strlen(unit), end = strlen(last), whole = (n - end) / k * k;
-    for (size_t i = 0; i < whole; i++) text[i] = (uint8_t)unit[i % k];
-    memcpy(text + whole, last, end);
-    return whole + end;
-}
-static size_t ands(size_t n) { return repeat(n, "a AND ", "a"); }
-static size_t ors(size_t n) { return repeat(n, "a OR ", "a"); }
-static size_t wrapped(size_t n) { return repeat(n, "(a OR b)AND", "(a OR b)"); }
-static size_t exceptions(size_t n) { return repeat(n, "a+ WITH b OR ", "a"); }
-static size_t one_name(size_t n) { return repeat(n, "a", "a"); }
+static size_t ands(size_t n) { return put_chain(text, n, "a AND ", "a"); }
+static size_t ors(size_t n) { return put_chain(text, n, "a OR ", "a"); }
+static size_t wrapped(size_t n) { return put_chain(text, n, "(a OR b)AND", "(a OR b)"); }
+static size_t exceptions(size_t n) { return put_chain(text, n, "a+ WITH b OR ", "a"); }
+static size_t one_name(size_t n) { return put_chain(text, n, "a", "a"); }
 static size_t one_reference(size_t n) { memcpy(text, "DocumentRef-a:LicenseRef-", 25); memset(text + 25, 'b', n - 25); return n; }
-static size_t blanks(size_t n) { return repeat(n, " ", "a"); }
-static size_t opened(size_t n) { return repeat(n, "(", "("); }
-/* 32 groups in one another, each an OR under an AND: `x AND (y OR x AND (y OR ..` with a chain within, so that the most bytes move most often */
-static size_t nested(size_t n) {
-    static const char front[] = "x AND (y OR ";
-    size_t head = 32 * (sizeof front - 1), tail = 32;
-    size_t inner = repeat(n - head - tail, "a AND ", "a");
-    memmove(text + head, text, inner);
-    for (size_t i = 0; i < head; i++) text[i] = (uint8_t)front[i % (sizeof front - 1)];
-    memset(text + head + inner, ')', tail);
-    return head + inner + tail;
-}
+static size_t blanks(size_t n) { return put_chain(text, n, " ", "a"); }
+static size_t opened(size_t n) { return put_chain(text, n, "(", "("); }
+/* the most bytes move most often */
+static size_t nested(size_t n) { return put_groups(text, n, CHULTARVI_DEPTH_MOST, "a AND ", "a"); }
 
 static const struct kind { const char *name; size_t (*fill)(size_t); uint32_t refusal; } kinds[] = {
     {"`a AND a AND ..`", ands, 0},        {"`a OR a OR ..`", ors, 0},        {"`(a OR b)AND..`", wrapped, 0},

@@ -1,5 +1,6 @@
 /* How much stack each export takes: it runs in a thread whose stack was painted before, and the paint that is gone is counted, less what a
    thread takes that calls nothing. Build and run: host/drivers/stack.sh. Nothing here is part of the gate. */
+#include "../chain.h"
 #include "../records.h"
 #include <pthread.h>
 #include <stdio.h>
@@ -99,17 +100,6 @@ static text_t accented(text_t from) {
     }
     return t;
 }
-/* the unit over and over and `a`, in so many groups that the text has at most n bytes */
-static text_t chain(size_t n, const char *unit, size_t groups) {
-    static const char front[] = "x AND (y OR ";
-    size_t k = strlen(unit), f = sizeof front - 1;
-    text_t t = {room(n), 0, 1};
-    while (t.len < groups * f) t.bytes[t.len] = (uint8_t)front[t.len % f], t.len++;
-    for (size_t left = (n - t.len - groups - 1) / k; left > 0; left--, t.len += k) memcpy(t.bytes + t.len, unit, k);
-    t.bytes[t.len++] = 'a';
-    for (size_t i = 0; i < groups; i++) t.bytes[t.len++] = ')';
-    return t;
-}
 /* two licences, the first a piece of the text, so that a scan finds what it must look at again */
 static void make_book(text_t text) {
     size_t area_len = chultarvi_area_bytes(text.len), words_len = chultarvi_area_words(text.len), out_len = chultarvi_table_bytes(text.len);
@@ -166,7 +156,8 @@ static void expressions(void) {
     };
     for (size_t i = 0; i < sizeof kinds / sizeof *kinds; i++)
         for (size_t n = 1024; n <= CHULTARVI_TEXT_MOST; n *= 1024) {
-            text_t text = chain(n, kinds[i].unit, kinds[i].groups);
+            text_t text = {room(n), 0, 1};
+            text.len = put_groups(text.bytes, n, kinds[i].groups, kinds[i].unit, "a");
             printf("%s, %zu bytes: write_expression %zu, satisfy %zu bytes of stack\n", kinds[i].title, text.len, used(text, write_expression),
                    used(text, satisfy));
             free(text.bytes);

@@ -2,6 +2,7 @@
    refusal with the neighbour that is not refused; after each call what text, list, output and the bytes behind them hold; texts of 1 MiB. Prints what
    fails, then 'N passed, M failed'. */
 #include "../../include/chultarvi.h"
+#include "../chain.h"
 #include <assert.h>
 #include <stdio.h>
 #include <stdlib.h>
@@ -175,16 +176,7 @@ static void test_lent(void) {
     static_assert(CHULTARVI_DEPTH_MOST == 32, "depth");
 }
 
-/* The unit over and over, and a byte behind it, up to 1 MiB. */
 enum { LARGE = 1048576 };
-static uint8_t *repeated(const char *unit, char last, size_t *len) {
-    size_t n = strlen(unit);
-    uint8_t *p = garbage(LARGE);
-    *len = (LARGE - 1) / n * n;
-    for (size_t i = 0; i < *len; i++) p[i] = (uint8_t)unit[i % n];
-    p[(*len)++] = (uint8_t)last;
-    return p;
-}
 /* What is written is the text, with a blank behind each `)` that AND follows at once. */
 static bool is_grown(const uint8_t *text, const uint8_t *out, size_t grown) {
     bool due = false;
@@ -196,19 +188,18 @@ static bool is_grown(const uint8_t *text, const uint8_t *out, size_t grown) {
 }
 /* more: by how many bytes each unit grows when it is written */
 static void test_large(void) {
-    static const struct { const char *unit; char last; uint32_t refusal; size_t place, more; bool satisfied; } texts[] = {
-        {"a AND ", 'b', 0, 0, 0, true},         {"a AND ", 'x', 0, 0, 0, false},
-        {"x OR ", 'b', 0, 0, 0, true},          {"x OR ", 'y', 0, 0, 0, false},
-        {"(a OR x)AND ", 'b', 0, 0, 1, true},   {"(a OR b)AND ", 'x', 0, 0, 1, false},
-        {"a", '+', 0, 0, 0, false},             {"(", '(', 14, 32, 0, false},
-        {"a+ ", 'b', 13, 3, 0, false},          {"LicenseRef-a", ':', 13, 1048572, 0, false},
-        {"(a OR(b))AND", ')', 13, 1048572, 0, false},
+    static const struct { const char *unit, *last; uint32_t refusal; size_t place, more; bool satisfied; } texts[] = {
+        {"a AND ", "b", 0, 0, 0, true},         {"a AND ", "x", 0, 0, 0, false},
+        {"x OR ", "b", 0, 0, 0, true},          {"x OR ", "y", 0, 0, 0, false},
+        {"(a OR x)AND ", "b", 0, 0, 1, true},   {"(a OR b)AND ", "x", 0, 0, 1, false},
+        {"a", "+", 0, 0, 0, false},             {"(", "(", 14, 32, 0, false},
+        {"a+ ", "b", 13, 3, 0, false},          {"LicenseRef-a", ":", 13, 1048572, 0, false},
+        {"(a OR(b))AND", ")", 13, 1048572, 0, false},
     };
     uint8_t *out = garbage(CHULTARVI_SPELLED_MOST(LARGE));
     for (size_t i = 0; i < sizeof texts / sizeof *texts; i++) {
-        size_t len;
-        uint8_t *text = repeated(texts[i].unit, texts[i].last, &len);
-        size_t grown = len + (len - 1) / strlen(texts[i].unit) * texts[i].more;
+        uint8_t *text = garbage(LARGE);
+        size_t len = put_chain(text, LARGE, texts[i].unit, texts[i].last), grown = len + (len - 1) / strlen(texts[i].unit) * texts[i].more;
         chultarvi_expression_spelled w = chultarvi_write_expression(text, len, out, CHULTARVI_SPELLED_MOST(len));
         check(w.refusal == texts[i].refusal && w.place == texts[i].place && w.len == (w.refusal ? 0 : grown), "1 MiB", texts[i].unit);
         if (!w.refusal) check(is_grown(text, out, grown), "1 MiB, written", texts[i].unit);

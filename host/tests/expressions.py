@@ -24,16 +24,13 @@ def texts(rng):
     return [text.replace(b"\n", b"").replace(b"\0", b"").rstrip(b"\r") for text in drawn]
 
 
-def parts_of(tree):
-    return [expressions.spelled(tree)] if tree[0] == "part" else [part for each in tree[1:] for part in parts_of(each)]
-
-
 def expected(text, accepted):
     word, tree = expressions.expression(text)
     if word != "tree":
         return {"refusal": word, "place": tree}
-    each = {part.lower(): part for part in reversed(parts_of(tree))}  # letter case aside, where it stands first
-    unmet = [part.decode() for part in sorted(each.values(), key=parts_of(tree).index) if not expressions.satisfied(accepted, part)]
+    parts = [expressions.spelled(part) for part in expressions.parts_of(tree)]
+    first = {part.lower(): part for part in reversed(parts)}  # letter case aside, where it stands first
+    unmet = [part.decode() for part in sorted(first.values(), key=parts.index) if not expressions.satisfied(accepted, part)]
     return {"refusal": 0, "written": expressions.written(text).decode(), "satisfied": expressions.satisfied(accepted, text), "unmet": unmet}
 
 

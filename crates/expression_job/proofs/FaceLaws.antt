@@ -45,15 +45,16 @@ module _ {s out₀ out : List ℕ} {r : Spelled} (w : WriteDone s out₀ out r) 
   by-verdict : (v : Verdict) → verdict s ≡ v → r ≡ spelledAs v (length out₀)
   by-verdict v e = w .answer ∙ ap (λ (u : Verdict). spelledAs u (length out₀)) e
 
-  no-refusal : (k p : ℕ) → verdict s ≡ refused k p → r .refusal ≡ 0 → ⊥
+  -- a text that is refused is answered by 13 or 14
+  at-least : (k p : ℕ) → verdict s ≡ refused k p → 13 ≤ r .refusal
   unfolding spelledAs
-  no-refusal k p e z = either (refused-number s k p e) where
+  at-least k p e = either (refused-number s k p e) where
     is : r .refusal ≡ k
     is = ap refusalOf (by-verdict (refused k p) e)
 
-    either : (k ≡ 13) ⊎ (k ≡ 14) → ⊥
-    either (inl h) = absurd (omega (arith, is, z, h))
-    either (inr h) = absurd (omega (arith, is, z, h))
+    either : (k ≡ 13) ⊎ (k ≡ 14) → 13 ≤ r .refusal
+    either (inl h) = omega (arith, is, h)
+    either (inr h) = omega (arith, is, h)
 
   pub write-answered : r .refusal ≡ 0 → Written s out r
   unfolding spelledAs writtenAs over
@@ -67,7 +68,7 @@ module _ {s out₀ out : List ℕ} {r : Spelled} (w : WriteDone s out₀ out r) 
 
     on : (v : Verdict) → verdict s ≡ v → Written s out r
     on (accepted t) e = fits t e (ltb (length out₀) (length (spell t))) refl
-    on (refused k p) e = absurd (no-refusal k p e z)
+    on (refused k p) e = absurd (omega (arith, at-least k p e, z))
 
   -- ---- what stands there is read as the flat tree
   again-read : (a : Written s out r) → verdict (take (r .len) out) ≡ accepted (flat (a .tree))
@@ -116,14 +117,10 @@ written-most {s} w z = let a = write-answered w z in rw (a .size) (spelled-fits 
 pub room-enough : {s out₀ out : List ℕ} {r : Spelled} → WriteDone s out₀ out r → length s + length s / 5 ≤ length out₀ → r .refusal ≡ 11 → ⊥
 unfolding spelledAs
 room-enough {s} {out₀} {out} {r} w h z = on (verdict s) refl where
-  eleven : (k p : ℕ) → verdict s ≡ refused k p → (k ≡ 13) ⊎ (k ≡ 14) → ⊥
-  eleven k p e (inl i) = let q : r .refusal ≡ k = ap refusalOf (by-verdict w (refused k p) e) in absurd (omega (arith, q, z, i))
-  eleven k p e (inr i) = let q : r .refusal ≡ k = ap refusalOf (by-verdict w (refused k p) e) in absurd (omega (arith, q, z, i))
-
   on : (v : Verdict) → verdict s ≡ v → ⊥
   on (accepted t) e =
       let m = spelled-fits s t e in
       let f : ltb (length out₀) (length (spell t)) ≡ false = le-ltb (length out₀) (length (spell t)) (omega (arith, m, h)) in
       let q : r .refusal ≡ 0 = ap refusalOf (by-verdict w (accepted t) e) ∙ rw f in
       absurd (omega (arith, q, z))
-  on (refused k p) e = eleven k p e (refused-number s k p e)
+  on (refused k p) e = absurd (omega (arith, at-least w k p e, z))

@@ -290,50 +290,6 @@ unfoldable pub count : ℕ → List ℕ → ℕ
 count b [] = 0
 count b (x ∷ xs) = one b x + count b xs
 
--- the byte n places on is a parenthesis, and of those before it and the levels d before all 32 are open
-record Sunk (s : List ℕ) (d p r : ℕ) : Type 0 where
-  pub n : ℕ
-  pub place : r ≡ p + n
-  pub inside : n < length s
-  pub paren : getD s n 0 ≡ 40
-  pub all-open : d + count 40 (take n s) ≡ depthMost + count 41 (take n s)
-
-step-sunk : (b : ℕ) (bs : List ℕ) (fs : List Level) (p r : ℕ)
-    → ((c : Ctl) (l : Level) (gs : List Level) → State c gs → run bs c l gs (p + 1) ≡ refused 14 r → Sunk bs (length gs) (p + 1) r)
-    → (m : Move) → Good b fs m → follow p (λ c l gs. run bs c l gs (p + 1)) m ≡ refused 14 r → Sunk (b ∷ bs) (length fs) p r
-unfolding follow count
-step-sunk b bs fs p r ih m dies e = let z : _≡_ {A = ℕ} 13 14 = cc in absurd (omega arith)
-step-sunk b bs fs p r ih m (sinks f g) e =
-    let q : r ≡ p = cc in
-    record { n = 0; place = omega arith; inside = omega arith; paren = f; all-open = omega arith }
-step-sunk b bs fs p r ih m (goes c l gs st q) e =
-    let k = ih c l gs st e in
-    record {
-      n = suc (k .n);
-      place = omega (arith, k .place);
-      inside = omega (arith, k .inside);
-      paren = k .paren;
-      all-open = omega (arith, k .all-open, q);
-    }
-
-run-sunk : (s : List ℕ) (c : Ctl) (l : Level) (fs : List Level) (p r : ℕ) → State c fs → run s c l fs p ≡ refused 14 r → Sunk s (length fs) p r
-unfolding run
-run-sunk [] c l fs p r st e = let z = (at-end c l fs p 14 r e) .1 in absurd (omega arith)
-run-sunk (b ∷ bs) c l fs p r st e = step-sunk b bs fs p r (λ c' l' fs'. run-sunk bs c' l' fs' (p + 1) r) (next c l fs b) (step-good l fs b c st) e
-
--- 14: a parenthesis that opens stands at the place, and of those before it 32 are open
-pub record Deep (s : List ℕ) (r : ℕ) : Type 0 where
-  pub inside : r < length s
-  pub paren : getD s r 0 ≡ 40
-  pub all-open : count 40 (take r s) ≡ depthMost + count 41 (take r s)
-
-pub too-deep : (s : List ℕ) (r : ℕ) → verdict s ≡ refused 14 r → Deep s r
-unfolding verdict
-too-deep s r e =
-    let d = run-sunk s Ctl.want fresh [] 0 r begin e in
-    let q : d .n ≡ r = omega (arith, d .place) in
-    record { inside = rw (← q) (d .inside); paren = rw (← q) (d .paren); all-open = rw (← q) (omega (arith, d .all-open)) }
-
 -- ---- 14 only where an operand is due: a name could stand there
 record Due (c : Ctl) (l : Level) (fs : List Level) (p : ℕ) : Type 0 where
   pub rest : List ℕ
@@ -388,40 +344,65 @@ module _ (l : Level) (fs : List Level) where
   opens-due (Ctl.word []) p e = word-due p
   opens-due (Ctl.word (x ∷ xs)) p e = never-deep _ (letter (eqb 40 x) _) e
 
--- at n places on
-record Due-on (s : List ℕ) (c : Ctl) (l : Level) (fs : List Level) (p r : ℕ) : Type 0 where
+-- ---- 14: the byte n places on is a parenthesis, of those before it and the levels outside all are open, and an operand is due there
+record Sunk (s : List ℕ) (c : Ctl) (l : Level) (fs : List Level) (p r : ℕ) : Type 0 where
   pub n : ℕ
   pub place : r ≡ p + n
+  pub inside : n < length s
+  pub paren : getD s n 0 ≡ 40
+  pub all-open : length fs + count 40 (take n s) ≡ depthMost + count 41 (take n s)
   pub rest : List ℕ
   pub goes : isAccepted (run (take n s ++ 32 ∷ 97 ∷ rest) c l fs p) ≡ true
 
-step-due : (b : ℕ) (bs : List ℕ) (c : Ctl) (l : Level) (fs : List Level) (p r : ℕ)
-    → ((c' : Ctl) (l' : Level) (gs : List Level) → State c' gs → run bs c' l' gs (p + 1) ≡ refused 14 r → Due-on bs c' l' gs (p + 1) r)
-    → (m : Move) → next c l fs b ≡ m → Good b fs m → follow p (λ c' l' gs. run bs c' l' gs (p + 1)) m ≡ refused 14 r → Due-on (b ∷ bs) c l fs p r
-unfolding follow run
-step-due b bs c l fs p r ih m e dies f = let z : _≡_ {A = ℕ} 13 14 = cc in absurd (omega arith)
-step-due b bs c l fs p r ih m e (sinks q g) f =
+step-sunk : (b : ℕ) (bs : List ℕ) (c : Ctl) (l : Level) (fs : List Level) (p r : ℕ)
+    → ((c' : Ctl) (l' : Level) (gs : List Level) → State c' gs → run bs c' l' gs (p + 1) ≡ refused 14 r → Sunk bs c' l' gs (p + 1) r)
+    → (m : Move) → next c l fs b ≡ m → Good b fs m → follow p (λ c' l' gs. run bs c' l' gs (p + 1)) m ≡ refused 14 r → Sunk (b ∷ bs) c l fs p r
+unfolding follow run count
+step-sunk b bs c l fs p r ih m e dies f = let z : _≡_ {A = ℕ} 13 14 = cc in absurd (omega arith)
+step-sunk b bs c l fs p r ih m e (sinks q g) f =
     let d = opens-due l fs c p (rw q at e) in
     let i : r ≡ p = cc in
-    record { n = 0; place = omega (arith, i); rest = d .rest; goes = d .goes }
-step-due b bs c l fs p r ih m e (goes c' l' gs st q) f =
+    record { n = 0; place = omega (arith, i); inside = omega arith; paren = q; all-open = omega arith; rest = d .rest; goes = d .goes }
+step-sunk b bs c l fs p r ih m e (goes c' l' gs st q) f =
     let k = ih c' l' gs st f in
-    record { n = suc (k .n); place = omega (arith, k .place); rest = k .rest; goes = rw e (k .goes) }
+    record {
+      n = suc (k .n);
+      place = omega (arith, k .place);
+      inside = omega (arith, k .inside);
+      paren = k .paren;
+      all-open = omega (arith, k .all-open, q);
+      rest = k .rest;
+      goes = rw e (k .goes);
+    }
 
-run-due : (s : List ℕ) (c : Ctl) (l : Level) (fs : List Level) (p r : ℕ) → State c fs → run s c l fs p ≡ refused 14 r → Due-on s c l fs p r
+run-sunk : (s : List ℕ) (c : Ctl) (l : Level) (fs : List Level) (p r : ℕ) → State c fs → run s c l fs p ≡ refused 14 r → Sunk s c l fs p r
 unfolding run
-run-due [] c l fs p r st e = let z = (at-end c l fs p 14 r e) .1 in absurd (omega arith)
-run-due (b ∷ bs) c l fs p r st e =
-    step-due b bs c l fs p r (λ c' l' fs'. run-due bs c' l' fs' (p + 1) r) (next c l fs b) refl (step-good l fs b c st) e
+run-sunk [] c l fs p r st e = let z = (at-end c l fs p 14 r e) .1 in absurd (omega arith)
+run-sunk (b ∷ bs) c l fs p r st e =
+    step-sunk b bs c l fs p r (λ c' l' fs'. run-sunk bs c' l' fs' (p + 1) r) (next c l fs b) refl (step-good l fs b c st) e
+
+-- of a whole text: a parenthesis that opens stands at the place, and of those before it all are open
+pub record Deep (s : List ℕ) (r : ℕ) : Type 0 where
+  pub inside : r < length s
+  pub paren : getD s r 0 ≡ 40
+  pub all-open : count 40 (take r s) ≡ depthMost + count 41 (take r s)
 
 -- with a blank and a name for the parenthesis, some completion is accepted
 pub record Operand-due (s : List ℕ) (r : ℕ) : Type 0 where
   pub rest : List ℕ
   pub goes : isAccepted (verdict (take r s ++ 32 ∷ 97 ∷ rest)) ≡ true
 
-pub deep-due : (s : List ℕ) (r : ℕ) → verdict s ≡ refused 14 r → Operand-due s r
-unfolding verdict
-deep-due s r e =
-    let d = run-due s Ctl.want fresh [] 0 r begin e in
-    let q : d .n ≡ r = omega (arith, d .place) in
-    record { rest = d .rest; goes = ap (λ (n : ℕ). isAccepted (verdict (take n s ++ 32 ∷ 97 ∷ d .rest))) (sym q) ∙ d .goes }
+module _ (s : List ℕ) (r : ℕ) (e : verdict s ≡ refused 14 r) where
+  sunk : Sunk s Ctl.want fresh [] 0 r
+  unfolding verdict
+  sunk = run-sunk s Ctl.want fresh [] 0 r begin e
+
+  at-place : sunk .n ≡ r
+  at-place = omega (arith, sunk .place)
+
+  pub too-deep : Deep s r
+  too-deep = record { inside = rw (← at-place) (sunk .inside); paren = rw (← at-place) (sunk .paren); all-open = rw (← at-place) (omega (arith, sunk .all-open)) }
+
+  pub deep-due : Operand-due s r
+  unfolding verdict
+  deep-due = record { rest = sunk .rest; goes = ap (λ (n : ℕ). isAccepted (verdict (take n s ++ 32 ∷ 97 ∷ sunk .rest))) (sym at-place) ∙ sunk .goes }
