@@ -21,6 +21,11 @@
    Lines count from 0, and a text has one line more than it has newline bytes, so an empty text has one. A range of lines is its first line
    and the line after its last; where both are equal it is empty. Scores are IEEE 754 binary32.
 
+   The numbers behind a score: m, word pairs shared, each as often as it stands in both; t, word pairs of both together, those of the lines and those of the
+   stored text. The score is 2m/t, one division in binary32, and 0.0 where t is 0; of an empty text or table m is 0 and t still the sum. Every answer with a
+   score has its m and t, 2m is at most t, and t is below 2^24 (proved: pair-told, overall-pair, crates/score_job, bounds_job and scan_job, proofs).
+   Two fractions may be one float (2*4095/8191 and 2*4096/8193): stored texts are ranked by the float, so the earlier wins, with its own m and t.
+
    A book. Records, one behind the other, fill it; numbers are little-endian.
      record   u32 length of the body, u16 kind, the body
      kind 1   a licence's name: 1 to 64 bytes from 33 to 126. Names strictly rise by their bytes
@@ -56,9 +61,9 @@
 extern "C" {
 #endif
 
-#define CHULTARVI_VERSION "0.5.0"
+#define CHULTARVI_VERSION "0.6.0"
 #define CHULTARVI_VERSION_MAJOR 0
-#define CHULTARVI_VERSION_MINOR 5
+#define CHULTARVI_VERSION_MINOR 6
 #define CHULTARVI_VERSION_PATCH 0
 
 #define CHULTARVI_TEXT_MOST 1048576u   /* bytes of a text */
@@ -152,14 +157,14 @@ chultarvi_text_compiled chultarvi_compile(const uint8_t *text, size_t text_len, 
                                           size_t words_len, uint8_t *out, size_t out_len);
 
 /* Scores a view: the text's lines from `start` up to, and without, `end`, against the stored text `number`, counted from 0 in the book's order.
-   score: from 0.0 (nothing in common) to 1.0 (the same words, pair by pair). Refusals 1 to 5, 8 to 10. */
-typedef struct { uint32_t refusal; float score; } chultarvi_view_scored;
+   score: from 0.0 (nothing in common) to 1.0 (the same words, pair by pair), 2m/t. Refusals 1 to 5, 8 to 10. */
+typedef struct { uint32_t refusal; float score; uint32_t m, t; } chultarvi_view_scored;
 chultarvi_view_scored chultarvi_score(const uint8_t *text, size_t text_len, const uint8_t *book, size_t book_len, size_t start, size_t end,
                                       uint32_t number, uint8_t *area, size_t area_len, uint32_t *words, size_t words_len);
 
 /* Finds where in that view the stored text stands: from line `first` up to, and without, line `after`, both counted in the whole text. score: the
-   score there; count: how many scorings that took. Refusals 1 to 5, 8 to 10. */
-typedef struct { uint32_t refusal, first, after; float score; uint64_t count; } chultarvi_bounds_found;
+   score of these lines, with its m and t; count: how many scorings that took. Refusals 1 to 5, 8 to 10. */
+typedef struct { uint32_t refusal, first, after; float score; uint32_t m, t; uint64_t count; } chultarvi_bounds_found;
 chultarvi_bounds_found chultarvi_bounds(const uint8_t *text, size_t text_len, const uint8_t *book, size_t book_len, size_t start, size_t end,
                                         uint32_t number, uint8_t *area, size_t area_len, uint32_t *words, size_t words_len);
 
@@ -173,6 +178,8 @@ chultarvi_text_named chultarvi_name_stored(const uint8_t *book, size_t book_len,
 
 /* What a scan answers, of either kind.
      score      the overall score: that of the best stored text over the whole text (0.0 in top-down, which has none)
+     m, t       the numbers behind that score, of that text, named or not (0 and 0 in top-down). A record has none: chultarvi_score tells them, of its lines
+                against its stored text; in elimination with the lines of the records before it blanked
      kind       CHULTARVI_ORIGINAL, _ALTERNATE or _HEADER where that score is above the threshold; else CHULTARVI_NONE, and len and name are 0
      len, name  the licence's name. It is zero-filled, so no zero ends it where len is 64
      second, name_at  where the same bytes stand: in the second book where `second` is true, else in the first, from byte name_at on, and all of
@@ -181,13 +188,13 @@ chultarvi_text_named chultarvi_name_stored(const uint8_t *book, size_t book_len,
                 last, and the bits of the score (memcpy them into a float). The rest of results is as it was
      count      how many scorings were made
    A scan stops, with refusal 12, at the first scoring that `budget` does not pay. Then count is the budget, finished records stay, and elimination
-   has score, kind and name once each stored text has been scored once. UINT64_MAX is a budget that no scan reaches.
+   has score, m, t, kind and name once each stored text has been scored once. UINT64_MAX is a budget that no scan reaches.
    Both limits are from 0.0 to 1.0. Refusals 1 to 6, 10, 12, and 7 of top-down. */
 typedef struct {
     uint32_t refusal, records;
     uint64_t count;
     float score;
-    uint32_t kind, len;
+    uint32_t m, t, kind, len;
     uint8_t name[64];
     bool second;
     size_t name_at;

@@ -58,6 +58,22 @@ def scanned(a):
     return compare.Counted(a.refusal, a.count, a.score, a.part if a.kind else None, [tuple(r) for r in numbers])
 
 
+def entries(body):
+    """The counts of a table body."""
+    counts, at = collections.Counter(), 8
+    while at < len(body):
+        count, size = struct.unpack_from("<II", body, at)
+        counts[body[at + 8 : at + 8 + size]] = count
+        at += 8 + size
+    return counts
+
+
+def pairs(oracle, t, first, after, licence):
+    """m and t of these lines against the licence, by the original's own tables of both."""
+    view, stored = (entries(oracle.body(text)) for text in ("\n".join(t.split("\n")[first:after]), licence))
+    return sum((view & stored).values()), sum(view.values()) + sum(stored.values())
+
+
 def jobs(tally, oracle, rng, seed, i):
     texts, book, t = shelved(rng, oracle, seed, i)
     note, k = t.encode("utf-8"), rng.randrange(len(texts))
@@ -66,17 +82,23 @@ def jobs(tally, oracle, rng, seed, i):
     areas = {"area": bytes(8 * len(note) + 64), "words": bytes(4 * (12 * len(note) + 64))}
     q = model.Question("score", text=note, books=(book,), start=start, end=end, number=k, **areas)
     told = f"{start} {end} of {t!r} against {texts[k].text!r}"
-    tally.hold("scores", told, int(oracle.ask("scores", start, end, hexed(t)).split(" ")[k], 16), model.answered(q).score)
+    s = model.answered(q)
+    tally.hold("scores", told, int(oracle.ask("scores", start, end, hexed(t)).split(" ")[k], 16), s.score)
+    tally.hold("m and t of a view", told, pairs(oracle, t, start, end, texts[k].text), (s.m, s.t))
     b = model.answered(dataclasses.replace(q, job="bounds"))
     theirs = oracle.ask("countbounds", start, end, hexed(t), hexed(texts[k].text))
     tally.hold("bounds", told, theirs, f"{b.count} {b.first} {b.after} {b.score:08x}")
+    tally.hold("m and t of bounds", told, pairs(oracle, t, b.first, b.after, texts[k].text), (b.m, b.t))
     threshold, shallow = rng.choice([compare.ZERO, compare.HALF, compare.NINETY]), compare.ONE
     q = dataclasses.replace(q, threshold=threshold, shallow=shallow, optimize=True, passes=3, step=rng.choice([1, 2, 3]), budget=WHOLE)
     for job, before, room in (("eliminate", "1 3", 48), ("down", q.step, 16 * n)):
-        ours = scanned(model.answered(dataclasses.replace(q, job=job, results=bytes(room))))
+        a = model.answered(dataclasses.replace(q, job=job, results=bytes(room)))
+        ours = scanned(a)
         theirs = oracle.counted(f"count{job} {threshold:08x} {shallow:08x} {before} {WHOLE} {hexed(t)}")
         part = None if theirs.named is None else model.shelved((book,))[theirs.named].part
         tally.hold(job, f"{threshold:08x} {before} of {t!r}", theirs._replace(named=part), ours)
+        if theirs.named is not None:
+            tally.hold("m and t overall", told, pairs(oracle, t, 0, n, texts[theirs.named].text), (a.m, a.t))
 
 
 def main():

@@ -12,6 +12,7 @@ import types
 import model
 from asking import MARKED_BOOK, MARKED_TEXT, NUMBERED, OF_TWO, SCANS, VIEWS, WHOLE, record, table_body
 
+NOTE = b"My First License"
 Edge = collections.namedtuple("Edge", "what plan refusal more", defaults=({},))  # `more`: other fields of the answer that are due
 NEAR = (-1, 0, 1)
 WITH_TEXT = ("compile", *VIEWS, *SCANS)
@@ -208,14 +209,69 @@ def budgets():
 
 
 def small():
-    for make in (areas, results, output, names, totals, book_forms, stored_texts, bytes_of_texts, views, searches, settings, budgets):
+    for make in (areas, results, output, names, totals, book_forms, stored_texts, bytes_of_texts, views, searches, settings, budgets, emptied):
         yield from make()
+
+
+# ---- m and t: ranking is by the float ------------------------------------------------------------------------------------------------------
+
+ONE_FLOAT = {4096: 1, 20000: 5}  # pairs of words in a note: up to how many more and as many fewer of them in two stored texts are one float
+
+
+def often(name, times):
+    """A licence with the pair `a a` so many times."""
+    return record(1, name) + record(2, table_body(times, 1, [(times, b"a a")]))
+
+
+def told_of(pairs, times):
+    """m and t of a note with the pair so many times, against such a licence."""
+    return {"m": min(pairs, times), "t": pairs + times}
+
+
+def one_float(pairs, by):
+    """Two originals, of which one has the pair more often than the note and one less, in one book and in two. While they are one float the earlier wins
+    with its own m and t, then the one with more."""
+    for first, second in ((pairs - by, pairs + by), (pairs + by, pairs - by)):
+        books = often(b"A", first), often(b"B", second)
+        wins = first if by <= ONE_FLOAT[pairs] else pairs + by
+        more = {**told_of(pairs, wins), "name": (b"A" if wins == first else b"B").ljust(64, b"\0")}
+        more["score"] = model.bits_of(model.rounded(model.Fraction(2 * pairs, 2 * pairs + by)))
+        for lent in ((b"".join(books),), books):
+            yield Edge("two fractions, one float", marked("eliminate", books=lent, text=b"a " * (pairs + 1), optimize=False), 0, more)
+
+
+def ties():
+    """2*4095/8191 and 2*4096/8193, and the next two, which are not one float."""
+    for by in (1, 2):
+        yield from one_float(4096, by)
+
+
+def all_ties():
+    """Up to the last two that are one float and beyond; and each text by itself, and in top-down."""
+    for pairs, by in ((pairs, by) for pairs, most in ONE_FLOAT.items() for by in range(1, most + 3)):
+        yield from one_float(pairs, by)
+        book, note = often(b"A", pairs - by) + often(b"B", pairs + by), b"a " * (pairs + 1)
+        yield Edge("two fractions, one float", marked("down", books=(book,), text=note), 0, {"m": 0, "t": 0, "records": 1})
+        for number, times in enumerate((pairs - by, pairs + by)):
+            for job in VIEWS:
+                yield Edge("two fractions, one float", marked(job, books=(book,), text=note, number=number), 0, told_of(pairs, times))
+
+
+def emptied():
+    """m and t where a table is empty, where both are, and where nothing is shared: m is 0, and t still the sum."""
+    empty = record(1, b"A") + record(2, EMPTY)
+    for text, book, t in ((b"", MARKED_BOOK, 2), (NOTE, empty, 2), (b"", empty, 0), (b"x y", MARKED_BOOK, 3), (b"x", empty, 0), (b"x\n\n", MARKED_BOOK, 2)):
+        for job in VIEWS:
+            yield Edge("nothing shared", marked(job, books=(book,), text=text), 0, {"score": 0, "m": 0, **({"t": t} if job == "score" else {})})
+        for budget in (0, 1):
+            told = {"score": 0, "m": 0, "t": t * budget}
+            yield Edge("nothing shared", marked("eliminate", books=(book,), text=text, optimize=False, budget=budget), due(not budget, 12), told)
 
 
 # ---- two books -----------------------------------------------------------------------------------------------------------------------------
 
 
-NOTE, CUT = b"My First License", MARKED_BOOK[:-1]
+CUT = MARKED_BOOK[:-1]
 ANOTHER, MORE = licence(b"B", b"another text of some words"), licence(b"C", NOTE)
 TWO = ANOTHER, MARKED_BOOK
 CASES = [  # of request #101: two books, note, budget; refusal, count, the name's part

@@ -55,12 +55,12 @@ unfolding compile refusal ofCompile beforeCompile ofText
 long-compile e t a o h = simp (lt-ltb textMost (length t) h)
 
 pub long-score : (t : List ℕ) (bs : List (List ℕ)) (v : View) (k : ℕ) (a : Areas) → textMost < length t →
-    scoreJob t bs v k a ≡ record { refusal = 1; score = nought }
+    scoreJob t bs v k a ≡ record { refusal = 1; score = nought; m = 0; t = 0 }
 unfolding scoreJob refusal ofView ofText
 long-score t bs v k a h = simp (lt-ltb textMost (length t) h)
 
 pub long-bounds : (t : List ℕ) (bs : List (List ℕ)) (v : View) (k : ℕ) (a : Areas) → textMost < length t →
-    boundsJob t bs v k a ≡ record { refusal = 1; first = 0; after = 0; score = nought; count = 0 }
+    boundsJob t bs v k a ≡ record { refusal = 1; first = 0; after = 0; score = nought; m = 0; t = 0; count = 0 }
 unfolding boundsJob refusal ofView ofText
 long-bounds t bs v k a h = simp (lt-ltb textMost (length t) h)
 
@@ -110,28 +110,28 @@ compileRow e t b a out w =
       want = w;
     }
 
--- refusal, score bits; both areas at exit
+-- refusal, score bits, m, t; both areas at exit
 pub scoreRow : List ℕ → List (List ℕ) → ℕ → ℕ → ℕ → List ℕ → List ℕ → List ℕ → Row
 scoreRow t bs s e k b a w =
     let r = scoreJob t bs (view s e) k (lent b a) in
-    record { got = r .refusal ∷ bits (r .score) ∷ areaAfter (r .refusal) b ++ areaAfter (r .refusal) a; want = w }
+    record { got = r .refusal ∷ bits (r .score) ∷ r .m ∷ r .t ∷ areaAfter (r .refusal) b ++ areaAfter (r .refusal) a; want = w }
 
--- refusal, first line, line after last, score bits, count; both areas at exit
+-- refusal, first line, line after last, score bits, m, t, count; both areas at exit
 pub boundsRow : List ℕ → List (List ℕ) → ℕ → ℕ → ℕ → List ℕ → List ℕ → List ℕ → Row
 boundsRow t bs s e k b a w =
     let r = boundsJob t bs (view s e) k (lent b a) in
     record {
-      got = r .refusal ∷ r .first ∷ r .after ∷ bits (r .score) ∷ r .count ∷ areaAfter (r .refusal) b ++ areaAfter (r .refusal) a;
+      got = r .refusal ∷ r .first ∷ r .after ∷ bits (r .score) ∷ r .m ∷ r .t ∷ r .count ∷ areaAfter (r .refusal) b ++ areaAfter (r .refusal) a;
       want = w;
     }
 
--- refusal, count, score bits, kind, records, the name's length, its part, the name's 64 bytes; the results and both areas at exit
+-- refusal, count, score bits, m, t, kind, records, the name's length, its part, the name's 64 bytes; the results and both areas at exit
 pub scanRow : List ℕ → List (List ℕ) → Limits → Mode → ℕ → List ℕ → List ℕ → List ℕ → List ℕ → Row
 scanRow t bs lim mode budget b a results w =
     let r = scan t bs lim mode budget (lent b a) (length results) in
     record {
       got =
-          r .refusal ∷ r .count ∷ bits (r .score) ∷ r .kind ∷ r .records ∷ r .len ∷ bit (r .part .second) ∷ r .part .at ∷ r .part .len ∷ r .name ++
+          r .refusal ∷ r .count ∷ bits (r .score) ∷ r .m ∷ r .t ∷ r .kind ∷ r .records ∷ r .len ∷ bit (r .part .second) ∷ r .part .at ∷ r .part .len ∷ r .name ++
           resultsAfter t bs lim mode budget (lent b a) results ++ areaAfter (r .refusal) b ++ areaAfter (r .refusal) a;
       want = w;
     }
@@ -213,10 +213,10 @@ def wanted(q, a):
     if q.job == "compile":
         return f"({compare.listed([a.refusal, a.len])} ++ {area_term(a.out, 1, a.len)} ++ {both})"
     if q.job == "score":
-        return f"({compare.listed([a.refusal, a.score])} ++ {both})"
+        return f"({compare.listed([a.refusal, a.score, a.m, a.t])} ++ {both})"
     if q.job == "bounds":
-        return f"({compare.listed([a.refusal, a.first, a.after, a.score, a.count])} ++ {both})"
-    head = compare.listed([a.refusal, a.count, a.score, a.kind, a.records, a.name_len, *a.part, *a.name])
+        return f"({compare.listed([a.refusal, a.first, a.after, a.score, a.m, a.t, a.count])} ++ {both})"
+    head = compare.listed([a.refusal, a.count, a.score, a.m, a.t, a.kind, a.records, a.name_len, *a.part, *a.name])
     return f"({head} ++ {area_term(a.results, 4, 4 * a.records)} ++ {both})"
 
 
@@ -232,12 +232,12 @@ def numbers_of(a):
 
 # ---- wrong rows, each of which must be refused -----------------------------------------------------------------------------------------------
 
-SCANNED = ("refusal", "count", "score", "kind", "records", "name_len", "second", "at", "len", "name", "results", "area", "words")
+SCANNED = ("refusal", "count", "score", "m", "t", "kind", "records", "name_len", "second", "at", "len", "name", "results", "area", "words")
 PARTS = {
     "check": ("refusal", "texts"),
     "compile": ("refusal", "len", "out", "area", "words"),
-    "score": ("refusal", "score", "area", "words"),
-    "bounds": ("refusal", "first", "after", "score", "count", "area", "words"),
+    "score": ("refusal", "score", "m", "t", "area", "words"),
+    "bounds": ("refusal", "first", "after", "score", "m", "t", "count", "area", "words"),
     "eliminate": SCANNED,
     "down": SCANNED,
     "name": ("refusal", "kind", "second", "at", "len"),

@@ -149,11 +149,19 @@ def table(lines):
     return collections.Counter(a + b" " + b for a, b in zip(words, words[1:]))
 
 
+class Value(float):
+    """A score, which ranks as the float that it is, with the numbers behind it."""
+
+    def __new__(cls, score, m, t):
+        value = super().__new__(cls, score)
+        value.m, value.t = m, t
+        return value
+
+
 def score(one, other):
-    if not one or not other:
-        return 0.0
-    shared = sum(min(count, other[bigram]) for bigram, count in one.items() if bigram in other)
-    return rounded(Fraction(2 * shared, sum(one.values()) + sum(other.values())))
+    m = sum(min(count, other[bigram]) for bigram, count in one.items() if bigram in other)
+    t = sum(one.values()) + sum(other.values())
+    return Value(rounded(Fraction(2 * m, t)) if one and other else 0.0, m, t)
 
 
 def body_of(counts):
@@ -410,6 +418,8 @@ class Answer:
     first: int = 0
     after: int = 0
     score: int = 0  # bits
+    m: int = 0
+    t: int = 0
     count: int = 0
     records: int = 0
     kind: int = 0
@@ -492,9 +502,13 @@ def compile_job(q, a):
         a.len, a.out = len(body), written(body, q.out)
 
 
+def tell(a, value):
+    a.score, a.m, a.t = bits_of(value), value.m, value.t
+
+
 def score_job(q, a):
     note, text = note_of(q), shelved(q.books)[q.number]
-    a.score = bits_of(score(note.table(q.start, q.end), text.table))
+    tell(a, score(note.table(q.start, q.end), text.table))
 
 
 def bounds_job(q, a):
@@ -505,7 +519,7 @@ def bounds_job(q, a):
             a.count += 1
         except StopIteration as stop:
             a.first, a.after, value = stop.value
-            a.score = bits_of(value)
+            tell(a, value)
             return
 
 
@@ -519,7 +533,7 @@ def scan_job(q, a):
                 break
             a.count += 1
         elif isinstance(event, Overall):
-            a.score = bits_of(event.score)
+            tell(a, event.score)
             if event.score > of_bits(q.threshold):
                 a.kind, a.name_len, a.part = event.text.kind, len(event.text.name), event.text.part
                 a.name = event.text.name.ljust(NAME_MOST, b"\0")

@@ -29,7 +29,7 @@ import model
 from compare import Trouble
 
 AREAS = ("area", "words", "out", "results")
-NUMBERS = ("refusal", "texts", "len", "first", "after", "score", "count", "records", "kind", "name_len", "edition")
+NUMBERS = ("refusal", "texts", "len", "first", "after", "score", "m", "t", "count", "records", "kind", "name_len", "edition")
 REPLY = struct.Struct(f"<{len(NUMBERS)}Q{model.NAME_MOST}s4Q")
 ONE, TWO, SAME = range(3)  # books that are lent
 LEAST = 20  # times that each refusal of each job is met
@@ -114,7 +114,7 @@ def with_accents(q):
 
 class Tally:
     def __init__(self, archive):
-        self.archive, self.several, self.editions, self.accents = archive, 0, 0, 0
+        self.archive, self.several, self.editions, self.accents, self.paired, self.none = archive, 0, 0, 0, 0, 0
         self.rows, self.failed, self.met, self.met_by_kind = collections.Counter(), collections.Counter(), collections.Counter(), {}
 
     def hold(self, kind, q, due):
@@ -124,6 +124,8 @@ class Tally:
         self.several += several(q)
         self.editions += with_edition(q)
         self.accents += with_accents(q)
+        self.paired += want.t > 0
+        self.none += want.t == 0 and q.job in (*asking.VIEWS, *asking.SCANS)
         self.met[q.job, len(q.books), want.refusal] += 1
         self.met_by_kind.setdefault(kind, collections.Counter())[want.refusal] += 1
         faults += apart(want, got)
@@ -216,9 +218,9 @@ def limits(seed, found):
 def rows(seed, scale, large):
     """All rows: so many times the random ones, and the large edges or not."""
     yield from random_rows(seed, scale)
-    yield from limits(seed, itertools.chain(edges.small(), edges.both(), editions.one(), editions.both(), accents.one(), accents.both()))
+    yield from limits(seed, itertools.chain(edges.small(), edges.both(), editions.one(), editions.both(), accents.one(), accents.both(), edges.ties()))
     if large:
-        yield from limits(seed, itertools.chain(edges.large(), editions.large(), accents.large()))
+        yield from limits(seed, itertools.chain(edges.large(), edges.all_ties(), editions.large(), accents.large()))
 
 
 QUICK = 0.05
@@ -237,7 +239,8 @@ def main():
         tally.require()
         tally.table()
     failed = sum(tally.failed.values())
-    told = f"{tally.several} rows with several faults at once, {tally.editions} with an edition, {tally.accents} that reach edition 3"
+    told = f"{tally.several} rows with several faults at once, {tally.editions} with an edition, {tally.accents} that reach edition 3, "
+    told += f"{tally.paired} with word pairs and {tally.none} where m and t must be 0"
     print(f"{told}; seed {options.seed}, {time.monotonic() - began:.0f} s")
     print(f"{sum(tally.rows.values()) - failed} passed, {failed} failed")
     return 1 if failed else 0

@@ -28,6 +28,21 @@ LINES, EACH = "lines_of(q.text, edition_of(q.books[0]))", "for book in q.books})
 READ, FIRST, ALL_BYTES = "if edition != ACCENTS:", 'if q.job == "compile" else edition_of(q.books[0])', 'text.decode("utf-8"), default'
 WORDS, SPACES, MARKS = 'of_category("L", "Nd", "Pc")', 'SPACES = "\\t\\n\\v\\f\\r\\x85" + BLANKS', 'of_category("P")'
 NO_URL, COLLAPSED, TWO_WORDS = 'f"https?://[^{SPACE}]+"', 're.sub(f"[{SPACE}]+", " ", text)', 'f"[{LOWER}]+ [{LOWER}]+"'
+VALUED, TOLD = "if one and other else 0.0,", "bits_of(value), value.m, value.t"
+VALUE, OVERALL, FOUND_THERE = f"{VALUED} m, t)", "tell(a, event.score)\n", "            tell(a, value)\n            return\n"
+BETTER = "            found = text, value\n"
+FROM_OVERALL = """\
+    yield Overall(text, value)
+    if (value > threshold and value > shallow) or not q.optimize:
+        return
+    for _ in range(q.passes):
+        first, after, value = yield from bounds(note, 0, whole, text)
+        if value < threshold:
+            return
+        yield Found(text.number, first, after, value)
+        note = note.blanked(first, after)
+        text, _ = yield from best(note, 0, whole, shelf)
+"""
 BYTES, ONLY_LATER = '"utf-8" if edition == ACCENTS else "ascii"', "edition == 1 or "
 
 
@@ -136,7 +151,7 @@ WRONG = [
     ("the part of the book's first name", "part = Part(0, start, len(body))", "part = Part(0, 6, len(body))"),
     ("the part of the book's last name", "STORED_MOST)\n    return shelf", "STORED_MOST)\n    return [text._replace(part=part) for text in shelf]"),
     ("the part counted on into the second book", "second=second)", "second=second, at=text.part.at + second * len(books[0]))"),
-    ("a part without a name", "a.score = bits_of(event.score)", "a.score, a.part = bits_of(event.score), event.text.part"),
+    ("a part without a name", "            tell(a, event.score)\n", "            tell(a, event.score)\n            a.part = event.text.part\n"),
     ("a part before N are paid", "a.refusal = 12\n", "a.refusal, a.part = 12, a.part if a.score else shelved(q.books)[0].part\n"),
     ("no part with 12", "a.refusal = 12\n", "a.refusal, a.part = 12, NO_PART\n"),
     moved("name", 9, 4),
@@ -145,6 +160,42 @@ WRONG = [
     ("the part of the text before it", STORED_NAME, "= text.kind, len(text.name), shelved(q.books)[q.number - 1].part"),
     ("the part of the first equal name", STORED_NAME, "= text.kind, len(text.name), next(x.part for x in shelved(q.books) if x.name == text.name)"),
     ("the part of the last record", "a.records += 1", "a.records, a.part = a.records + 1, shelved(q.books)[event.number].part"),
+    # m and t
+    ("t 0 of an empty table", VALUE, f"{VALUED} m, t if one and other else 0)"),
+    ("t 0 of an empty text", VALUE, f"{VALUED} m, t if one else 0)"),
+    ("t 0 of an empty stored table", VALUE, f"{VALUED} m, t if other else 0)"),
+    ("t 0 where nothing is shared", VALUE, f"{VALUED} m, t if m else 0)"),
+    ("t of the view alone", VALUE, f"{VALUED} m, sum(one.values()))"),
+    ("t of the stored text alone", VALUE, f"{VALUED} m, sum(other.values()))"),
+    ("t of distinct pairs", VALUE, f"{VALUED} m, len(one) + len(other))"),
+    ("t with shared pairs once", VALUE, f"{VALUED} m, t - m)"),
+    ("m of distinct pairs", VALUE, f"{VALUED} len(one.keys() & other.keys()), t)"),
+    ("m of the view's counts", VALUE, f"{VALUED} sum(count for bigram, count in one.items() if bigram in other), t)"),
+    ("m twice", TOLD, "bits_of(value), 2 * value.m, value.t"),
+    ("m and t in lowest terms", TOLD, "bits_of(value), *Fraction(value.m, value.t or 1).as_integer_ratio()"),
+    ("m and t of 16 bits", TOLD, "bits_of(value), value.m % 2**16, value.t % 2**16"),
+    ("m and t of the whole view in bounds", FOUND_THERE, """\
+            whole = score(note_of(q).table(q.start, q.end), shelved(q.books)[q.number].table)
+            tell(a, Value(value, whole.m, whole.t))
+            return
+"""),
+    ("m and t of the search for the end", "    return first, after, value\n", """\
+    to_end = score(note.table(start, after), text.table)
+    return first, after, Value(value, to_end.m, to_end.t)
+"""),
+    ("no m and t without a name", OVERALL, "tell(a, event.score if event.score > of_bits(q.threshold) else Value(event.score, 0, 0))\n"),
+    ("no m and t with 12", "                a.refusal = 12\n", "                a.refusal, a.m, a.t = 12, 0, 0\n"),
+    ("m and t before N are paid", "                a.refusal = 12\n", """\
+                a.refusal, a.t = 12, a.t or a.count and sum(shelved(q.books)[0].table.values())
+"""),
+    ("m and t of a later pass", FROM_OVERALL, FROM_OVERALL.replace("yield Overall(text, value)", "overall = text, value\n    yield Overall(*overall)") + """\
+        yield Overall(overall[0], Value(overall[1], _.m, _.t))
+"""),
+    ("m and t of the last record", "a.records += 1", "a.records, a.m, a.t = a.records + 1, event.score.m, event.score.t"),
+    ("ranked by m", "value > found[1]", "value.m > found[1].m"),
+    ("ranked by the fraction", "value > found[1]", "value.m * found[1].t > found[1].m * value.t"),
+    ("m and t of the later of equal texts", BETTER, f"{BETTER}        elif value == found[1]:\n            found = found[0], value\n"),
+    ("m and t of the last text", BETTER, f"{BETTER}        found = found[0], Value(found[1], value.m, value.t)\n"),
     # editions: what stays
     ("the 4 goes in edition 2", "2: MENDED", r'2: rf"[{BLANKS}\t\\/|4]+"'),
     ("the 4 goes in edition 3", "3: MENDED", r'3: rf"[{BLANKS}\t\\/|4]+"'),

@@ -7,7 +7,8 @@
 #define TEXT text.bytes, text.len
 #define ONE_BOOK books[0].bytes, books[0].len
 #define TWO_BOOKS ONE_BOOK, books[1].bytes, books[1].len
-#define AREAS w->lent.area, lent_bytes(text.len), w->lent.words, lent_words(text.len), w->results
+#define WORK w->lent.area, lent_bytes(text.len), w->lent.words, lent_words(text.len)
+#define AREAS WORK, w->results
 
 static chultarvi_note_scanned eliminate(const worker *w, part text, const part books[2], way by) {
     uint16_t passes = w->from->with.passes;
@@ -45,6 +46,8 @@ stored_text named_by(const shelf *s, const chultarvi_note_scanned *a) {
     return (stored_text){.name = name, .book = s->books[a->second].file, .len = a->len, .kind = a->kind};
 }
 
+value overall_of(const chultarvi_note_scanned *a) { return (value){a->score, a->m, a->t, true}; }
+
 finding *add_finding(findings *to, finding f) {
     if (to->count == to->room) {
         to->room = 2 * to->room + 8;
@@ -59,13 +62,44 @@ void add_records(const worker *w, const chultarvi_note_scanned *a, uint32_t firs
         const uint32_t *record = w->results + CHULTARVI_RECORD_WIDTH * (size_t)k;
         uint32_t number = numbers ? numbers[record[0]] : record[0];
         finding f = {.text = w->from->stored[number], .number = number, .first = first + record[1], .after = first + record[2]};
-        memcpy(&f.score, record + 3, sizeof f.score);
+        memcpy(&f.of.score, record + 3, sizeof f.of.score);
         add_finding(to, f);
     }
 }
 
+/* What is left of the note's budget. */
+static uint64_t unspent(const report *r) { return r->from->with.budget - r->answer.count - r->more; }
+
+/* One scoring more, of a record's lines against its stored text. It scores what is recorded. */
+static void count_pair(worker *w, report *r, part text, finding *f) {
+    part book;
+    if (unspent(r) == 0) return;
+    r->more++;
+    uint32_t number = choose_one(w, f->number, &book);
+    chultarvi_view_scored s = chultarvi_score(TEXT, book.bytes, book.len, 0, f->after - f->first, number, WORK);
+    f->of = (value){f->of.score, s.m, s.t, s.refusal == 0 && s.score == f->of.score};
+}
+
+void blank_lines(worker *w, part lines) {
+    uint8_t *at = w->blanked + (lines.bytes - w->blanked);
+    for (size_t k = 0; k < lines.len; k++) if (at[k] != '\n') at[k] = ' ';
+}
+
+/* Elimination blanks what it has recorded, and a later range may reach over it; top-down's ranges lie apart. */
+void count_pairs(worker *w, report *r, uint32_t first, uint32_t after, findings *made) {
+    if (made->count == 0) return;
+    part scanned = lines_part(w, (part){r->text, r->len}, first, after);
+    memcpy(w->blanked + (scanned.bytes - r->text), scanned.bytes, scanned.len);
+    for (size_t i = 0; i < made->count; i++) {
+        finding *f = made->at + i;
+        part lines = lines_part(w, (part){w->blanked, r->len}, f->first, f->after);
+        count_pair(w, r, lines, f);
+        blank_lines(w, lines);
+    }
+}
+
 chultarvi_note_scanned scan_more(const worker *w, report *r, part text, const part books[2], way by) {
-    by.budget = r->from->with.budget - r->answer.count - r->more;
+    by.budget = unspent(r);
     chultarvi_note_scanned a = eliminate(w, text, books, by);
     r->more += a.count;
     return a;

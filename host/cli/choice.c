@@ -137,6 +137,15 @@ bool choose_others(worker *w, const stored_text *but, part books[2]) {
     return put_books(w, books);
 }
 
+uint32_t choose_one(worker *w, uint32_t number, part *book) {
+    const shelf *s = w->from;
+    part books[2];
+    for (size_t k = 0; k < s->stored_count; k++) w->may[k] = k == number;
+    put_books(w, books);
+    *book = books[s->stored[number].book != s->books[0].file];
+    return (uint32_t)w->chosen_count - 1;
+}
+
 stored_text chosen_by(const worker *w, const chultarvi_note_scanned *a) {
     const shelf *s = w->from;
     for (size_t i = 0; i < w->chosen_count && a->kind; i++) {

@@ -10,7 +10,7 @@ static void look_for_other(worker *w, report *r, part text, finding *f) {
     chultarvi_note_scanned a = scan_more(w, r, text, books, (way){0});
     f->looked = a.refusal == 0;
     f->other = chosen_by(w, &a);
-    f->other_score = a.score;
+    f->other_of = overall_of(&a);
 }
 
 /* Elimination blanks what it has recorded, and a later range may reach over it; so its lines are looked at as they were then. */
@@ -20,18 +20,17 @@ static void look_in_all(worker *w, report *r, findings *all) {
         finding *f = all->at + i;
         part lines = lines_part(w, (part){w->blanked, r->len}, f->first, f->after);
         look_for_other(w, r, lines, f);
-        uint8_t *at = w->blanked + (lines.bytes - w->blanked);
-        for (size_t k = 0; k < lines.len; k++) if (at[k] != '\n') at[k] = ' ';
+        blank_lines(w, lines);
     }
 }
 
-static bool is_higher(const finding *f) { return has_rival(f) && f->other_score > f->score; }
+static bool is_higher(const finding *f) { return has_rival(f) && f->other_of.score > f->of.score; }
 
 /* The finding as if the other licence had been found first. */
 static finding turned(const finding *f) {
     finding t = *f;
-    t.text = f->other, t.score = f->other_score;
-    t.other = f->text, t.other_score = f->score;
+    t.text = f->other, t.of = f->other_of;
+    t.other = f->text, t.other_of = f->of;
     return t;
 }
 
@@ -68,4 +67,4 @@ void look_for_others(worker *w, report *r) {
     add_higher(w, r);
 }
 
-bool has_rival(const finding *f) { return f->text.kind && f->looked && f->other.kind && f->other_score >= f->score; }
+bool has_rival(const finding *f) { return f->text.kind && f->looked && f->other.kind && f->other_of.score >= f->of.score; }

@@ -34,7 +34,7 @@ static bool is_one_licence(const report *r) { return r->whole.text.kind && r->ra
 static const float every_range = -1.0f;
 static void hold_found(worker *w, const report *r, float above) {
     memset(w->held, 0, w->lines * sizeof *w->held);
-    for (size_t i = 0; i < r->ranges.count; i++) if (r->ranges.at[i].score > above) hold(w, r->ranges.at + i);
+    for (size_t i = 0; i < r->ranges.count; i++) if (r->ranges.at[i].of.score > above) hold(w, r->ranges.at + i);
     for (size_t i = 0; i < r->further.count; i++) hold(w, r->further.at + i);
 }
 
@@ -65,9 +65,10 @@ static bool is_double(const worker *w, const report *r, const finding *f) {
 
 /* What one scan of lines has found: its ranges, or the lines as a whole where there are none. */
 static void take_answer(worker *w, report *r, const chultarvi_note_scanned *a, uint32_t first, uint32_t after) {
-    finding whole = {.text = chosen_by(w, a), .first = first, .after = after, .score = a->score};
+    finding whole = {.text = chosen_by(w, a), .first = first, .after = after, .of = overall_of(a)};
     findings found = {0};
     add_records(w, a, first, w->chosen, &found);
+    count_pairs(w, r, first, after, &found);
     if (whole.text.kind && found.count == 0) add_finding(&found, whole);
     for (size_t i = 0; i < found.count; i++) {
         hold(w, found.at + i);
@@ -166,7 +167,7 @@ static void scan_stanzas(worker *w, report *r, parting *parts, stanzas *all) {
 
 void look_further(worker *w, report *r) {
     bool one = is_one_licence(r);
-    if (r->answer.refusal || (one && r->whole.score == 1.0f)) return;
+    if (r->answer.refusal || (one && r->whole.of.score == 1.0f)) return;
     memset(w->seen, 0, w->lines * sizeof *w->seen);
     list_owners(w, &r->ranges);
     hold_own(w, r);

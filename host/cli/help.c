@@ -46,6 +46,8 @@ static const char scan_help[] =
     "  -j, --jobs N      scan with N threads, up to 256 (1)\n"
     "  --json            one line of JSON for each note\n"
     "\n"
+    "A score is 2m/t: m word pairs shared, t word pairs of both together, of the lines and of the stored text. '2m/t = 2*214/440' is\n"
+    "214 pairs shared; JSON has m and t. Of a range they take one scoring more, and are missing where the budget does not pay it.\n"
     "For people lines count from 1. JSON counts lines from 0 and gives the line after the last; its number of a stored text counts\n"
     "from 0 through BOOK and on into BOOK2.\n"
     "\n" ENDING;

@@ -25,10 +25,19 @@ static void json_licence(FILE *to, const report *r, const stored_text *s) {
     json_word(to, ",\"kind\":", s->kind ? kind_words(s->kind) : 0);
 }
 
+/* A score with the numbers behind it; none is null, and so are m and t where they are not counted. */
+static void json_value(FILE *to, const value *v) {
+    if (v) fprintf(to, ",\"score\":%.9g", (double)v->score);
+    else fputs(",\"score\":null", to);
+    if (v && v->counted) fprintf(to, ",\"m\":%" PRIu32 ",\"t\":%" PRIu32, v->m, v->t);
+    else fputs(",\"m\":null,\"t\":null", to);
+}
+
 static void json_other(FILE *to, const report *r, const char *key, const finding *f) {
     fprintf(to, ",\"%s\":{", key);
     json_licence(to, r, &f->other);
-    fprintf(to, ",\"score\":%.9g}", (double)f->other_score);
+    json_value(to, &f->other_of);
+    fputc('}', to);
 }
 
 /* Whether another licence scores as high: false for none, null where nobody looked. And with --second the next one, null where there is none. */
@@ -44,7 +53,8 @@ static void json_finding(FILE *to, const report *r, const finding *f, bool numbe
     fputc('{', to);
     json_licence(to, r, &f->text);
     if (numbered) fprintf(to, ",\"number\":%" PRIu32, f->number);
-    fprintf(to, ",\"first\":%" PRIu32 ",\"after\":%" PRIu32 ",\"score\":%.9g", f->first, f->after, (double)f->score);
+    fprintf(to, ",\"first\":%" PRIu32 ",\"after\":%" PRIu32, f->first, f->after);
+    json_value(to, &f->of);
     json_doubt(to, r, f);
     fputc('}', to);
 }
@@ -62,8 +72,7 @@ static void json_answer(FILE *to, const report *r) {
     const settings *s = &r->from->with;
     fputc(',', to);
     json_licence(to, r, &r->whole.text);
-    if (overall_known(r)) fprintf(to, ",\"score\":%.9g", (double)r->answer.score);
-    else fputs(",\"score\":null", to);
+    json_value(to, overall_known(r) ? &r->whole.of : 0);
     json_doubt(to, r, &r->whole);
     fprintf(to, ",\"scorings\":%" PRIu64, r->answer.count);
     json_findings(to, r, "ranges", &r->ranges, true);
@@ -160,8 +169,15 @@ static void report_json(const report *r, FILE *to) {
     fputs("}\n", to);
 }
 
-static void plain_text(FILE *to, const report *r, const stored_text *s, float score) {
-    fprintf(to, "%.*s, %s, score %.4f", (int)s->len, s->name, kind_words(s->kind), (double)score);
+/* 2m/t with m itself to be read, for it says how many pairs are shared. */
+static void plain_value(FILE *to, const value *v) {
+    fprintf(to, "score %.4f", (double)v->score);
+    if (v->counted) fprintf(to, ", 2m/t = 2*%" PRIu32 "/%" PRIu32, v->m, v->t);
+}
+
+static void plain_text(FILE *to, const report *r, const stored_text *s, const value *v) {
+    fprintf(to, "%.*s, %s, ", (int)s->len, s->name, kind_words(s->kind));
+    plain_value(to, v);
     if (!r->from->with.beside) return;
     fputs(", from ", to);
     put_plain(to, s->book);
@@ -169,11 +185,11 @@ static void plain_text(FILE *to, const report *r, const stored_text *s, float sc
 
 static void plain_doubt(FILE *to, const report *r, const finding *f) {
     const char *lead = 0;
-    if (has_rival(f)) lead = f->other_score > f->score ? "but higher on these lines: " : "but as high: ";
+    if (has_rival(f)) lead = f->other_of.score > f->of.score ? "but higher on these lines: " : "but as high: ";
     else if (r->from->with.second && f->looked && f->other.kind) lead = f->text.kind ? "next: " : "nearest: ";
     if (!lead) return;
     fprintf(to, "    %s", lead);
-    plain_text(to, r, &f->other, f->other_score);
+    plain_text(to, r, &f->other, &f->other_of);
     fputc('\n', to);
 }
 
@@ -182,7 +198,7 @@ static void plain_finding(FILE *to, const report *r, const finding *f, const cha
     if (f->first == f->after) fprintf(to, "no line, after line %" PRIu32 ": ", f->first);
     else if (f->first + 1 == f->after) fprintf(to, "line %" PRIu32 ": ", f->after);
     else fprintf(to, "lines %" PRIu32 " to %" PRIu32 ": ", f->first + 1, f->after);
-    plain_text(to, r, &f->text, f->score);
+    plain_text(to, r, &f->text, &f->of);
     fputc('\n', to);
     plain_doubt(to, r, f);
 }
@@ -197,7 +213,7 @@ static void plain_rest(FILE *to, const report *r) {
         fputs(s->thorough ? "\n" : "; --thorough looks there\n", to);
     }
     fprintf(to, "  %" PRIu64 " scoring%s", r->answer.count, r->answer.count == 1 ? "" : "s");
-    if (r->more) fprintf(to, ", %" PRIu64 " more in further scans", r->more);
+    if (r->more) fprintf(to, ", %" PRIu64 " more behind the scan", r->more);
     fputc('\n', to);
 }
 
@@ -217,9 +233,12 @@ static void report_plain(const report *r, FILE *to, FILE *err) {
     }
     put_plain(to, r->file);
     fputs(": ", to);
-    if (r->whole.text.kind) plain_text(to, r, &r->whole.text, a->score);
-    else if (overall_known(r)) fprintf(to, "no licence as a whole (best score %.4f)", (double)a->score);
-    else if (!r->from->with.down) fputs("not known as a whole", to);
+    if (r->whole.text.kind) plain_text(to, r, &r->whole.text, &r->whole.of);
+    else if (overall_known(r)) {
+        fputs("no licence as a whole (best ", to);
+        plain_value(to, &r->whole.of);
+        fputc(')', to);
+    } else if (!r->from->with.down) fputs("not known as a whole", to);
     else fputs(a->records ? "ranges" : "no range", to);
     fprintf(to, "%s\n", a->refusal ? "; stopped by the budget" : "");
     plain_doubt(to, r, &r->whole);

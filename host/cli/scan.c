@@ -141,10 +141,11 @@ static void scan_text(worker *w, report *r) {
     part text = {r->text, r->len};
     r->answer = scan_whole(w, text);
     if (!is_answered(&r->answer)) return;
-    r->whole = (finding){.text = named_by(w->from, &r->answer), .score = r->answer.score};
-    add_records(w, &r->answer, 0, 0, &r->ranges);
+    r->whole = (finding){.text = named_by(w->from, &r->answer), .of = overall_of(&r->answer)};
     find_lines(w, text);
     r->whole.after = (uint32_t)w->lines;
+    add_records(w, &r->answer, 0, 0, &r->ranges);
+    count_pairs(w, r, 0, r->whole.after, &r->ranges);
     if (w->from->with.thorough) look_further(w, r);
     look_for_others(w, r);
     count_unheld(w, r);

@@ -29,20 +29,24 @@ typedef struct {
     uint32_t *pair_room;
 } shelf;
 
+/* What a scoring yields: m word pairs shared, t word pairs of both together, and the score, 2m/t. A record has its score alone, and m and t are asked for
+   behind it: `counted` is false where the budget did not pay for that. */
+typedef struct { float score; uint32_t m, t; bool counted; } value;
+
 /* A licence that was found, in the whole note or in the lines from `first` up to, and without, `after`. No name: none was found.
-   other: the best of the other licences on the same lines, with its score; `looked` is false where the budget did not pay for the look. */
+   other: the best of the other licences on the same lines, with its value; `looked` is false where the budget did not pay for the look. */
 typedef struct {
     stored_text text;
     uint32_t number, first, after;
-    float score;
+    value of;
     stored_text other;
-    float other_score;
+    value other_of;
     bool looked;
 } finding;
 typedef struct { finding *at; size_t count, room; } findings;
 finding *add_finding(findings *to, finding f);
 
-/* All that there is to say of one note. The further scans made `more` scorings; `stopped` says that the budget ended them.
+/* All that there is to say of one note. Behind its own scan `more` scorings were made; `stopped` says that the budget ended the further scans.
    unheld: lines with words that neither a range nor a further finding holds. */
 typedef struct {
     const char *file;
@@ -58,7 +62,7 @@ typedef struct {
 } report;
 
 /* One worker's memory, taken once. `raw` is for the note as it was read, where --ascii changes it; `blanked` for the note without what was found
-   (doubt.c); what is by lines, for further.c; from `table` on, for choice.c. */
+   (calls.c, doubt.c); what is by lines, for further.c; from `table` on, for choice.c. */
 typedef struct {
     const shelf *from;
     memory lent;
@@ -82,9 +86,15 @@ chultarvi_note_scanned scan_whole(const worker *w, part text);
 bool is_answered(const chultarvi_note_scanned *a);
 /* The licence that the answer of a scan against whole books names, as if it were stored. All is null where none is named. */
 stored_text named_by(const shelf *s, const chultarvi_note_scanned *a);
-/* Adds what the answer recorded, its lines counted on from `first`. `numbers` says which stored text each number of the answer means; null where
-   the numbers are the shelf's own. */
+/* The overall value of an answer. */
+value overall_of(const chultarvi_note_scanned *a);
+/* Adds what the answer to a scan of the note's lines from `first` on recorded, to findings that have none yet. `numbers` says which stored text each
+   number of the answer means; null where the numbers are the shelf's own. */
 void add_records(const worker *w, const chultarvi_note_scanned *a, uint32_t first, const uint32_t *numbers, findings *to);
+/* Asks for m and t of the records of a scan of these lines, in the order in which they were made, as far as the note's budget pays. */
+void count_pairs(worker *w, report *r, uint32_t first, uint32_t after, findings *made);
+/* Blanks these lines of `blanked`; newlines stay. */
+void blank_lines(worker *w, part lines);
 /* One more scan for a note, against parts of the books, by what is left of its budget, and charged to it. */
 typedef struct { float threshold, shallow; bool optimize; uint64_t budget; } way;
 chultarvi_note_scanned scan_more(const worker *w, report *r, part text, const part books[2], way by);
@@ -100,6 +110,8 @@ void close_choice(worker *w);
 bool choose_texts(worker *w, part text, const stored_text *but, part books[2]);
 /* The same of all stored texts but that licence's. */
 bool choose_others(worker *w, const stored_text *but, part books[2]);
+/* A book in which this stored text alone has words, and its number there. */
+uint32_t choose_one(worker *w, uint32_t number, part *book);
 /* The licence that an answer over the chosen texts names. */
 stored_text chosen_by(const worker *w, const chultarvi_note_scanned *a);
 bool same_licence(const stored_text *a, const stored_text *b);

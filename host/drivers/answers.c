@@ -124,11 +124,17 @@ static books_t beside_store(const uint8_t *own, size_t own_len, const char *bord
     if (behind) return (books_t){book, own, book_len, own_len, true};
     return (books_t){own, book, own_len, book_len, border != 0};
 }
+/* every score, which the original is asked for, is 2m/t of the m and t beside it, and these are 0 where there is none */
+static void look_at_pairs(float score, uint32_t m, uint32_t t, bool any) {
+    if (bits(t ? (float)(2 * m) / (float)t : 0.0f) != bits(score)) stop("a score is not 2m/t");
+    if (2 * m > t || t >= 1u << 24 || (!any && (m || t))) stop("m or t is out of its range");
+}
 static float score_of(text_t t, books_t b, size_t start, size_t end, uint32_t number) {
     areas_t a = lend(t.len, 0);
     chultarvi_view_scored s = b.two ? chultarvi_score_both(TEXT_AND_BOTH, start, end, number, WORK)
                                     : chultarvi_score(TEXT_AND_BOOK, start, end, number, WORK);
     if (s.refusal) stop("a score is refused");
+    look_at_pairs(s.score, s.m, s.t, true);
     give_back(a, 0);
     return s.score;
 }
@@ -137,6 +143,7 @@ static void print_bounds(text_t t, books_t b, size_t start, size_t end, uint32_t
     chultarvi_bounds_found f = b.two ? chultarvi_bounds_both(TEXT_AND_BOTH, start, end, number, WORK)
                                      : chultarvi_bounds(TEXT_AND_BOOK, start, end, number, WORK);
     if (f.refusal) stop("bounds are refused");
+    look_at_pairs(f.score, f.m, f.t, true);
     printf("%" PRIu64 " %" PRIu32 " %" PRIu32 " %08" PRIx32 "\n", f.count, f.first, f.after, bits(f.score));
     give_back(a, 0);
 }
@@ -242,6 +249,7 @@ static void answer_scan(char **w, const char *border, bool down) {
     areas_t a = lend(t.len, down ? chultarvi_top_down_results(lines_of(t)) : chultarvi_elimination_results(q.optimize, q.passes));
     chultarvi_note_scanned s = scan(q, t, b, a);
     if (s.refusal && s.refusal != CHULTARVI_STOPPED_BY_BUDGET) stop(chultarvi_refusal_text(s.refusal));
+    look_at_pairs(s.score, s.m, s.t, !down && q.budget >= chultarvi_check_book(book, book_len).texts);
     printf("%" PRIu32 " %" PRIu64 " %08" PRIx32 " ", s.refusal, s.count, bits(s.score));
     print_named(&s, t, b);
     for (size_t k = 0; k < s.records; k++) {

@@ -1,6 +1,6 @@
 /* Calls the archive as it is told: a call on standard input, what came of it on standard output, until the input ends. oracle/rows.py asks.
    Every number is a u64, little-endian. A call: the nineteen numbers below, then what text, both books, area, words, out and results hold; of the
-   books only the first is lent, or both, or the first twice. The answer: eleven numbers, the 64 bytes of the name and where it stands, whether
+   books only the first is lent, or both, or the first twice. The answer: thirteen numbers, the 64 bytes of the name and where it stands, whether
    chultarvi_name or chultarvi_stored_name finds it elsewhere, whether the bytes behind a buffer have changed, then what the seven hold now. An empty
    buffer is lent as a null pointer. */
 #include "../../include/chultarvi.h"
@@ -14,7 +14,7 @@ enum { ONE, TWO, SAME };
 enum { FENCE = 64, FENCE_BYTE = 0xd7 };
 typedef struct { uint64_t job, edition, start, end, number, threshold, shallow, optimize, passes, step, budget, books, len[BUFFERS]; } call;
 typedef struct {
-    uint64_t refusal, texts, len, first, after, score, count, records, kind, name_len, edition;
+    uint64_t refusal, texts, len, first, after, score, m, t, count, records, kind, name_len, edition;
     uint8_t name[64];
     uint64_t second, name_at, misplaced, crossed;
 } reply;
@@ -67,10 +67,10 @@ static const uint8_t *second_book(const call *c) { return c->books == ONE ? 0 : 
 static void view_job(const call *c, reply *r) {
     if (c->job == SCORE) {
         chultarvi_view_scored s = c->books == ONE ? chultarvi_score(TEXT_AND_BOOK, VIEW, WORK) : chultarvi_score_both(TEXT_AND_BOTH, VIEW, WORK);
-        r->refusal = s.refusal, r->score = bits_of(s.score);
+        r->refusal = s.refusal, r->score = bits_of(s.score), r->m = s.m, r->t = s.t;
     } else {
         chultarvi_bounds_found b = c->books == ONE ? chultarvi_bounds(TEXT_AND_BOOK, VIEW, WORK) : chultarvi_bounds_both(TEXT_AND_BOTH, VIEW, WORK);
-        r->refusal = b.refusal, r->first = b.first, r->after = b.after, r->score = bits_of(b.score), r->count = b.count;
+        r->refusal = b.refusal, r->first = b.first, r->after = b.after, r->score = bits_of(b.score), r->m = b.m, r->t = b.t, r->count = b.count;
     }
 }
 /* Does `name`, which the header finds for this part, point elsewhere than into the lent book that holds it? Without a name: than at the first book's
@@ -100,7 +100,8 @@ static chultarvi_note_scanned scanned(const call *c) {
 }
 static void scan_job(const call *c, reply *r) {
     chultarvi_note_scanned s = scanned(c);
-    r->refusal = s.refusal, r->records = s.records, r->count = s.count, r->score = bits_of(s.score), r->kind = s.kind, r->name_len = s.len;
+    r->refusal = s.refusal, r->records = s.records, r->count = s.count, r->score = bits_of(s.score), r->m = s.m, r->t = s.t;
+    r->kind = s.kind, r->name_len = s.len;
     memcpy(r->name, s.name, sizeof s.name);
     const uint8_t *name = chultarvi_name(lent(c, BOOK), second_book(c), &s);
     r->second = s.second, r->name_at = s.name_at;

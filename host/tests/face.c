@@ -16,31 +16,37 @@ LAYOUT(chultarvi_book_checked, texts, 4);
 static_assert(sizeof(chultarvi_text_compiled) == 16, "size");
 LAYOUT(chultarvi_text_compiled, refusal, 0);
 LAYOUT(chultarvi_text_compiled, len, 8);
-static_assert(sizeof(chultarvi_view_scored) == 8, "size");
+static_assert(sizeof(chultarvi_view_scored) == 16, "size");
 LAYOUT(chultarvi_view_scored, refusal, 0);
 LAYOUT(chultarvi_view_scored, score, 4);
-static_assert(sizeof(chultarvi_bounds_found) == 24, "size");
+LAYOUT(chultarvi_view_scored, m, 8);
+LAYOUT(chultarvi_view_scored, t, 12);
+static_assert(sizeof(chultarvi_bounds_found) == 32, "size");
 LAYOUT(chultarvi_bounds_found, refusal, 0);
 LAYOUT(chultarvi_bounds_found, first, 4);
 LAYOUT(chultarvi_bounds_found, after, 8);
 LAYOUT(chultarvi_bounds_found, score, 12);
-LAYOUT(chultarvi_bounds_found, count, 16);
+LAYOUT(chultarvi_bounds_found, m, 16);
+LAYOUT(chultarvi_bounds_found, t, 20);
+LAYOUT(chultarvi_bounds_found, count, 24);
 static_assert(sizeof(chultarvi_text_named) == 24, "size");
 LAYOUT(chultarvi_text_named, refusal, 0);
 LAYOUT(chultarvi_text_named, kind, 4);
 LAYOUT(chultarvi_text_named, len, 8);
 LAYOUT(chultarvi_text_named, second, 12);
 LAYOUT(chultarvi_text_named, name_at, 16);
-static_assert(sizeof(chultarvi_note_scanned) == 104, "size");
+static_assert(sizeof(chultarvi_note_scanned) == 112, "size");
 LAYOUT(chultarvi_note_scanned, refusal, 0);
 LAYOUT(chultarvi_note_scanned, records, 4);
 LAYOUT(chultarvi_note_scanned, count, 8);
 LAYOUT(chultarvi_note_scanned, score, 16);
-LAYOUT(chultarvi_note_scanned, kind, 20);
-LAYOUT(chultarvi_note_scanned, len, 24);
-LAYOUT(chultarvi_note_scanned, name, 28);
-LAYOUT(chultarvi_note_scanned, second, 92);
-LAYOUT(chultarvi_note_scanned, name_at, 96);
+LAYOUT(chultarvi_note_scanned, m, 20);
+LAYOUT(chultarvi_note_scanned, t, 24);
+LAYOUT(chultarvi_note_scanned, kind, 28);
+LAYOUT(chultarvi_note_scanned, len, 32);
+LAYOUT(chultarvi_note_scanned, name, 36);
+LAYOUT(chultarvi_note_scanned, second, 100);
+LAYOUT(chultarvi_note_scanned, name_at, 104);
 
 static int passed, failed;
 static void check(bool good, const char *what) {
@@ -149,7 +155,13 @@ static lent lend(const void *text, size_t len, const uint8_t *book, size_t book_
 }
 static lent marked(void) { return lend(text_2, sizeof text_2 - 1, book_a, BOOK_A); }
 
-/* Each export, its areas looked at. */
+/* A score is 2m/t, by one division, and 0.0 where t is 0; after a refusal but 12 all three are 0. */
+static bool pairs_right(uint32_t refusal, float score, uint32_t m, uint32_t t) {
+    if (refusal != 0 && refusal != 12 && (m != 0 || t != 0)) return false;
+    return 2 * m <= t && t < 1u << 24 && score == (t ? (float)(2 * m) / (float)t : 0.0f);
+}
+
+/* Each export, its areas and its m and t looked at. */
 static chultarvi_text_compiled compile(const lent *l, const char *what) {
     fill(l);
     chultarvi_text_compiled c = chultarvi_compile(l->text, l->len, l->edition, area, l->area_len, words, l->words_len, out, l->out_len);
@@ -163,6 +175,7 @@ static chultarvi_view_scored score(const lent *l, size_t start, size_t end, uint
                                        words, l->words_len)
                 : chultarvi_score(l->text, l->len, l->book, l->book_len, start, end, number, area, l->area_len, words, l->words_len);
     check(areas_right(l, s.refusal, 0, 0) && (s.refusal == 0 || s.score == 0.0f), what);
+    check(pairs_right(s.refusal, s.score, s.m, s.t), what);
     return s;
 }
 static chultarvi_bounds_found bounds(const lent *l, size_t start, size_t end, uint32_t number, const char *what) {
@@ -172,6 +185,7 @@ static chultarvi_bounds_found bounds(const lent *l, size_t start, size_t end, ui
                                         words, l->words_len)
                 : chultarvi_bounds(l->text, l->len, l->book, l->book_len, start, end, number, area, l->area_len, words, l->words_len);
     check(areas_right(l, b.refusal, 0, 0) && (b.refusal == 0 || (b.first == 0 && b.after == 0 && b.score == 0.0f && b.count == 0)), what);
+    check(pairs_right(b.refusal, b.score, b.m, b.t), what);
     return b;
 }
 static bool nothing_else(const chultarvi_note_scanned *s) { return s->records == 0 && s->count == 0 && s->score == 0.0f && s->kind == 0; }
@@ -188,6 +202,7 @@ static bool name_right(const lent *l, const chultarvi_note_scanned *s) {
 static void check_scan(const lent *l, const chultarvi_note_scanned *s, const char *what) {
     check(areas_right(l, s->refusal, 0, s->records) && (s->refusal == 0 || s->refusal == 12 || nothing_else(s)), what);
     check(name_right(l, s), what);
+    check(pairs_right(s->refusal, s->score, s->m, s->t), what);
 }
 static chultarvi_note_scanned eliminate(const lent *l, float threshold, float shallow, bool optimize, uint16_t passes, uint64_t budget,
                                         const char *what) {
@@ -249,6 +264,32 @@ static void test_answers(void) {
     check(s.second == (form == SECOND) && s.name_at == at && chultarvi_name(l.book, l.second, &s) == (form == SECOND ? l.second : l.book) + at,
           "and where its name stands");
     check(eliminate(&l, 1.0f, 0.99f, false, 0, 1, "areas at threshold 1").kind == 0, "nothing is named at a score equal to the threshold");
+}
+
+/* The numbers behind the score: of all lines, of none, of an empty table and text; of the range found; of top-down, which has none. */
+typedef struct { const char *text; const uint8_t *book; size_t book_len; uint32_t m, t; } behind_row;
+static void test_behind(void) {
+    static const uint8_t bare[] = {1, 0, 0, 0, 1, 0, 'A', 8, 0, 0, 0, 2, 0, 0, 0, 0, 0, 0, 0, 0, 0};
+    const behind_row rows[] = {
+        {"My First License", book_a, BOOK_A, 2, 4}, {"My First License", bare, sizeof bare, 0, 2}, {"", book_a, BOOK_A, 0, 2}, {"", bare, sizeof bare, 0, 0},
+        {"x y", book_a, BOOK_A, 0, 3}, {"my first my first license", book_a, BOOK_A, 2, 6},
+    };
+    for (const behind_row *r = rows; r < rows + sizeof rows / sizeof *rows; r++) {
+        lent l = lend(r->text, strlen(r->text), r->book, r->book_len);
+        chultarvi_view_scored v = score(&l, 0, 1, 0, "areas, m and t");
+        check(v.refusal == 0 && v.m == r->m && v.t == r->t, "m and t of a view");
+        chultarvi_note_scanned s = eliminate(&l, 1.0f, 1.0f, false, 0, 1, "areas, m and t");
+        check(s.refusal == 0 && s.kind == 0 && s.m == r->m && s.t == r->t, "m and t of the best text, which is not named");
+        s = eliminate(&l, 1.0f, 1.0f, false, 0, 0, "areas, m and t");
+        check(s.refusal == 12 && s.m == 0 && s.t == 0, "none before each stored text is scored");
+    }
+    lent l = marked();
+    check(score(&l, 0, 4, 0, "areas, m and t").t == 6, "t of all lines");
+    chultarvi_bounds_found b = bounds(&l, 0, 4, 0, "areas, m and t");
+    check(b.m == 2 && b.t == 4, "m and t of the range found, not of the view");
+    l.results_len = 16;
+    chultarvi_note_scanned s = top_down(&l, 0.9f, 0.99f, 1, 1000, "areas, m and t");
+    check(s.records == 1 && s.m == 0 && s.t == 0, "top-down has no text as a whole, and no m and t");
 }
 
 static void test_texts(void) {
@@ -481,6 +522,7 @@ static void test_budget(void) {
         check(s.count == (budget < 20 ? budget : 20), "the count is the budget, or 20");
         check(s.records == (budget < 9 ? 0 : 1), "one record from a budget of 9 on");
         check((s.score > 0.0f) == (budget >= 1) && s.kind == 0, "the overall score is known once the first text is paid");
+        check(s.m == (budget >= 1 ? 2u : 0u) && s.t == (budget >= 1 ? 6u : 0u), "and so are its m and t, though no licence is named");
     }
     l.results_len = 16;
     uint64_t full = top_down(&l, 0.9f, 0.99f, 1, UINT64_MAX, "areas, no budget").count;
@@ -999,7 +1041,7 @@ static void test_both_editions(const of_edition *in) {
 static void check_gpl(held book, const char *note, const char *name, const char *what) {
     lent l = lend_both(note, strlen(note), book.at, book.len, 0, 0);
     l.both = false;
-    chultarvi_note_scanned s = eliminate(&l, 0.9f, 0.99f, false, 0, 2, what);
+    chultarvi_note_scanned s = eliminate(&l, 0.0f, 0.99f, false, 0, 2, what);
     check(s.refusal == 0 && s.score == 1.0f && s.count == 2 && s.len == 2 && memcmp(s.name, name, 2) == 0, what);
 }
 static held put_gpl(uint8_t *room) {
@@ -1187,6 +1229,36 @@ static const pair_row pair_rows[] = {
     {BYTES("a " NEXT_LINE), 4},      {BYTES("a " "\xc4\x80"), 4},     {BYTES("a \xc1\xa1"), 4},           {BYTES(E_ACUTE), 4},
     {BYTES(E_ACUTE "  a"), 4},       {BYTES(" " E_ACUTE), 4},          {BYTES(E_ACUTE " "), 4},             {BYTES(E_ACUTE " a " A_GRAVE), 4},
 };
+/* A licence with the pair `a a` so many times. */
+static uint8_t *put_often(uint8_t *p, const char *name, uint32_t times) {
+    p = put_head(put_record(p, CHULTARVI_LICENCE_NAME, name, 1), 8 + 8 + 3, CHULTARVI_ORIGINAL);
+    p = put_number(put_number(put_number(put_number(p, times), 1), times), 3);
+    memcpy(p, "a a", 3);
+    return p + 3;
+}
+/* A note with that pair `pairs` times, and two licences with it so often, in one book and in two: which wins, with which m and t? */
+static void check_ranked(uint32_t pairs, uint32_t first, uint32_t second, uint32_t wins, const char *what) {
+    static uint8_t one[64], two[64];
+    for (size_t i = 0; i <= pairs; i++) memcpy(big + 2 * i, "a ", 2);
+    uint8_t *middle = put_often(one, "A", first), *end = put_often(middle, "B", second);
+    size_t two_len = (size_t)(put_often(two, "B", second) - two), both = (size_t)(end - one), alone = (size_t)(middle - one);
+    const lent ways[] = {lend_both(big, 2 * pairs + 2, one, alone, two, two_len), lend_both(big, 2 * pairs + 2, one, both, 0, 0)};
+    for (int i = 0; i < 2; i++) {
+        lent l = ways[i];
+        l.both = i == 0;
+        chultarvi_note_scanned s = eliminate(&l, 0.0f, 0.99f, false, 0, 2, what);
+        check(s.refusal == 0 && s.m == (wins < pairs ? wins : pairs) && s.t == pairs + wins && s.name[0] == (wins == first ? 'A' : 'B'), what);
+    }
+}
+static void test_ranked(void) {
+    check_ranked(4096, 4095, 4097, 4095, "2*4095/8191 before 2*4096/8193: one float, the earlier wins though its fraction is smaller");
+    check_ranked(4096, 4097, 4095, 4097, "2*4096/8193 before 2*4095/8191: the earlier wins");
+    check_ranked(4096, 4094, 4098, 4098, "2*4094/8190 before 2*4096/8194: two floats, the higher wins");
+    check_ranked(4096, 4098, 4094, 4098, "2*4096/8194 before 2*4094/8190: the higher wins");
+    check_ranked(4096, 4096, 4095, 4096, "all pairs shared");
+    check_ranked(1, CHULTARVI_TEXT_MOST, 8 * CHULTARVI_TEXT_MOST, CHULTARVI_TEXT_MOST, "totals to 8,388,608");
+}
+
 static void test_pairs(void) {
     for (const pair_row *r = pair_rows; r < pair_rows + sizeof pair_rows / sizeof *pair_rows; r++) {
         for (uint32_t by = 1; by <= 2; by++) check(pair_refused(by, r->pair, r->len) == 4, "a wide word in editions 1 and 2");
@@ -1277,6 +1349,7 @@ static void test_wide_most(void) {
 static void test_one_book(void) {
     for (form = ALONE; form < FORMS; form++) {
         test_answers();
+        test_behind();
         test_texts();
         test_books();
         test_long_name();
@@ -1323,6 +1396,7 @@ int main(void) {
     test_two_bytes();
     test_taken();
     test_first_book();
+    test_ranked();
     test_pairs();
     test_french();
     test_addresses();

@@ -14,6 +14,8 @@ pub struct Compiled {
 pub struct Scored {
     pub refusal: u32,
     pub score: f32,
+    pub m: u32,
+    pub t: u32,
 }
 #[repr(C)]
 pub struct Bounded {
@@ -21,6 +23,8 @@ pub struct Bounded {
     pub first: u32,
     pub after: u32,
     pub score: f32,
+    pub m: u32,
+    pub t: u32,
     pub count: u64,
 }
 #[repr(C)]
@@ -29,6 +33,8 @@ pub struct Scanned {
     pub records: u32,
     pub count: u64,
     pub score: f32,
+    pub m: u32,
+    pub t: u32,
     pub kind: u32,
     pub len: u32,
     pub name: [u8; 64],

@@ -20,10 +20,10 @@ abbrev pub compiledOf : TextCompiled → Compiled
 compiledOf r = record { refusal = r .refusal; len = r .len }
 
 abbrev pub scoredOf : ViewScored → Scored
-scoredOf r = record { refusal = r .refusal; score = r .score }
+scoredOf r = record { refusal = r .refusal; score = r .score; m = r .m; t = r .t }
 
 abbrev pub boundedOf : BoundsFound → Bounded
-boundedOf r = record { refusal = r .refusal; first = r .first; after = r .after; score = r .score; count = r .count }
+boundedOf r = record { refusal = r .refusal; first = r .first; after = r .after; score = r .score; m = r .m; t = r .t; count = r .count }
 
 abbrev pub scannedOf : NoteScanned → Scanned
 scannedOf r = record {
@@ -32,6 +32,8 @@ scannedOf r = record {
   len = r .len;
   kind = r .kind;
   score = r .score;
+  m = r .m;
+  t = r .t;
   count = r .count;
   records = r .records;
   part = record { second = r .second; at = r .at; len = r .len };

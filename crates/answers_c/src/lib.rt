@@ -43,10 +43,13 @@ pub fn compiled_for_c(compiled: Compiled) -> TextCompiled
     }
 }
 
+// The score, and the numbers behind it: m word pairs shared, t word pairs of both together; the score is 2m/t.
 #[repr(C)]
 pub struct ViewScored {
     pub refusal: u32,
     pub score: f32,
+    pub m: u32,
+    pub t: u32,
 }
 
 pub fn scored_for_c(scored: Scored) -> ViewScored
@@ -55,15 +58,20 @@ pub fn scored_for_c(scored: Scored) -> ViewScored
     ViewScored {
         refusal: scored.refusal,
         score: scored.score,
+        m: scored.m,
+        t: scored.t,
     }
 }
 
+// The range, and the score, m and t of its lines.
 #[repr(C)]
 pub struct BoundsFound {
     pub refusal: u32,
     pub first: u32,
     pub after: u32,
     pub score: f32,
+    pub m: u32,
+    pub t: u32,
     pub count: u64,
 }
 
@@ -75,18 +83,22 @@ pub fn bounded_for_c(bounded: Bounded) -> BoundsFound
         first: bounded.first,
         after: bounded.after,
         score: bounded.score,
+        m: bounded.m,
+        t: bounded.t,
         count: bounded.count,
     }
 }
 
-// The answer of every scan: the name that won, zero-filled, and its length; its kind, 0 where none is named; and where the same bytes stand, in the
-// second book or the first, from `at` on.
+// The answer of every scan: the overall score with its m and t; the name that won, zero-filled, and its length; its kind, 0 where none is named; and
+// where the same bytes stand, in the second book or the first, from `at` on.
 #[repr(C)]
 pub struct NoteScanned {
     pub refusal: u32,
     pub records: u32,
     pub count: u64,
     pub score: f32,
+    pub m: u32,
+    pub t: u32,
     pub kind: u32,
     pub len: u32,
     pub name: [u8; NAME_MOST],
@@ -106,6 +118,8 @@ pub fn scanned_for_c(s: Scanned) -> NoteScanned
         records: s.records,
         count: s.count,
         score: s.score,
+        m: s.m,
+        t: s.t,
         kind: s.kind,
         len: s.len,
         name,

@@ -3,16 +3,16 @@
 use Prim.Native.Nat.{ℕ, _-_, _≤_}
 use Rattle.rules.specs.declared.Bounded.{Bounded}
 use Rattle.rules.specs.Sizes.{linesMost}
-use Rattle.rules.specs.Table.{nought}
+use Rattle.rules.specs.Jobs.{boundedAs, noBounds}
 use Rattle.license_bounds.specs.declared.Ranged.{Ranged}
 use Rattle.license_bounds.specs.declared.Ranged.the-variants.{Out, Found}
 
 abbrev pub refusedBy : ℕ → Bounded
-refusedBy n = record { refusal = n; first = 0; after = 0; score = nought; count = 0 }
+refusedBy n = boundedAs n noBounds 0
 
 unfoldable pub answerFor : Ranged → ℕ → Bounded
 answerFor Out budget = refusedBy 0
-answerFor (Found b left) budget = record { refusal = 0; first = b .first; after = b .after; score = b .value .score; count = budget - left .count }
+answerFor (Found b left) budget = boundedAs 0 b (budget - left .count)
 
 unfoldable pub FitsAnswer : Ranged → ℕ → Type 0
 FitsAnswer Out budget = Unit {0}

@@ -16,6 +16,8 @@ pub fn refused(refusal: u32) -> Bounded
         first: 0,
         after: 0,
         score: 0.0,
+        m: 0,
+        t: 0,
         count: 0,
     }
 }
@@ -31,6 +33,8 @@ pub fn answer(ranged: Ranged, budget: u64) -> Bounded
             first: b.first as u32,
             after: b.after as u32,
             score: b.value.score,
+            m: b.value.m,
+            t: b.value.t,
             count: budget - count_of(left),
         },
         Ranged::Out => refused(0),

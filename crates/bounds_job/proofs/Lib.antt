@@ -1,1 +1,2 @@
 pub mod BoundsLaws
+pub mod FaceLaws

@@ -13,7 +13,7 @@ use Rattle.rules.specs.declared.Bounded.{Bounded}
 use Rattle.rules.specs.Sizes.{linesMost}
 use Rattle.rules.specs.Search.{Stored, noText, bounds}
 use Rattle.rules.specs.Count.{mostFor}
-use Rattle.rules.specs.Jobs.{boundsFound}
+use Rattle.rules.specs.Jobs.{boundedAs, boundsFound}
 use Rattle.rules.proofs.CountLaws.{rounds-least, bounds-count}
 use Rattle.rules.proofs.DownLaws.{bounds-in}
 use Rattle.license_charge.specs.declared.Scorings.{Scorings}
@@ -40,9 +40,7 @@ module _ (ls : List (List ℕ)) (v : View) (s : Stored) (order : v .start ≤ v 
   bounds-most = omega (arith, bounds-count ls v s linesMost order inside, most-lines)
 
   abbrev answer : Bounded
-  answer =
-      let b = bounds ls v s .value in
-      record { refusal = 0; first = b .first; after = b .after; score = b .value .score; count = count }
+  answer = boundedAs 0 (bounds ls v s .value) count
 
   module _ (x : Ranged) (left : Scorings) (made : left ≡ record { count = boundsMost }) (found : x ≡ rangedOf (pay (bounds ls v s) (left .count))) where
     is-found : x ≡ Found (bounds ls v s .value) (record { count = boundsMost - count })
@@ -55,10 +53,7 @@ module _ (ls : List (List ℕ)) (v : View) (s : Stored) (order : v .start ≤ v 
 
     pub answer-is : answerFor x boundsMost ≡ answer
     unfolding answerFor
-    answer-is =
-        let b = bounds ls v s .value in
-        ap (λ (y : Ranged). answerFor y boundsMost) is-found ∙
-        ap (λ (n : ℕ). record { refusal = 0; first = b .first; after = b .after; score = b .value .score; count = n }) (paid bounds-most)
+    answer-is = ap (λ (y : Ranged). answerFor y boundsMost) is-found ∙ ap (boundedAs 0 (bounds ls v s .value)) (paid bounds-most)
       where
         paid : count ≤ boundsMost → boundsMost - (boundsMost - count) ≡ count
         paid h = omega arith

@@ -14,7 +14,7 @@ use mathlib.Core.List.{List, [], _∷_}
 use Prim.Native.Nat.{ℕ, _≤_, _<_}
 use native.Mathlib.Nat.{zero-add}
 use native.Mathlib.Omega.{arith}
-use lib.Dec.{leb, ltb, eqb}
+use lib.Dec.{leb, eqb}
 use lib.ListN.{length, getD, drop, length-drop}
 use lib.Seq.{length-take-le}
 use borrow.Author.Tests.{ne-eqb, eqb-true, eqb-false, leb-false, lt-leb, not-false}
@@ -23,13 +23,11 @@ use Rattle.rules.specs.declared.Mode.{Mode}
 use Rattle.rules.specs.declared.Named.{Named}
 use Rattle.rules.specs.declared.Scanned.{Scanned}
 use Rattle.rules.specs.declared.NamedText.{NamedText}
-use Rattle.rules.specs.Sizes.{textMost, linesMost, nameMost}
-use Rattle.rules.specs.Points.{wide, taken}
-use Rattle.rules.specs.Lines.{lineCount}
+use Rattle.rules.specs.Sizes.{nameMost}
 use Rattle.rules.specs.Search.{Stored, noText, noBest}
 use Rattle.rules.specs.Scan.{names, records, verdict}
-use Rattle.rules.specs.Book.{allSound, shelved, editionOf, differ, noPart, nameParts, partIn, Lies, ReadAs}
-use Rattle.rules.specs.Refusal.{refusal, Areas, ofText, ofBooks, ofName, beforeScan, ofScan}
+use Rattle.rules.specs.Book.{allSound, shelved, differ, noPart, nameParts, partIn, Lies, ReadAs}
+use Rattle.rules.specs.Refusal.{refusal, Areas, ofBooks, ofName, beforeScan, ofScan}
 use Rattle.rules.specs.Jobs.{lent, happened, named, namePart, answered, scan, numbered, nameJob, ScanDone, NameDone}
 use Rattle.rules.proofs.DownLaws.{Each, each-at, each-of}
 use Rattle.rules.proofs.SoundLaws.{StoredSound}
@@ -38,6 +36,7 @@ use Rattle.rules.proofs.NameLaws.{text-named}
 use Rattle.rules.proofs.VerdictLaws.{named-one}
 use Rattle.rules.proofs.RefusalLaws.{scan-zero, scan-only}
 use Rattle.refusals.proofs.AdmitLaws.{row-passes}
+use Rattle.refusals.proofs.PassedLaws.{both-passed}
 use Rattle.name_job.proofs.RecordLaws.{happened-held}
 
 -- ---- 0 exactly where the books are sound, of one edition, and have so many texts
@@ -141,16 +140,10 @@ module _ (t : List ℕ) (bs : List (List ℕ)) (lim : Limits) (mode : Mode) (bud
 
   -- where anything happens the books are sound, of one edition, and have a text
   books-read : eqb result 0 || eqb result 12 ≡ true → (allSound bs ≡ true) × (differ bs ≡ false) × (0 < length (shelved 0 bs))
-  unfolding beforeScan ofText ofBooks
+  unfolding beforeScan
   books-read h =
-      let one = row-passes 0 (ltb textMost (length t)) _ (begun (eqb result 0) refl h) in
-      let two = row-passes 1 (not (taken (wide (editionOf bs)) t)) _ (one .1) in
-      let three = row-passes 2 (ltb linesMost (lineCount t)) _ (two .1) in
-      let four = row-passes 3 (not (allSound bs)) _ (three .1) in
-      let five = row-passes 4 (eqb (length (shelved 0 bs)) 0) _ (four .1) in
-      let fifteen = row-passes 14 (differ bs) _ (five .1) in
-      let k = eqb-false (length (shelved 0 bs)) 0 (five .0) in
-      (not-false _ (four .0), fifteen .0, omega (arith, k))
+      let p = both-passed t bs _ (begun (eqb result 0) refl h) .0 in
+      (p .sound, p .alike, p .some)
     where
       begun : (q : Bool) → eqb result 0 ≡ q → q || eqb result 12 ≡ true → refusal (beforeScan t bs lim mode room results) ≡ 0
       begun true e k = scan-zero t bs lim mode room results budget (eqb-true result 0 e) .0

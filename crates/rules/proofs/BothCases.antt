@@ -40,12 +40,12 @@ bit b = cond b 1 0
 limits : ℕ → Limits
 limits threshold = record { threshold = ofBits binary32 threshold; shallow = ofBits binary32 0x3f000000 }
 
--- refusal, count, score bits, kind, the name's length; second, at, len of the name's part
+-- refusal, count, score bits, m and t, kind, the name's length; second, at, len of the name's part
 above : ℕ → List ℕ → List (List ℕ) → ℕ → List ℕ
 above threshold t bs budget =
     let r = scan t bs (limits threshold) (Elimination false 0) budget room 0 in
     let n = r .part in
-    r .refusal ∷ r .count ∷ toBits binary32 (r .score) ∷ r .kind ∷ r .len ∷ bit (n .second) ∷ n .at ∷ n .len ∷ []
+    r .refusal ∷ r .count ∷ toBits binary32 (r .score) ∷ r .m ∷ r .t ∷ r .kind ∷ r .len ∷ bit (n .second) ∷ n .at ∷ n .len ∷ []
 
 shown : List ℕ → List (List ℕ) → ℕ → List ℕ
 shown t bs budget = above 0x3f000000 t bs budget
@@ -56,11 +56,17 @@ down t bs =
     let r = scan t bs (limits 0x3f000000) (TopDown 1) 99 room 4 in
     r .refusal ∷ r .count ∷ resultsAfter t bs (limits 0x3f000000) (TopDown 1) 99 room (7 ∷ 7 ∷ 7 ∷ 7 ∷ []) ++ bit (r .part .second) ∷ r .part .at ∷ r .part .len ∷ []
 
--- the bounds of stored text k in the whole note of one line: refusal, first line, line after last, score bits, count
+-- the bounds of stored text k in the whole note of one line: refusal, first line, line after last, score bits, m and t, count
 found : List (List ℕ) → ℕ → List ℕ
 found bs k =
     let r = boundsJob note bs (view 0 1) k room in
-    r .refusal ∷ r .first ∷ r .after ∷ toBits binary32 (r .score) ∷ r .count ∷ []
+    r .refusal ∷ r .first ∷ r .after ∷ toBits binary32 (r .score) ∷ r .m ∷ r .t ∷ r .count ∷ []
+
+-- the score of the whole note against stored text k: refusal, score bits, m and t
+whole : List (List ℕ) → ℕ → List ℕ
+whole bs k =
+    let r = scoreJob note bs (view 0 1) k room in
+    r .refusal ∷ toBits binary32 (r .score) ∷ r .m ∷ r .t ∷ []
 
 pub got : List (List ℕ)
 got =
@@ -78,8 +84,9 @@ got =
     shown note (b1 ∷ a1 ∷ []) 1 ∷
     shown note (b1 ∷ a1 ∷ []) 2 ∷
     above 0xbf800000 note (a1 ∷ b1 ∷ []) 9 ∷
-    (scoreJob note (b1 ∷ a1 ∷ []) (view 0 1) 1 room .refusal ∷ toBits binary32 (scoreJob note (b1 ∷ a1 ∷ []) (view 0 1) 1 room .score) ∷ []) ∷
-    (scoreJob note (b1 ∷ a1 ∷ []) (view 0 1) 2 room .refusal ∷ []) ∷
+    whole (b1 ∷ a1 ∷ []) 0 ∷
+    whole (b1 ∷ a1 ∷ []) 1 ∷
+    whole (b1 ∷ a1 ∷ []) 2 ∷
     found (b1 ∷ a1 ∷ []) 0 ∷
     found (b1 ∷ a1 ∷ []) 1 ∷
     found (b1 ∷ a1 ∷ []) 2 ∷
@@ -94,32 +101,33 @@ got =
 
 pub both-hold :
     got ≡
-    (0 ∷ 2 ∷ 0x3f800000 ∷ 2 ∷ 1 ∷ 0 ∷ 6 ∷ 1 ∷ []) ∷
-    (0 ∷ 2 ∷ 0x3f800000 ∷ 2 ∷ 1 ∷ 1 ∷ 6 ∷ 1 ∷ []) ∷
-    (0 ∷ 2 ∷ 0x3f800000 ∷ 2 ∷ 1 ∷ 0 ∷ 6 ∷ 1 ∷ []) ∷
-    (0 ∷ 3 ∷ 0x3f800000 ∷ 2 ∷ 1 ∷ 0 ∷ 38 ∷ 1 ∷ []) ∷
-    (0 ∷ 3 ∷ 0x3f800000 ∷ 2 ∷ 1 ∷ 1 ∷ 6 ∷ 1 ∷ []) ∷
-    (0 ∷ 1 ∷ 0x3f800000 ∷ 2 ∷ 1 ∷ 1 ∷ 6 ∷ 1 ∷ []) ∷
-    (0 ∷ 1 ∷ 0x3f800000 ∷ 2 ∷ 1 ∷ 0 ∷ 6 ∷ 1 ∷ []) ∷
-    (5 ∷ 0 ∷ 0 ∷ 0 ∷ 0 ∷ 0 ∷ 0 ∷ 0 ∷ []) ∷
-    (4 ∷ 0 ∷ 0 ∷ 0 ∷ 0 ∷ 0 ∷ 0 ∷ 0 ∷ []) ∷
-    (4 ∷ 0 ∷ 0 ∷ 0 ∷ 0 ∷ 0 ∷ 0 ∷ 0 ∷ []) ∷
-    (0 ∷ 2 ∷ 0 ∷ 0 ∷ 0 ∷ 0 ∷ 0 ∷ 0 ∷ []) ∷
-    (12 ∷ 1 ∷ 0 ∷ 0 ∷ 0 ∷ 0 ∷ 0 ∷ 0 ∷ []) ∷
-    (0 ∷ 2 ∷ 0x3f800000 ∷ 2 ∷ 1 ∷ 1 ∷ 6 ∷ 1 ∷ []) ∷
-    (6 ∷ 0 ∷ 0 ∷ 0 ∷ 0 ∷ 0 ∷ 0 ∷ 0 ∷ []) ∷
-    (0 ∷ 0x3f800000 ∷ []) ∷
-    (9 ∷ []) ∷
-    (0 ∷ 1 ∷ 1 ∷ 0 ∷ 4 ∷ []) ∷
-    (0 ∷ 0 ∷ 1 ∷ 0x3f800000 ∷ 4 ∷ []) ∷
-    (9 ∷ 0 ∷ 0 ∷ 0 ∷ 0 ∷ []) ∷
+    (0 ∷ 2 ∷ 0x3f800000 ∷ 1 ∷ 2 ∷ 2 ∷ 1 ∷ 0 ∷ 6 ∷ 1 ∷ []) ∷
+    (0 ∷ 2 ∷ 0x3f800000 ∷ 1 ∷ 2 ∷ 2 ∷ 1 ∷ 1 ∷ 6 ∷ 1 ∷ []) ∷
+    (0 ∷ 2 ∷ 0x3f800000 ∷ 1 ∷ 2 ∷ 2 ∷ 1 ∷ 0 ∷ 6 ∷ 1 ∷ []) ∷
+    (0 ∷ 3 ∷ 0x3f800000 ∷ 1 ∷ 2 ∷ 2 ∷ 1 ∷ 0 ∷ 38 ∷ 1 ∷ []) ∷
+    (0 ∷ 3 ∷ 0x3f800000 ∷ 1 ∷ 2 ∷ 2 ∷ 1 ∷ 1 ∷ 6 ∷ 1 ∷ []) ∷
+    (0 ∷ 1 ∷ 0x3f800000 ∷ 1 ∷ 2 ∷ 2 ∷ 1 ∷ 1 ∷ 6 ∷ 1 ∷ []) ∷
+    (0 ∷ 1 ∷ 0x3f800000 ∷ 1 ∷ 2 ∷ 2 ∷ 1 ∷ 0 ∷ 6 ∷ 1 ∷ []) ∷
+    (5 ∷ 0 ∷ 0 ∷ 0 ∷ 0 ∷ 0 ∷ 0 ∷ 0 ∷ 0 ∷ 0 ∷ []) ∷
+    (4 ∷ 0 ∷ 0 ∷ 0 ∷ 0 ∷ 0 ∷ 0 ∷ 0 ∷ 0 ∷ 0 ∷ []) ∷
+    (4 ∷ 0 ∷ 0 ∷ 0 ∷ 0 ∷ 0 ∷ 0 ∷ 0 ∷ 0 ∷ 0 ∷ []) ∷
+    (0 ∷ 2 ∷ 0 ∷ 0 ∷ 2 ∷ 0 ∷ 0 ∷ 0 ∷ 0 ∷ 0 ∷ []) ∷
+    (12 ∷ 1 ∷ 0 ∷ 0 ∷ 0 ∷ 0 ∷ 0 ∷ 0 ∷ 0 ∷ 0 ∷ []) ∷
+    (0 ∷ 2 ∷ 0x3f800000 ∷ 1 ∷ 2 ∷ 2 ∷ 1 ∷ 1 ∷ 6 ∷ 1 ∷ []) ∷
+    (6 ∷ 0 ∷ 0 ∷ 0 ∷ 0 ∷ 0 ∷ 0 ∷ 0 ∷ 0 ∷ 0 ∷ []) ∷
+    (0 ∷ 0 ∷ 0 ∷ 2 ∷ []) ∷
+    (0 ∷ 0x3f800000 ∷ 1 ∷ 2 ∷ []) ∷
+    (9 ∷ 0 ∷ 0 ∷ 0 ∷ []) ∷
+    (0 ∷ 1 ∷ 1 ∷ 0 ∷ 0 ∷ 1 ∷ 4 ∷ []) ∷
+    (0 ∷ 0 ∷ 1 ∷ 0x3f800000 ∷ 1 ∷ 2 ∷ 4 ∷ []) ∷
+    (9 ∷ 0 ∷ 0 ∷ 0 ∷ 0 ∷ 0 ∷ 0 ∷ []) ∷
     (0 ∷ 8 ∷ 1 ∷ 0 ∷ 1 ∷ 0x3f800000 ∷ 0 ∷ 0 ∷ 0 ∷ []) ∷
-    (0 ∷ 2 ∷ 0x3f800000 ∷ 2 ∷ 1 ∷ 1 ∷ 6 ∷ 1 ∷ []) ∷
-    (4 ∷ 0 ∷ 0 ∷ 0 ∷ 0 ∷ 0 ∷ 0 ∷ 0 ∷ []) ∷
-    (0 ∷ 1 ∷ 0x3f800000 ∷ 2 ∷ 1 ∷ 0 ∷ 6 ∷ 1 ∷ []) ∷
-    (0 ∷ 2 ∷ 0x3f800000 ∷ 2 ∷ 1 ∷ 0 ∷ 38 ∷ 1 ∷ []) ∷
-    (5 ∷ 0 ∷ 0 ∷ 0 ∷ 0 ∷ 0 ∷ 0 ∷ 0 ∷ []) ∷
-    (4 ∷ 0 ∷ 0 ∷ 0 ∷ 0 ∷ 0 ∷ 0 ∷ 0 ∷ []) ∷
+    (0 ∷ 2 ∷ 0x3f800000 ∷ 1 ∷ 2 ∷ 2 ∷ 1 ∷ 1 ∷ 6 ∷ 1 ∷ []) ∷
+    (4 ∷ 0 ∷ 0 ∷ 0 ∷ 0 ∷ 0 ∷ 0 ∷ 0 ∷ 0 ∷ 0 ∷ []) ∷
+    (0 ∷ 1 ∷ 0x3f800000 ∷ 1 ∷ 2 ∷ 2 ∷ 1 ∷ 0 ∷ 6 ∷ 1 ∷ []) ∷
+    (0 ∷ 2 ∷ 0x3f800000 ∷ 1 ∷ 2 ∷ 2 ∷ 1 ∷ 0 ∷ 38 ∷ 1 ∷ []) ∷
+    (5 ∷ 0 ∷ 0 ∷ 0 ∷ 0 ∷ 0 ∷ 0 ∷ 0 ∷ 0 ∷ 0 ∷ []) ∷
+    (4 ∷ 0 ∷ 0 ∷ 0 ∷ 0 ∷ 0 ∷ 0 ∷ 0 ∷ 0 ∷ 0 ∷ []) ∷
     []
-unfolding got shown above down found limits bit note room a1 b1 licence rec opened
+unfolding got shown above down whole found limits bit note room a1 b1 licence rec opened
 both-hold = refl

@@ -14,7 +14,8 @@ use Rattle.rules.specs.declared.Mode.the-variants.{Elimination, TopDown}
 use Rattle.rules.specs.Bytes.{text}
 use Rattle.rules.specs.Lines.{line, lines, lineCount}
 use Rattle.rules.specs.Passes.{aggressive}
-use Rattle.rules.specs.Search.{View, view}
+use Rattle.rules.specs.Table.{Table}
+use Rattle.rules.specs.Search.{View, view, Stored, noBest, bestFrom}
 use Rattle.rules.specs.Book.{written, compiled, recordAt, nextPlace, At, end, whole, broken}
 use Rattle.rules.specs.Refusal.{Areas}
 use Rattle.rules.specs.Jobs.{check, compile, outputAfter, areaAfter, scoreJob, boundsJob, scan, resultsAfter, nameJob}
@@ -69,25 +70,25 @@ compileCase t a out w =
     let n = compile 1 t a out .refusal in
     record { got = n ∷ compile 1 t a out .len ∷ outputAfter 1 t a (replicate out 9) ++ areaAfter n (9 ∷ 9 ∷ []); want = w }
 
--- refusal and score bits
+-- refusal, score bits, m and t
 scoreCase : List ℕ → List ℕ → View → ℕ → Areas → List ℕ → Case
 scoreCase t book v k a w =
     let r = scoreJob t (book ∷ []) v k a in
-    record { got = r .refusal ∷ toBits binary32 (r .score) ∷ []; want = w }
+    record { got = r .refusal ∷ toBits binary32 (r .score) ∷ r .m ∷ r .t ∷ []; want = w }
 
--- refusal, first line, line after last, score bits, count
-boundsCase : List ℕ → List ℕ → List ℕ → Case
-boundsCase t book w =
-    let r = boundsJob t (book ∷ []) (wholeView t) 0 room in
-    record { got = r .refusal ∷ r .first ∷ r .after ∷ toBits binary32 (r .score) ∷ r .count ∷ []; want = w }
+-- refusal, first line, line after last, score bits, m and t, count
+boundsCase : List ℕ → List ℕ → View → List ℕ → Case
+boundsCase t book v w =
+    let r = boundsJob t (book ∷ []) v 0 room in
+    record { got = r .refusal ∷ r .first ∷ r .after ∷ toBits binary32 (r .score) ∷ r .m ∷ r .t ∷ r .count ∷ []; want = w }
 
--- refusal, count, overall score bits, kind, the name's length and first two bytes, records; then the results area, 7 at entry
+-- refusal, count, overall score bits, m and t, kind, the name's length, records; then its 64 bytes and the results area, 7 at entry
 scanCase : List ℕ → List ℕ → Limits → Mode → ℕ → Areas → ℕ → List ℕ → Case
 scanCase t book lim mode b a results w =
     let r = scan t (book ∷ []) lim mode b a results in
     record {
       got =
-          (r .refusal ∷ r .count ∷ toBits binary32 (r .score) ∷ r .kind ∷ r .len ∷ r .records ∷ []) ++
+          (r .refusal ∷ r .count ∷ toBits binary32 (r .score) ∷ r .m ∷ r .t ∷ r .kind ∷ r .len ∷ r .records ∷ []) ++
           r .name ++ resultsAfter t (book ∷ []) lim mode b a (replicate results 7);
       want = w;
     }
@@ -105,8 +106,8 @@ budgetCase b w = scanCase second bookA (limits 0x3f666666 0x3f7d70a4) (Eliminati
 
 pub marked : List Case
 marked =
-    scoreCase (text "copyright 20xx me irl\n\n //  my   first license") bookA (view 0 3) 0 room (0 ∷ 0x3f800000 ∷ []) ∷
-    boundsCase second bookA (0 ∷ 1 ∷ 2 ∷ 0x3f800000 ∷ 8 ∷ []) ∷
+    scoreCase (text "copyright 20xx me irl\n\n //  my   first license") bookA (view 0 3) 0 room (0 ∷ 0x3f800000 ∷ 2 ∷ 4 ∷ []) ∷
+    boundsCase second bookA (wholeView second) (0 ∷ 1 ∷ 2 ∷ 0x3f800000 ∷ 2 ∷ 4 ∷ 8 ∷ []) ∷
     lineCase "see https://a.b/c now" "see http: blackboxed url now" ∷
     lineCase "GPL 4x" "GPL x" ∷
     lineCase "$5 + tax" "5 tax" ∷
@@ -115,9 +116,9 @@ marked =
     viewCase "dnl one\ndnl two\ndnl tri" "dnl one wo ri" ∷
     viewCase "a b\ncopyright c\n1999 d\nkeep me" "a b keep me" ∷
     viewCase "x\ncopyright holder" "x copyright holder" ∷
-    budgetCase 9 ((12 ∷ 9 ∷ 0x3f2aaaab ∷ 0 ∷ 0 ∷ 1 ∷ []) ++ noName ++ (0 ∷ 1 ∷ 2 ∷ 0x3f800000 ∷ []) ++ replicate 36 7) ∷
-    budgetCase 8 ((12 ∷ 8 ∷ 0x3f2aaaab ∷ 0 ∷ 0 ∷ 0 ∷ []) ++ noName ++ replicate 40 7) ∷
-    budgetCase 20 ((0 ∷ 20 ∷ 0x3f2aaaab ∷ 0 ∷ 0 ∷ 1 ∷ []) ++ noName ++ (0 ∷ 1 ∷ 2 ∷ 0x3f800000 ∷ []) ++ replicate 36 7) ∷
+    budgetCase 9 ((12 ∷ 9 ∷ 0x3f2aaaab ∷ 2 ∷ 6 ∷ 0 ∷ 0 ∷ 1 ∷ []) ++ noName ++ (0 ∷ 1 ∷ 2 ∷ 0x3f800000 ∷ []) ++ replicate 36 7) ∷
+    budgetCase 8 ((12 ∷ 8 ∷ 0x3f2aaaab ∷ 2 ∷ 6 ∷ 0 ∷ 0 ∷ 0 ∷ []) ++ noName ++ replicate 40 7) ∷
+    budgetCase 20 ((0 ∷ 20 ∷ 0x3f2aaaab ∷ 2 ∷ 6 ∷ 0 ∷ 0 ∷ 1 ∷ []) ++ noName ++ (0 ∷ 1 ∷ 2 ∷ 0x3f800000 ∷ []) ++ replicate 36 7) ∷
     bytesCase (length bookA ∷ []) (58 ∷ []) ∷
     bytesCase (compiled 1 (text "My First License")) bodyA ∷
     bookCase bookA (0 ∷ 1 ∷ []) ∷
@@ -174,7 +175,7 @@ other = bare "A" ++ rec 4 (body 0 0 [])
 
 -- ---- scans that are refused: the number, all else zero, results as they were
 refusedCase : List ℕ → List ℕ → Limits → Mode → Areas → ℕ → Case
-refusedCase t book lim mode a n = scanCase t book lim mode 0 a 3 ((n ∷ 0 ∷ 0 ∷ 0 ∷ 0 ∷ 0 ∷ []) ++ noName ++ 7 ∷ 7 ∷ 7 ∷ [])
+refusedCase t book lim mode a n = scanCase t book lim mode 0 a 3 ((n ∷ 0 ∷ 0 ∷ 0 ∷ 0 ∷ 0 ∷ 0 ∷ 0 ∷ []) ++ noName ++ 7 ∷ 7 ∷ 7 ∷ [])
 
 nan : ℕ
 nan = 0x7fc00000
@@ -195,16 +196,28 @@ slim = with (body 1 1 (entry 1 (text "a b")))
 tiny : Areas
 tiny = record { bytes = 0; words = 0 }
 
+-- ---- the best of two originals, with `a a` so often in their tables, for a view with it 4,096 times: number, score bits, m and t
+often : ℕ → Table
+often n = record { total = n; entries = record { bytes = text "a a"; count = n } ∷ [] }
+
+original : ℕ → ℕ → Stored
+original k n = record { number = k; name = text "A"; kind = 2; table = often n }
+
+tieCase : ℕ → ℕ → List ℕ → Case
+tieCase x y w =
+    let b = bestFrom (often 4_096) (view 0 1) (original 0 x ∷ original 1 y ∷ []) noBest .value in
+    record { got = b .text .number ∷ toBits binary32 (b .value .score) ∷ b .value .m ∷ b .value .t ∷ []; want = w }
+
 pub others : List Case
 others =
     -- errors that look right: naming at equality, the first index, several lines by A, resuming at the range end
-    scanCase note bookA (limits unity unity) (Elimination false 0) 100 room 0 ((0 ∷ 1 ∷ unity ∷ 0 ∷ 0 ∷ 0 ∷ []) ++ noName) ∷
-    scanCase note bookA (limits 0x3f7fffff unity) (Elimination false 0) 100 room 0 ((0 ∷ 1 ∷ unity ∷ 2 ∷ 1 ∷ 0 ∷ []) ++ name (text "A") 63) ∷
-    boundsCase (text "my first license\n\n") bookA (0 ∷ 0 ∷ 2 ∷ unity ∷ 7 ∷ []) ∷
+    scanCase note bookA (limits unity unity) (Elimination false 0) 100 room 0 ((0 ∷ 1 ∷ unity ∷ 2 ∷ 4 ∷ 0 ∷ 0 ∷ 0 ∷ []) ++ noName) ∷
+    scanCase note bookA (limits 0x3f7fffff unity) (Elimination false 0) 100 room 0 ((0 ∷ 1 ∷ unity ∷ 2 ∷ 4 ∷ 2 ∷ 1 ∷ 0 ∷ []) ++ name (text "A") 63) ∷
+    boundsCase (text "my first license\n\n") bookA (view 0 3) (0 ∷ 0 ∷ 2 ∷ unity ∷ 2 ∷ 4 ∷ 7 ∷ []) ∷
     viewCase "x\n\ncopyright a\ncopyright b\n\ny" "x copyright a copyright b y" ∷
     viewCase "x\n\ncopyright a\n\ncopyright b\n\ny" "x copyright b y" ∷
     scanCase (text "a b\na b\na b") slim (limits 0x3f666666 unity) (TopDown 1) 100 room 12
-    ((0 ∷ 13 ∷ 0 ∷ 0 ∷ 0 ∷ 2 ∷ []) ++ noName ++ (0 ∷ 0 ∷ 1 ∷ unity ∷ 0 ∷ 2 ∷ 3 ∷ unity ∷ []) ++ replicate 4 7) ∷
+    ((0 ∷ 13 ∷ 0 ∷ 0 ∷ 0 ∷ 0 ∷ 0 ∷ 2 ∷ []) ++ noName ++ (0 ∷ 0 ∷ 1 ∷ unity ∷ 0 ∷ 2 ∷ 3 ∷ unity ∷ []) ++ replicate 4 7) ∷
     -- the passes
     viewCase "abcd xabcd\nabcd e\nx\nabcd e\nabcd e" "xabcd e x e e" ∷
     viewCase "\ncopyright x\n\nb c" "b c" ∷
@@ -218,29 +231,43 @@ others =
     lineCase "a\t\\/|b--c__d[({e)]}'\"f" "a b-c_d(e)'f" ∷
     -- ties to the earliest; a text of kind 3 and of kind 4 named
     scanCase note (with bodyA ++ rec 1 (text "B") ++ rec 2 bodyA) (limits half half) (Elimination false 0) 100 room 0
-    ((0 ∷ 2 ∷ unity ∷ 2 ∷ 1 ∷ 0 ∷ []) ++ name (text "A") 63) ∷
+    ((0 ∷ 2 ∷ unity ∷ 2 ∷ 4 ∷ 2 ∷ 1 ∷ 0 ∷ []) ++ name (text "A") 63) ∷
     scanCase note (bare "A" ++ bare "B-1" ++ rec 3 bodyA) (limits half half) (Elimination false 0) 100 room 0
-    ((0 ∷ 3 ∷ unity ∷ 3 ∷ 3 ∷ 0 ∷ []) ++ name (text "B-1") 61) ∷
+    ((0 ∷ 3 ∷ unity ∷ 2 ∷ 4 ∷ 3 ∷ 3 ∷ 0 ∷ []) ++ name (text "B-1") 61) ∷
     scanCase note (bare "A" ++ rec 4 bodyA) (limits half half) (Elimination false 0) 100 room 0
-    ((0 ∷ 2 ∷ unity ∷ 4 ∷ 1 ∷ 0 ∷ []) ++ name (text "A") 63) ∷
+    ((0 ∷ 2 ∷ unity ∷ 2 ∷ 4 ∷ 4 ∷ 1 ∷ 0 ∷ []) ++ name (text "A") 63) ∷
     -- the shallow limit at equality goes on; after the last pass the best is taken again
     scanCase note bookA (limits half unity) (Elimination true 1) 100 room 4
-    ((0 ∷ 6 ∷ unity ∷ 2 ∷ 1 ∷ 1 ∷ []) ++ name (text "A") 63 ++ 0 ∷ 0 ∷ 1 ∷ unity ∷ []) ∷
+    ((0 ∷ 6 ∷ unity ∷ 2 ∷ 4 ∷ 2 ∷ 1 ∷ 1 ∷ []) ++ name (text "A") 63 ++ 0 ∷ 0 ∷ 1 ∷ unity ∷ []) ∷
     scanCase note bookA (limits half unity) (Elimination true 1) 5 room 4
-    ((12 ∷ 5 ∷ unity ∷ 2 ∷ 1 ∷ 1 ∷ []) ++ name (text "A") 63 ++ 0 ∷ 0 ∷ 1 ∷ unity ∷ []) ∷
-    scanCase note bookA (limits half 0x3f7fffff) (Elimination true 1) 100 room 4 ((0 ∷ 1 ∷ unity ∷ 2 ∷ 1 ∷ 0 ∷ []) ++ name (text "A") 63 ++ replicate 4 7) ∷
+    ((12 ∷ 5 ∷ unity ∷ 2 ∷ 4 ∷ 2 ∷ 1 ∷ 1 ∷ []) ++ name (text "A") 63 ++ 0 ∷ 0 ∷ 1 ∷ unity ∷ []) ∷
+    scanCase note bookA (limits half 0x3f7fffff) (Elimination true 1) 100 room 4 ((0 ∷ 1 ∷ unity ∷ 2 ∷ 4 ∷ 2 ∷ 1 ∷ 0 ∷ []) ++ name (text "A") 63 ++ replicate 4 7) ∷
     -- above the shallow limit alone goes on; no line but the range is blanked; of the pairs the latest, whose bounds take a scoring more
     scanCase (text "a b\nx y") slim (limits 0x3f666666 0) (Elimination true 1) 100 room 4
-    ((0 ∷ 7 ∷ half ∷ 0 ∷ 0 ∷ 1 ∷ []) ++ noName ++ 0 ∷ 0 ∷ 1 ∷ unity ∷ []) ∷
+    ((0 ∷ 7 ∷ half ∷ 1 ∷ 4 ∷ 0 ∷ 0 ∷ 1 ∷ []) ++ noName ++ 0 ∷ 0 ∷ 1 ∷ unity ∷ []) ∷
     scanCase (text "a b\na b") slim (limits half unity) (Elimination true 2) 100 room 8
-    ((0 ∷ 14 ∷ half ∷ 0 ∷ 0 ∷ 2 ∷ []) ++ noName ++ 0 ∷ 0 ∷ 1 ∷ unity ∷ 0 ∷ 1 ∷ 2 ∷ unity ∷ []) ∷
+    ((0 ∷ 14 ∷ half ∷ 1 ∷ 4 ∷ 0 ∷ 0 ∷ 2 ∷ []) ++ noName ++ 0 ∷ 0 ∷ 1 ∷ unity ∷ 0 ∷ 1 ∷ 2 ∷ unity ∷ []) ∷
     scanCase (text "a b\nx y") slim (limits half unity) (TopDown 1) 100 room 8
-    ((0 ∷ 9 ∷ 0 ∷ 0 ∷ 0 ∷ 1 ∷ []) ++ noName ++ (0 ∷ 0 ∷ 1 ∷ unity ∷ []) ++ replicate 4 7) ∷
+    ((0 ∷ 9 ∷ 0 ∷ 0 ∷ 0 ∷ 0 ∷ 0 ∷ 1 ∷ []) ++ noName ++ (0 ∷ 0 ∷ 1 ∷ unity ∷ []) ++ replicate 4 7) ∷
     -- no results without optimize; a budget of none; the largest step; -0.0 is from 0.0
-    scanCase note bookA (limits half half) (Elimination false 2) 100 room 0 ((0 ∷ 1 ∷ unity ∷ 2 ∷ 1 ∷ 0 ∷ []) ++ name (text "A") 63) ∷
-    scanCase note bookA (limits half half) (Elimination false 2) 0 room 0 ((12 ∷ 0 ∷ 0 ∷ 0 ∷ 0 ∷ 0 ∷ []) ++ noName) ∷
+    scanCase note bookA (limits half half) (Elimination false 2) 100 room 0 ((0 ∷ 1 ∷ unity ∷ 2 ∷ 4 ∷ 2 ∷ 1 ∷ 0 ∷ []) ++ name (text "A") 63) ∷
+    scanCase note bookA (limits half half) (Elimination false 2) 0 room 0 ((12 ∷ 0 ∷ 0 ∷ 0 ∷ 0 ∷ 0 ∷ 0 ∷ 0 ∷ []) ++ noName) ∷
     scanCase (text "my first license\nx") bookA (limits 0x80000000 0) (TopDown 0xFFFFFFFFFFFFFFFF) 100 room 8
-    ((0 ∷ 6 ∷ 0 ∷ 0 ∷ 0 ∷ 2 ∷ []) ++ noName ++ 0 ∷ 0 ∷ 0 ∷ 0 ∷ 0 ∷ 1 ∷ 1 ∷ 0 ∷ []) ∷
+    ((0 ∷ 6 ∷ 0 ∷ 0 ∷ 0 ∷ 0 ∷ 0 ∷ 2 ∷ []) ++ noName ++ 0 ∷ 0 ∷ 0 ∷ 0 ∷ 0 ∷ 1 ∷ 1 ∷ 0 ∷ []) ∷
+    -- m and t: of all lines, of an empty table, of two, of none shared; with 8 nothing of the range; with 12 none before all are scored
+    scoreCase second bookA (view 0 4) 0 room (0 ∷ 0x3f2aaaab ∷ 2 ∷ 6 ∷ []) ∷
+    scoreCase [] bookA (view 0 1) 0 room (0 ∷ 0 ∷ 0 ∷ 2 ∷ []) ∷
+    scoreCase [] (bare "A") (view 0 1) 0 room (0 ∷ 0 ∷ 0 ∷ 0 ∷ []) ∷
+    scoreCase (text "x y") bookA (view 0 1) 0 room (0 ∷ 0 ∷ 0 ∷ 3 ∷ []) ∷
+    boundsCase second bookA (view 0 5) (8 ∷ 0 ∷ 0 ∷ 0 ∷ 0 ∷ 0 ∷ 0 ∷ []) ∷
+    budgetCase 0 ((12 ∷ 0 ∷ 0 ∷ 0 ∷ 0 ∷ 0 ∷ 0 ∷ 0 ∷ []) ++ noName ++ replicate 40 7) ∷
+    budgetCase 1 ((12 ∷ 1 ∷ 0x3f2aaaab ∷ 2 ∷ 6 ∷ 0 ∷ 0 ∷ 0 ∷ []) ++ noName ++ replicate 40 7) ∷
+    scanCase (text "x y") bookA (limits half half) (Elimination false 0) 1 room 0 ((0 ∷ 1 ∷ 0 ∷ 0 ∷ 3 ∷ 0 ∷ 0 ∷ 0 ∷ []) ++ noName) ∷
+    scanCase second bookA (limits 0x3f666666 unity) (TopDown 1) 100 room 16
+    ((0 ∷ 12 ∷ 0 ∷ 0 ∷ 0 ∷ 0 ∷ 0 ∷ 1 ∷ []) ++ noName ++ (0 ∷ 1 ∷ 2 ∷ unity ∷ []) ++ replicate 12 7) ∷
+    -- two fractions that are one float: the earlier text, whose own m and t are answered, whichever is the larger
+    tieCase 4_095 4_097 (0 ∷ 0x3f7ff800 ∷ 4_095 ∷ 8_191 ∷ []) ∷
+    tieCase 4_097 4_095 (0 ∷ 0x3f7ff800 ∷ 4_096 ∷ 8_193 ∷ []) ∷
     -- the order of the refusals: to each row two neighbours apply
     refusedCase (128 ∷ []) (1 ∷ []) (limits nan nan) (TopDown 0) tiny 2 ∷
     refusedCase note (1 ∷ []) (limits nan nan) (TopDown 0) tiny 4 ∷
@@ -251,15 +278,15 @@ others =
     refusedCase note bookA (limits half half) (TopDown 1) tiny 10 ∷
     refusedCase note bookA (limits half half) (TopDown 1) room 10 ∷
     refusedCase note bookA (limits half half) (Elimination true 1) (record { bytes = 192; words = 256 }) 10 ∷
-    scanCase note bookA (limits half half) (Elimination false 1) 1 (record { bytes = 192; words = 256 }) 0 ((0 ∷ 1 ∷ unity ∷ 2 ∷ 1 ∷ 0 ∷ []) ++ name (text "A") 63) ∷
-    scanCase note bookA (limits half half) (Elimination false 1) 0 (record { bytes = 191; words = 256 }) 0 ((10 ∷ 0 ∷ 0 ∷ 0 ∷ 0 ∷ 0 ∷ []) ++ noName) ∷
-    scoreCase note (1 ∷ []) (view 1 0) 9 tiny (4 ∷ 0 ∷ []) ∷
-    scoreCase note [] (view 1 0) 9 tiny (5 ∷ 0 ∷ []) ∷
-    scoreCase note bookA (view 1 0) 9 tiny (8 ∷ 0 ∷ []) ∷
-    scoreCase note bookA (view 0 2) 0 room (8 ∷ 0 ∷ []) ∷
-    scoreCase note bookA (view 0 1) 1 tiny (9 ∷ 0 ∷ []) ∷
-    scoreCase note bookA (view 0 1) 0 (record { bytes = 192; words = 255 }) (10 ∷ 0 ∷ []) ∷
-    scoreCase note bookA (view 1 1) 0 (record { bytes = 192; words = 256 }) (0 ∷ 0 ∷ []) ∷
+    scanCase note bookA (limits half half) (Elimination false 1) 1 (record { bytes = 192; words = 256 }) 0 ((0 ∷ 1 ∷ unity ∷ 2 ∷ 4 ∷ 2 ∷ 1 ∷ 0 ∷ []) ++ name (text "A") 63) ∷
+    scanCase note bookA (limits half half) (Elimination false 1) 0 (record { bytes = 191; words = 256 }) 0 ((10 ∷ 0 ∷ 0 ∷ 0 ∷ 0 ∷ 0 ∷ 0 ∷ 0 ∷ []) ++ noName) ∷
+    scoreCase note (1 ∷ []) (view 1 0) 9 tiny (4 ∷ 0 ∷ 0 ∷ 0 ∷ []) ∷
+    scoreCase note [] (view 1 0) 9 tiny (5 ∷ 0 ∷ 0 ∷ 0 ∷ []) ∷
+    scoreCase note bookA (view 1 0) 9 tiny (8 ∷ 0 ∷ 0 ∷ 0 ∷ []) ∷
+    scoreCase note bookA (view 0 2) 0 room (8 ∷ 0 ∷ 0 ∷ 0 ∷ []) ∷
+    scoreCase note bookA (view 0 1) 1 tiny (9 ∷ 0 ∷ 0 ∷ 0 ∷ []) ∷
+    scoreCase note bookA (view 0 1) 0 (record { bytes = 192; words = 255 }) (10 ∷ 0 ∷ 0 ∷ 0 ∷ []) ∷
+    scoreCase note bookA (view 1 1) 0 (record { bytes = 192; words = 256 }) (0 ∷ 0 ∷ 0 ∷ 2 ∷ []) ∷
     compileCase (128 ∷ []) tiny 0 (2 ∷ 0 ∷ 9 ∷ 9 ∷ []) ∷
     compileCase note tiny 3 (10 ∷ 0 ∷ 9 ∷ 9 ∷ 9 ∷ 9 ∷ 9 ∷ []) ∷
     compileCase note room 44 ((11 ∷ 0 ∷ []) ++ replicate 44 9 ++ 0 ∷ 0 ∷ []) ∷
@@ -290,7 +317,7 @@ others =
     -- books: empty; an empty table; every kind in its place; names that rise
     bookCase [] (0 ∷ 0 ∷ []) ∷
     bookCase (bare "A") (0 ∷ 1 ∷ []) ∷
-    scoreCase note (bare "A") (view 0 1) 0 room (0 ∷ 0 ∷ []) ∷
+    scoreCase note (bare "A") (view 0 1) 0 room (0 ∷ 0 ∷ 0 ∷ 2 ∷ []) ∷
     bookCase (bare "A" ++ rec 3 bodyA ++ rec 3 bodyA ++ rec 4 bodyA ++ rec 5 (text "A") ++ rec 5 (text "A") ++ bare "A-1" ++ rec 4 bodyA) (0 ∷ 6 ∷ []) ∷
     bookCase (rec 1 (replicate 64 126) ++ rec 2 bodyA) (0 ∷ 1 ∷ []) ∷
     -- unsound: a length that is 2^32 with its 6 bytes, a body past the end, a byte too many
@@ -341,6 +368,6 @@ others =
 
 pub others-hold : map (λ c. c .got) others ≡ map (λ c. c .want) others
 unfolding
-    others readCase shown nameCase several other unsound with bare body entry rec refusedCase tiny slim note half unity nan name noName scanCase boundsCase scoreCase compileCase
-    bookCase bytesCase viewCase lineCase wholeView limits room bookA bodyA opened
+    others readCase shown nameCase several other unsound with bare body entry rec refusedCase tieCase original often tiny slim note half unity nan budgetCase name noName scanCase
+    boundsCase scoreCase compileCase bookCase bytesCase viewCase lineCase limits room second bookA bodyA opened
 others-hold = refl

@@ -21,6 +21,7 @@ pub mod Fifths
 pub mod ScoreOrder
 pub mod FloatOrder
 pub mod TableLaws
+pub mod PairLaws
 pub mod PrefixLaws
 pub mod CountLaws
 pub mod BudgetLaws

@@ -194,14 +194,18 @@ module _ (t : List ℕ) (bs : List (List ℕ)) (lim : Limits) (mode : Mode) (a :
           (z, paid (ltb b (length (scorings full))) refl (sym h ∙ scan-then b z))
       at false q = let k = eqb-false before 0 q in absurd (k (sym (scan-before b k) ∙ h))
 
-  -- what is refused before any work makes no scoring
-  pub scan-none : (b : ℕ) → (before ≡ 0 → ⊥) → scan t bs lim mode b a results .count ≡ 0
-  unfolding scan answered happened scorings early
-  scan-none b h =
+  -- of what is refused before any work nothing happens, so it makes no scoring
+  pub scan-nothing : (b : ℕ) → (before ≡ 0 → ⊥) → happened t bs lim mode b a results ≡ []
+  unfolding happened early
+  scan-nothing b h =
       let n = refusal (ofScan t bs lim mode b a results) in
       let e = scan-before b h in
       let l = refusal-early (beforeScan t bs lim mode a results) scan-numbered h in
       simp (ne-eqb n 0 (λ z. h (sym e ∙ z)), ne-eqb n 12 (λ z. not-early 12 before refl l (sym e ∙ z)))
+
+  pub scan-none : (b : ℕ) → (before ≡ 0 → ⊥) → scan t bs lim mode b a results .count ≡ 0
+  unfolding scan answered scorings
+  scan-none b h = ap (λ (es : List Event). length (scorings es)) (scan-nothing b h)
 
   -- so a limit on the list of what is not refused is one on every count
   pub scan-within : (b m : ℕ) → (before ≡ 0 → length (scorings full) ≤ m) → scan t bs lim mode b a results .count ≤ m

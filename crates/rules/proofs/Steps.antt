@@ -77,50 +77,51 @@ pub search-far : (scoreAt : ℕ → Made Value) (s : Span) → 3 < width s →
 unfolding narrow
 search-far scoreAt s h = search-step scoreAt s ∙ simp (lt-leb (width s) 3 h)
 
--- the index that a sweep, and the search, finds lies in [left, right]
-abbrev In : ℕ → ℕ → Made Index → Type 0
-In l r m = (l ≤ m .value .at) × (m .value .at ≤ r)
+-- what holds of every index of [left, right] with its value holds of the one that a sweep, and the search, finds
+module _ (scoreAt : ℕ → Made Value) (P : Index → Type 0) where
+  abbrev at : ℕ → Index
+  at i = record { at = i; value = scoreAt i .value }
 
-higher-in : (l r : ℕ) (b i : Index) → (l ≤ b .at) × (b .at ≤ r) → (l ≤ i .at) × (i .at ≤ r) → (l ≤ higher b i .at) × (higher b i .at ≤ r)
-unfolding higher
-higher-in l r b i h k = cond-of (λ (j : Index). (l ≤ j .at) × (j .at ≤ r)) (le (b .value .score) (i .value .score)) i b k h
+  abbrev Over : Span → Type 0
+  Over s = (i : ℕ) → s .left ≤ i → i ≤ s .right → P (at i)
 
-sweepFrom-in : (scoreAt : ℕ → Made Value) (l r n i : ℕ) (b : Index) → l ≤ i → i + n ≤ suc r → (l ≤ b .at) × (b .at ≤ r) →
-    In l r (sweepFrom scoreAt n i b)
-unfolding sweepFrom
-sweepFrom-in scoreAt l r zero i b h k p = p
-sweepFrom-in scoreAt l r (suc n) i b h k p =
-    sweepFrom-in scoreAt l r n (suc i) (higher b (record { at = i; value = scoreAt i .value })) (omega arith) (omega arith)
-    (higher-in l r b (record { at = i; value = scoreAt i .value }) p (h, omega arith))
+  abbrev Holds : Made Index → Type 0
+  Holds m = P (m .value)
 
-sweep-in : (scoreAt : ℕ → Made Value) (s : Span) → s .left ≤ s .right → In (s .left) (s .right) (sweep scoreAt s)
-unfolding sweep
-sweep-in scoreAt s h =
-    sweepFrom-in scoreAt (s .left) (s .right) (s .right - s .left) (suc (s .left)) (record { at = s .left; value = scoreAt (s .left) .value })
-    (omega arith) (omega arith) (omega arith, h)
+  sweepFrom-of : (s : Span) (n i : ℕ) (b : Index) → s .left ≤ i → i + n ≤ suc (s .right) → Over s → P b → Holds (sweepFrom scoreAt n i b)
+  unfolding sweepFrom higher
+  sweepFrom-of s zero i b h k f p = p
+  sweepFrom-of s (suc n) i b h k f p =
+      sweepFrom-of s n (suc i) (higher b (at i)) (omega arith) (omega arith) f (cond-of P (le (b .value .score) (scoreAt i .value .score)) (at i) b (f i h (omega arith)) p)
 
-in-more : (l r : ℕ) (s : Span) (m : Made Index) → l ≤ s .left → s .right ≤ r → In (s .left) (s .right) m → In l r m
-in-more l r s m h k p = (omega arith, omega arith)
+  sweep-of : (s : Span) → s .left ≤ s .right → Over s → Holds (sweep scoreAt s)
+  unfolding sweep
+  sweep-of s h f =
+      sweepFrom-of s (s .right - s .left) (suc (s .left)) (at (s .left)) (omega arith) (omega arith) f (f (s .left) (omega arith) h)
 
-search-to : (scoreAt : ℕ → Made Value) (n : ℕ) (s : Span) → width s < n → s .left ≤ s .right → In (s .left) (s .right) (search scoreAt (s .left) (s .right))
-search-to scoreAt zero s h k = absurd (not-suc-le-zero h)
-search-to scoreAt (suc n) s h k = at (leb (width s) 3) refl (λ u p q. search-to scoreAt n u p q)
-  where
-    at : (t : Bool) → leb (width s) 3 ≡ t →
-        ((u : Span) → width u < n → u .left ≤ u .right → In (u .left) (u .right) (search scoreAt (u .left) (u .right))) →
-        In (s .left) (s .right) (search scoreAt (s .left) (s .right))
-    at true q go = subst (In (s .left) (s .right)) (sym (search-near scoreAt s (leb-true (width s) 3 q))) (sweep-in scoreAt s k)
-    at false q go =
-        let w = leb-false (width s) 3 q in
-        let a = search scoreAt (s .left) (high s - 1) in
-        let b = search scoreAt (low s + 1) (s .right) in
-        subst (In (s .left) (s .right)) (sym (search-far scoreAt s w))
-        (cond-of (In (s .left) (s .right)) (lt (scoreAt (high s) .value .score) (scoreAt (low s) .value .score)) a b
-        (in-more (s .left) (s .right) (lefts s) a (omega arith) (omega arith) (go (lefts s) (omega arith) (omega arith)))
-        (in-more (s .left) (s .right) (rights s) b (omega arith) (omega arith) (go (rights s) (omega arith) (omega arith))))
+  search-to : (n : ℕ) (s : Span) → width s < n → s .left ≤ s .right → Over s → Holds (search scoreAt (s .left) (s .right))
+  search-to zero s h k f = absurd (not-suc-le-zero h)
+  search-to (suc n) s h k f = by (leb (width s) 3) refl (λ u. search-to n u)
+    where
+      by : (t : Bool) → leb (width s) 3 ≡ t → ((u : Span) → width u < n → u .left ≤ u .right → Over u → Holds (search scoreAt (u .left) (u .right))) →
+          Holds (search scoreAt (s .left) (s .right))
+      by true q go = subst Holds (sym (search-near scoreAt s (leb-true (width s) 3 q))) (sweep-of s k f)
+      by false q go =
+          let w = leb-false (width s) 3 q in
+          subst Holds (sym (search-far scoreAt s w))
+          (cond-of Holds (lt (scoreAt (high s) .value .score) (scoreAt (low s) .value .score)) _ _
+          (go (lefts s) (omega arith) (omega arith) (λ i p q. f i p (omega arith)))
+          (go (rights s) (omega arith) (omega arith) (λ i p q. f i (omega arith) q)))
 
+  pub search-of : (l r : ℕ) → l ≤ r → ((i : ℕ) → l ≤ i → i ≤ r → P (at i)) → P (search scoreAt l r .value)
+  search-of l r h f = search-to (suc (r - l)) (record { left = l; right = r }) (omega arith) h f
+
+-- so it lies there, and its value is its scoring's
 pub search-in : (scoreAt : ℕ → Made Value) (l r : ℕ) → l ≤ r → (l ≤ search scoreAt l r .value .at) × (search scoreAt l r .value .at ≤ r)
-search-in scoreAt l r h = search-to scoreAt (suc (r - l)) (record { left = l; right = r }) (omega arith) h
+search-in scoreAt l r h = search-of scoreAt (λ i. (l ≤ i .at) × (i .at ≤ r)) l r h (λ i p q. (p, q))
+
+pub search-scored : (scoreAt : ℕ → Made Value) (l r : ℕ) → l ≤ r → search scoreAt l r .value .value ≡ scoreAt (search scoreAt l r .value .at) .value
+search-scored scoreAt l r h = search-of scoreAt (λ i. i .value ≡ scoreAt (i .at) .value) l r h (λ i p q. refl)
 
 -- ---- starts and ends: a, a + s, .. below n
 steps-falls : (s n : ℕ) → 0 < s → (a : ℕ) → Falls (λ i. n - i) (stepsOn s n) a

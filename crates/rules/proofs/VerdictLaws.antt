@@ -1,26 +1,31 @@
 -- The overall best of what happens in a scan: whose it is.
 --     verdict-after, verdict-prefix     scorings do not change it, and a budget leaves it or none
 --     down-verdict                      top-down has none
+--     overall-paid, overall-unpaid      of elimination it is the best of all stored texts, once each is scored, and none before
+--     happened-one                      what holds of none and of every stored text's scoring holds of it
 --     named-one                         what holds of no text and of every stored text holds of the text that a scan names
 -- Assumes nothing.
-use mathlib.Core.Path.{_≡_, refl, sym, _∙_, subst}
+use mathlib.Core.Path.{_≡_, refl, sym, ap, _∙_, subst}
 use mathlib.Core.Bool.{Bool, true, false, _||_, cond}
 use mathlib.Core.List.{List, [], _∷_}
 use mathlib.Core.Option.{Option, none, some}
-use Prim.Native.Nat.{ℕ, zero, suc, _+_, _-_}
+use Prim.Native.Nat.{ℕ, zero, suc, _+_, _-_, _≤_, _<_}
+use native.Mathlib.Omega.{arith}
 use lib.Dec.{ltb, eqb}
-use lib.ListN.{length}
+use lib.ListN.{length, take}
 use lib.Ieee.{lt}
 use Rattle.rules.specs.declared.Limits.{Limits}
 use Rattle.rules.specs.declared.Mode.{Mode}
 use Rattle.rules.specs.declared.Mode.the-variants.{Elimination, TopDown}
 use Rattle.rules.specs.Lines.{lines}
 use Rattle.rules.specs.Table.{Table, valueOf}
-use Rattle.rules.specs.Search.{View, whole, Stored, noText, Scoring, Made, recurse, turns, scored, Best, noBest, better, bestFrom, best}
+use Rattle.rules.specs.Search.{View, whole, Stored, noText, Scoring, Made, recurse, turns, scored, scoreView, Best, noBest, better, bestFrom, best}
 use Rattle.rules.specs.Scan.{Event, paid, overall, found, Recorded, after, afford, verdict, names, contained, andOn, downOn, downFrom, topDown, elimination, events}
 use Rattle.rules.specs.Book.{shelved, editionOf}
 use Rattle.rules.specs.Refusal.{refusal, Areas, ofScan}
 use Rattle.rules.specs.Jobs.{happened, named}
+use Rattle.rules.proofs.BudgetLaws.{afford-whole, afford-part}
+use Rattle.rules.proofs.CountLaws.{best-count}
 use Rattle.rules.proofs.DownLaws.{Each}
 
 pub verdict-after : (ss : List Scoring) (es : List Event) → verdict (after ss es) ≡ verdict es
@@ -62,9 +67,30 @@ module _ (lim : Limits) (s : ℕ) (ss : List Stored) (ls : List (List ℕ)) wher
   unfolding topDown downFrom recurse
   down-verdict = down-turns (suc (length ls - 0)) 0
 
--- ---- what holds of no text and of every stored text
-module _ (P : Stored → Type 0) (no : P noText) where
-  best-one : (t : Table) (v : View) (ss : List Stored) (b : Best) → Each P ss → P (b .text) → P (bestFrom t v ss b .value .text)
+  pub down-unpaid : (b : ℕ) → verdict (afford b (topDown lim s ss ls)) ≡ noBest
+  down-unpaid b = verdict-prefix (λ x. x ≡ noBest) refl b (topDown lim s ss ls) down-verdict
+
+-- ---- elimination's, under a budget
+module _ (lim : Limits) (optimize : Bool) (p : ℕ) (ss : List Stored) (ls : List (List ℕ)) (b : ℕ) where
+  abbrev first : Made Best
+  first = best ss ls (whole ls)
+
+  pub overall-paid : length ss ≤ b → verdict (afford b (elimination lim optimize p ss ls)) ≡ first .value
+  unfolding elimination verdict afford
+  overall-paid h =
+      ap verdict (afford-whole b (first .list) _ (omega (arith, h, best-count ss ls (whole ls)))) ∙ verdict-after (first .list) _
+
+  pub overall-unpaid : b < length ss → verdict (afford b (elimination lim optimize p ss ls)) ≡ noBest
+  unfolding elimination verdict
+  overall-unpaid h =
+      ap verdict (afford-part b (first .list) _ (omega (arith, h, best-count ss ls (whole ls)))) ∙ verdict-after (take b (first .list)) []
+
+-- ---- what holds of none and of the scoring of every stored text
+module _ (P : Best → Type 0) (no : P noBest) where
+  abbrev pub Scored : List (List ℕ) → Stored → Type 0
+  Scored ls s = P (record { text = s; value = scoreView ls s (whole ls) .value })
+
+  best-one : (t : Table) (v : View) (ss : List Stored) (b : Best) → Each (λ s. P (record { text = s; value = valueOf t (s .table) })) ss → P b → P (bestFrom t v ss b .value)
   unfolding bestFrom better scored
   best-one t v [] b h k = k
   best-one t v (s ∷ ss) b h k = best-one t v ss (better b new) (h .1) (at (eqb (b .text .kind) 0 || lt (b .value .score) (new .value .score)))
@@ -72,19 +98,18 @@ module _ (P : Stored → Type 0) (no : P noText) where
       new : Best
       new = record { text = s; value = valueOf t (s .table) }
 
-      at : (q : Bool) → P (cond q new b .text)
+      at : (q : Bool) → P (cond q new b)
       at true = h .0
       at false = k
 
-  events-one : (lim : Limits) (mode : Mode) (ss : List Stored) (ls : List (List ℕ)) → Each P ss → P (verdict (events lim mode ss ls) .text)
-  unfolding events elimination verdict best noBest
-  events-one lim (Elimination optimize p) ss ls h =
-      subst (λ (b : Best). P (b .text)) (sym (verdict-after (best ss ls (whole ls) .list) _)) (best-one _ _ ss noBest h no)
-  events-one lim (TopDown s) ss ls h = subst (λ (b : Best). P (b .text)) (sym (down-verdict lim s ss ls)) no
+  events-one : (lim : Limits) (mode : Mode) (ss : List Stored) (ls : List (List ℕ)) → Each (Scored ls) ss → P (verdict (events lim mode ss ls))
+  unfolding events elimination verdict best scoreView scored
+  events-one lim (Elimination optimize p) ss ls h = subst P (sym (verdict-after (best ss ls (whole ls) .list) _)) (best-one _ _ ss noBest h no)
+  events-one lim (TopDown s) ss ls h = subst P (sym (down-verdict lim s ss ls)) no
 
-  happened-one : (t : List ℕ) (bs : List (List ℕ)) (lim : Limits) (mode : Mode) (b : ℕ) (a : Areas) (results : ℕ) → Each P (shelved 0 bs) →
-      P (verdict (happened t bs lim mode b a results) .text)
-  unfolding happened verdict noBest
+  pub happened-one : (t : List ℕ) (bs : List (List ℕ)) (lim : Limits) (mode : Mode) (b : ℕ) (a : Areas) (results : ℕ) →
+      Each (Scored (lines (editionOf bs) t)) (shelved 0 bs) → P (verdict (happened t bs lim mode b a results))
+  unfolding happened verdict
   happened-one t bs lim mode b a results h = at (eqb n 0 || eqb n 12)
     where
       n : ℕ
@@ -93,14 +118,16 @@ module _ (P : Stored → Type 0) (no : P noText) where
       full : List Event
       full = events lim mode (shelved 0 bs) (lines (editionOf bs) t)
 
-      at : (q : Bool) → P (verdict (cond q (afford b full) []) .text)
-      at true = verdict-prefix (λ x. P (x .text)) no b full (events-one lim mode (shelved 0 bs) (lines (editionOf bs) t) h)
+      at : (q : Bool) → P (verdict (cond q (afford b full) []))
+      at true = verdict-prefix P no b full (events-one lim mode (shelved 0 bs) (lines (editionOf bs) t) h)
       at false = no
 
+-- ---- what holds of no text and of every stored text
+module _ (P : Stored → Type 0) (no : P noText) where
   pub named-one : (t : List ℕ) (bs : List (List ℕ)) (lim : Limits) (mode : Mode) (b : ℕ) (a : Areas) (results : ℕ) → Each P (shelved 0 bs) →
       P (named lim (verdict (happened t bs lim mode b a results)))
-  unfolding named
-  named-one t bs lim mode b a results h = at (names lim x) (happened-one t bs lim mode b a results h)
+  unfolding named noBest
+  named-one t bs lim mode b a results h = at (names lim x) (happened-one (λ b. P (b .text)) no t bs lim mode b a results h)
     where
       x : Best
       x = verdict (happened t bs lim mode b a results)

@@ -17,8 +17,8 @@ use Rattle.rules.specs.declared.Scanned.{Scanned}
 use Rattle.rules.specs.declared.NamedText.{NamedText}
 use Rattle.rules.specs.Sizes.{nameMost}
 use Rattle.rules.specs.Lines.{lines}
-use Rattle.rules.specs.Table.{nought}
-use Rattle.rules.specs.Search.{View, Stored, noText, Best, scoreView, bounds}
+use Rattle.rules.specs.Table.{Value, noValue}
+use Rattle.rules.specs.Search.{View, Stored, noText, Best, Bounds, scoreView, bounds}
 use Rattle.rules.specs.Scan.{Event, events, afford, scorings, records, verdict, names, numbers}
 use Rattle.rules.specs.Book.{stored, shelved, editionOf, nameParts, noPart, compiled}
 use Rattle.rules.specs.Refusal.{refusal, Areas, ofCheck, ofCompile, ofView, ofName, ofScan}
@@ -50,25 +50,33 @@ outputAfter e t a out =
     let new = over (compiled e t) out in
     cond (eqb n 0) new out
 
--- ---- score a view against a stored text (gives the score)
+-- ---- score a view against a stored text (gives the score with its m and t)
+abbrev pub scoredAs : ℕ → Value → Scored
+scoredAs n x = record { refusal = n; score = x .score; m = x .m; t = x .t }
+
 unfoldable pub scoreJob : List ℕ → List (List ℕ) → View → ℕ → Areas → Scored
 scoreJob t bs v k a =
     let n = refusal (ofView t bs v k a) in
     let value = scoreView (lines (editionOf bs) t) (getD (shelved 0 bs) k noText) v .value in
-    record { refusal = n; score = cond (eqb n 0) (value .score) nought }
+    scoredAs n (cond (eqb n 0) value noValue)
 
--- ---- find bounds (gives first line, line after last, score, count of scorings)
+-- ---- find bounds (gives first line, line after last, the score of these lines with its m and t, count of scorings)
+abbrev pub boundedAs : ℕ → Bounds → ℕ → Bounded
+boundedAs n b count = record { refusal = n; first = b .first; after = b .after; score = b .value .score; m = b .value .m; t = b .value .t; count = count }
+
+abbrev pub noBounds : Bounds
+noBounds = record { first = 0; after = 0; value = noValue }
+
 -- where nothing is refused, over the lines and the stored texts
 unfoldable pub boundsFound : List (List ℕ) → List Stored → View → ℕ → Bounded
 boundsFound ls ss v k =
-    let m = bounds ls v (getD ss k noText) in
-    let b = m .value in
-    record { refusal = 0; first = b .first; after = b .after; score = b .value .score; count = length (m .list) }
+    let made = bounds ls v (getD ss k noText) in
+    boundedAs 0 (made .value) (length (made .list))
 
 unfoldable pub boundsJob : List ℕ → List (List ℕ) → View → ℕ → Areas → Bounded
 boundsJob t bs v k a =
     let n = refusal (ofView t bs v k a) in
-    cond (eqb n 0) (boundsFound (lines (editionOf bs) t) (shelved 0 bs) v k) (record { refusal = n; first = 0; after = 0; score = nought; count = 0 })
+    cond (eqb n 0) (boundsFound (lines (editionOf bs) t) (shelved 0 bs) v k) (boundedAs n noBounds 0)
 
 -- ---- scan
 -- what the budget leaves of the scan; nothing where it is refused for another reason
@@ -96,6 +104,8 @@ answered n lim parts es =
       len = length (w .name);
       kind = w .kind;
       score = verdict es .value .score;
+      m = verdict es .value .m;
+      t = verdict es .value .t;
       count = length (scorings es);
       records = length (records es);
       part = namePart parts w;

@@ -85,6 +85,10 @@ valueOf a b =
     let shared = meet (a .entries) (b .entries) in
     record { score = score shared (a .total) (b .total); m = shared; t = a .total + b .total }
 
+-- where nothing is scored
+abbrev pub noValue : Value
+noValue = record { score = nought; m = 0; t = 0 }
+
 -- ---- how far a score may lie from the fraction
 -- the size of x times 2 ^ k, rounded down
 abbrev pub times : ℕ → Float → ℕ

@@ -84,18 +84,22 @@ pub struct Compiled {
     pub len: usize,
 }
 
-// The answer to `score a view`.
+// The answer to `score a view`: the score, m and t.
 pub struct Scored {
     pub refusal: u32,
     pub score: f32,
+    pub m: u32,
+    pub t: u32,
 }
 
-// The answer to `find bounds`: first line, line after last, score, and the count of scorings.
+// The answer to `find bounds`: first line, line after last, what these lines score, and the count of scorings.
 pub struct Bounded {
     pub refusal: u32,
     pub first: u32,
     pub after: u32,
     pub score: f32,
+    pub m: u32,
+    pub t: u32,
     pub count: u64,
 }
 
@@ -107,13 +111,15 @@ pub struct Named {
 }
 
 // The answer to `scan`: the licence's name, zero-filled, and its length; the kind that won, 0 where none is named;
-// the overall score, the count of scorings and the number of records; and where the name stands in the lent books.
+// the overall score with its m and t, the count of scorings and the number of records; and where the name stands in the lent books.
 pub struct Scanned {
     pub refusal: u32,
     pub name: [u8; NAME_MOST],
     pub len: u32,
     pub kind: u32,
     pub score: f32,
+    pub m: u32,
+    pub t: u32,
     pub count: u64,
     pub records: u32,
     pub part: Named,

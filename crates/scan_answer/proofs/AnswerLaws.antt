@@ -170,6 +170,8 @@ module _ (t : List ℕ) (books : Shelf) (lim : Limits) (mode : Mode) (budget : �
         len = length (named lim (best i) .name);
         kind = named lim (best i) .kind;
         score = best i .value .score;
+        m = best i .value .m;
+        t = best i .value .t;
         count = counted i;
         records = wrote i;
         part = part i;
@@ -197,6 +199,8 @@ module _ (t : List ℕ) (bs : List (List ℕ)) (lim : Limits) (mode : Mode) (bud
         len = length (w i .name);
         kind = w i .kind;
         score = nought;
+        m = 0;
+        t = 0;
         count = 0;
         records = 0;
         part = namePart (nameParts false bs) (w i);

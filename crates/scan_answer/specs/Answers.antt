@@ -25,7 +25,7 @@ use Rattle.scan_elimination.specs.declared.Outcome.{Outcome}
 
 -- a refusal before any work: its number, all else zero
 abbrev pub refusedBy : ℕ → Scanned
-refusedBy n = record { refusal = n; name = replicate nameMost 0; len = 0; kind = 0; score = nought; count = 0; records = 0; part = noPart }
+refusedBy n = record { refusal = n; name = replicate nameMost 0; len = 0; kind = 0; score = nought; m = 0; t = 0; count = 0; records = 0; part = noPart }
 
 -- the text that is named
 abbrev pub namedIn : Shelf → Limits → Best → Stored
@@ -46,6 +46,8 @@ answerFor books lim budget x = record {
   len = length (namedIn books lim (x .best) .name);
   kind = namedIn books lim (x .best) .kind;
   score = x .best .value .score;
+  m = x .best .value .m;
+  t = x .best .value .t;
   count = budget - x .run .left;
   records = x .run .records;
   part = partFor lim (x .best);

@@ -9,6 +9,9 @@
 --     over-counts                       the count is then the budget
 --     recorded-stays, recorded-first    the records that it has written are the first of the full scan's
 --     t-below                           t of every scoring that a scan may make is below 2^24, so exact
+--     overall-value, overall-pair       the answer's score, m and t are the overall best's value; the score is 2m/t, 2m at most t, t below 2^24
+--     overall-scored, overall-short     of elimination one scoring's, of the best text, once every stored text is scored; before that 0.0, 0 and 0
+--     overall-down, overall-refused     of top-down, and of what is refused before any work, 0.0, 0 and 0
 --     part-lies, part-named, part-length   the name's part lies in the book that it names, its bytes are the name, and as many
 --     part-handed                       `name_part` of the answer hands back the part that the definition gives
 -- Assumes nothing.
@@ -17,35 +20,35 @@ use mathlib.Core.Bool.{Bool, true, false, not, _&&_}
 use mathlib.Core.List.{List}
 use Prim.Native.Nat.{ℕ, _-_, _*_, _^_, _≤_, _<_, min}
 use native.Mathlib.Omega.{arith}
-use lib.Dec.{ltb, eqb}
+use lib.Dec.{eqb}
 use lib.ListN.{length, getD, take}
-use borrow.Author.Tests.{ltb-false, not-false}
+use borrow.Author.Tests.{eqb-true, eqb-false}
 use Rattle.rules.specs.declared.Limits.{Limits}
 use Rattle.rules.specs.declared.Mode.{Mode}
 use Rattle.rules.specs.declared.Mode.the-variants.{Elimination, TopDown}
 use Rattle.rules.specs.declared.Scanned.{Scanned}
-use Rattle.rules.specs.Sizes.{textMost, linesMost, storedMost}
-use Rattle.rules.specs.Points.{utf8, wide, taken}
+use Rattle.rules.specs.Sizes.{linesMost, storedMost}
 use Rattle.rules.specs.Lines.{lines, lineCount, size}
 use Rattle.rules.specs.declared.View.{View}
-use Rattle.rules.specs.Search.{noText, scoreView}
-use Rattle.rules.specs.Scan.{Event, events, afford, Begins, scorings, records, numbers}
-use Rattle.rules.specs.Book.{allSound, shelved, editionOf, differ, nameParts, partIn, Lies, ReadAs}
+use Rattle.rules.specs.Table.{noValue}
+use Rattle.rules.specs.Search.{noText, whole, scoreView, Best, noBest, best}
+use Rattle.rules.specs.Scan.{Event, events, afford, Begins, scorings, records, verdict, numbers}
+use Rattle.rules.specs.Book.{shelved, editionOf, nameParts, partIn, Lies, ReadAs}
 use Rattle.rules.specs.Count.{mostElimination, mostTopDown}
-use Rattle.rules.specs.Refusal.{refusal, ofText, ofBooks, unit, stepZero, beforeScan, ofScan}
-use Rattle.rules.specs.Jobs.{lent, over, answered, scan, resultsAfter, ScanDone}
-use Rattle.rules.proofs.DownLaws.{each-at}
-use Rattle.rules.proofs.SoundLaws.{StoredSound}
-use Rattle.rules.proofs.ShelfLaws.{shelved-sound, shelved-most}
-use Rattle.rules.proofs.PointLaws.{taken-utf8}
-use Rattle.rules.proofs.GrowthLaws.{scoring-t}
+use Rattle.rules.specs.Refusal.{refusal, unit, stepZero, beforeScan, ofScan}
+use Rattle.rules.specs.Jobs.{lent, over, happened, answered, scan, resultsAfter, ScanDone}
+use Rattle.rules.proofs.DownLaws.{each-of}
+use Rattle.rules.proofs.ShelfLaws.{shelved-most}
+use Rattle.rules.proofs.PairLaws.{PairFacts, no-pair, best-scored, pair-either, scannedValue}
+use Rattle.rules.proofs.VerdictLaws.{happened-one, overall-paid, overall-unpaid, down-unpaid}
 use Rattle.rules.proofs.NameLaws.{answer-lies, answer-named, answer-length}
 use Rattle.rules.proofs.BudgetLaws.{afford-all, records-begins}
-use Rattle.rules.proofs.RefusalLaws.{lines-count, scan-over, scan-paid, scan-only, scan-zero, scan-count, scan-within, scan-happened}
+use Rattle.rules.proofs.RefusalLaws.{lines-count, scan-over, scan-paid, scan-only, scan-zero, scan-count, scan-within, scan-happened, scan-nothing}
 use Rattle.rules.proofs.ScanCountLaws.{elimination-count, topDown-count, elimination-fits, topDown-fits}
 use Rattle.detection_part.specs.Parts.{fitting}
 use Rattle.detection_part.proofs.PartLaws.{part-fits}
 use Rattle.refusals.proofs.AdmitLaws.{row-passes}
+use Rattle.refusals.proofs.PassedLaws.{BothPassed, both-passed, passed-pair}
 use Rattle.scan_job.proofs.ModeLaws.{step-above}
 
 module _ {t : List ℕ} {bs : List (List ℕ)} {lim : Limits} {mode : Mode} {budget : ℕ} {b₀ b w₀ w r₀ r : List ℕ} {a : Scanned}
@@ -108,25 +111,12 @@ module _ {t : List ℕ} {bs : List (List ℕ)} {lim : Limits} {mode : Mode} {bud
       recorded-stays (o .0) ∙ ap (λ (es : List Event). over (numbers (records es)) r₀) (afford-all budget full (o .1))
 
   -- ---- what is not refused before any work
-  record Passed : Type 0 where
-    short : length t ≤ textMost
-    bytes : utf8 false t ≡ true
-    few : lineCount t ≤ linesMost
-    sound : allSound bs ≡ true
-    step : stepZero mode ≡ false
-
-  passed : before ≡ 0 → Passed
-  unfolding beforeScan ofText ofBooks
+  passed : before ≡ 0 → BothPassed t bs × (stepZero mode ≡ false)
+  unfolding beforeScan
   passed z =
-      let one = row-passes 0 (ltb textMost (length t)) _ z in
-      let two = row-passes 1 (not (taken (wide (editionOf bs)) t)) _ (one .1) in
-      let three = row-passes 2 (ltb linesMost (lineCount t)) _ (two .1) in
-      let four = row-passes 3 (not (allSound bs)) _ (three .1) in
-      let five = row-passes 4 (eqb (length (shelved 0 bs)) 0) _ (four .1) in
-      let fifteen = row-passes 14 (differ bs) _ (five .1) in
-      let six = row-passes 5 (not (unit (lim .threshold) && unit (lim .shallow))) _ (fifteen .1) in
-      let seven = row-passes 6 (stepZero mode) _ (six .1) in
-      record { short = ltb-false _ _ (one .0); bytes = taken-utf8 (wide (editionOf bs)) t (not-false _ (two .0)); few = ltb-false _ _ (three .0); sound = not-false _ (four .0); step = seven .0 }
+      let both = both-passed t bs _ z in
+      let six = row-passes 5 (not (unit (lim .threshold) && unit (lim .shallow))) _ (both .1) in
+      (both .0, row-passes 6 (stepZero mode) _ (six .1) .0)
 
   -- a limit on the list of what is not refused
   counted-within : (m : ℕ) → (before ≡ 0 → length (scorings full) ≤ m) → a .count ≤ m
@@ -134,17 +124,68 @@ module _ {t : List ℕ} {bs : List (List ℕ)} {lim : Limits} {mode : Mode} {bud
       omega (arith, ap (λ (x : Scanned). x .count) (d .answer), scan-within t bs lim mode (lent b₀ w₀) (length r₀) budget m h)
 
   few-texts : before ≡ 0 → length bs ≤ 2 → length (shelved 0 bs) ≤ 2 * storedMost
-  few-texts z l = omega (arith, shelved-most 0 bs (passed z .sound), l)
+  few-texts z l = omega (arith, shelved-most 0 bs (passed z .0 .sound), l)
 
   few-lines : before ≡ 0 → length (lines (editionOf bs) t) ≤ linesMost
-  few-lines z = omega (arith, lines-count (editionOf bs) t, passed z .few)
+  few-lines z = omega (arith, lines-count (editionOf bs) t, passed z .0 .few)
 
   -- of any view, over the note's lines or what blanking leaves of them, against any stored text
   pub t-below : before ≡ 0 → (ls : List (List ℕ)) → size ls ≤ size (lines (editionOf bs) t) → (v : View) (k : ℕ) → k < length (shelved 0 bs) →
       scoreView ls (getD (shelved 0 bs) k noText) v .value .t < 2 ^ 24
-  t-below z ls l v k h =
-      let p = passed z in
-      scoring-t (editionOf bs) t ls v (getD (shelved 0 bs) k noText) (p .bytes) (p .short) l (each-at StoredSound (shelved 0 bs) k noText h (shelved-sound 0 bs (p .sound)))
+  t-below z ls l v k h = passed-pair t bs (passed z .0) ls l v k h .below
+
+  -- ---- the overall score with its m and t
+  pub overall-value : scannedValue a ≡ verdict (happened t bs lim mode budget (lent b₀ w₀) (length r₀)) .value
+  unfolding scan answered
+  overall-value = ap scannedValue (d .answer)
+
+  -- nothing is scored of what is refused before any work
+  pub overall-refused : (before ≡ 0 → ⊥) → scannedValue a ≡ noValue
+  unfolding verdict noBest
+  overall-refused n = overall-value ∙ ap (λ (es : List Event). verdict es .value) (scan-nothing t bs lim mode (lent b₀ w₀) (length r₀) budget n)
+
+  -- what a budget leaves
+  overall-left : before ≡ 0 → scannedValue a ≡ verdict (afford budget full) .value
+  overall-left z = overall-value ∙ ap (λ (es : List Event). verdict es .value) (scan-happened t bs lim mode (lent b₀ w₀) (length r₀) budget z)
+
+  overall-none : verdict (afford budget full) ≡ noBest → scannedValue a ≡ noValue
+  unfolding noBest
+  overall-none n = at (eqb before 0) refl
+    where
+      at : (q : Bool) → eqb before 0 ≡ q → scannedValue a ≡ noValue
+      at true q = overall-left (eqb-true before 0 q) ∙ ap (λ (x : Best). x .value) n
+      at false q = overall-refused (eqb-false before 0 q)
+
+  pub overall-pair : PairFacts (scannedValue a)
+  unfolding noBest
+  overall-pair = pair-either before (scannedValue a) here overall-refused
+    where
+      ls : List (List ℕ)
+      ls = lines (editionOf bs) t
+
+      here : before ≡ 0 → PairFacts (scannedValue a)
+      here z =
+          subst PairFacts (sym overall-value)
+          (happened-one (λ b. PairFacts (b .value)) no-pair t bs lim mode budget (lent b₀ w₀) (length r₀)
+          (each-of (λ s. PairFacts (scoreView ls s (whole ls) .value)) (shelved 0 bs) noText (λ k h. passed-pair t bs (passed z .0) ls (omega arith) (whole ls) k h)))
+
+-- ---- whose they are: elimination's best text's, named or not, once every stored text is scored; none before, and none of top-down
+module _ {t : List ℕ} {bs : List (List ℕ)} {lim : Limits} {budget : ℕ} {b₀ b w₀ w r₀ r : List ℕ} {a : Scanned} where
+  pub overall-scored : (optimize : Bool) (p : ℕ) (d : ScanDone t bs lim (Elimination optimize p) budget b₀ b w₀ w r₀ r a) → before d ≡ 0 → length (shelved 0 bs) ≤ budget →
+      let ls = lines (editionOf bs) t in
+      scannedValue a ≡ scoreView ls (best (shelved 0 bs) ls (whole ls) .value .text) (whole ls) .value
+  unfolding events
+  overall-scored optimize p d z h =
+      let ls = lines (editionOf bs) t in
+      overall-left d z ∙ ap (λ (x : Best). x .value) (overall-paid lim optimize p (shelved 0 bs) ls budget h) ∙ best-scored (shelved 0 bs) ls (whole ls) (passed d z .0 .some)
+
+  pub overall-short : (optimize : Bool) (p : ℕ) (d : ScanDone t bs lim (Elimination optimize p) budget b₀ b w₀ w r₀ r a) → budget < length (shelved 0 bs) → scannedValue a ≡ noValue
+  unfolding events
+  overall-short optimize p d h = overall-none d (overall-unpaid lim optimize p (shelved 0 bs) (lines (editionOf bs) t) budget h)
+
+  pub overall-down : (s : ℕ) (d : ScanDone t bs lim (TopDown s) budget b₀ b w₀ w r₀ r a) → scannedValue a ≡ noValue
+  unfolding events
+  overall-down s d = overall-none d (down-unpaid lim s (shelved 0 bs) (lines (editionOf bs) t) budget)
 
 -- ---- the two limits
 module _ {t : List ℕ} {bs : List (List ℕ)} {lim : Limits} {budget : ℕ} {b₀ b w₀ w r₀ r : List ℕ} {a : Scanned} where
@@ -159,7 +200,7 @@ module _ {t : List ℕ} {bs : List (List ℕ)} {lim : Limits} {budget : ℕ} {b�
   unfolding events
   topDown-most s d =
       counted-within d (mostTopDown (length (shelved 0 bs)) s (lineCount t))
-      (λ z. omega (arith, topDown-count lim s (shelved 0 bs) (lines (editionOf bs) t) (step-above (TopDown s) s refl (passed d z .step)), ap (mostTopDown (length (shelved 0 bs)) s) (lines-count (editionOf bs) t)))
+      (λ z. omega (arith, topDown-count lim s (shelved 0 bs) (lines (editionOf bs) t) (step-above (TopDown s) s refl (passed d z .1)), ap (mostTopDown (length (shelved 0 bs)) s) (lines-count (editionOf bs) t)))
 
   -- below 2^64 whatever the budget, for the lent books are one or two and the passes a u16
   pub count-fits : (mode : Mode) (d : ScanDone t bs lim mode budget b₀ b w₀ w r₀ r a) → length bs ≤ 2 →
@@ -175,7 +216,7 @@ module _ {t : List ℕ} {bs : List (List ℕ)} {lim : Limits} {budget : ℕ} {b�
   count-fits (TopDown s) d l k =
       let h : before d ≡ 0 → length (scorings (full d)) ≤ 2 ^ 64 - 1 = λ z. omega (
         arith,
-        topDown-count lim s (shelved 0 bs) (lines (editionOf bs) t) (step-above (TopDown s) s refl (passed d z .step)),
+        topDown-count lim s (shelved 0 bs) (lines (editionOf bs) t) (step-above (TopDown s) s refl (passed d z .1)),
         topDown-fits (length (shelved 0 bs)) s (length (lines (editionOf bs) t)) (few-texts d z l) (few-lines d z),
       ) in
       omega (arith, counted-within d (2 ^ 64 - 1) h)

@@ -2,7 +2,8 @@
 -- Assumes nothing.
 use Prim.Native.Nat.{ℕ}
 use Rattle.rules.specs.declared.Scored.{Scored}
-use Rattle.rules.specs.Table.{nought}
+use Rattle.rules.specs.Table.{noValue}
+use Rattle.rules.specs.Jobs.{scoredAs}
 
 abbrev pub refusedBy : ℕ → Scored
-refusedBy n = record { refusal = n; score = nought }
+refusedBy n = scoredAs n noValue

@@ -3,16 +3,16 @@
 use mathlib.Core.Path.{_≡_}
 use mathlib.Core.List.{List}
 use Prim.Native.Nat.{ℕ}
-use lib.Ieee.{Float}
 use lib.ListN.{getD}
 use borrow.Author.Tests.{ne-eqb}
 use Rattle.rules.specs.declared.View.{View}
+use Rattle.rules.specs.declared.Value.{Value}
 use Rattle.rules.specs.declared.Scored.{Scored}
 use Rattle.rules.specs.Lines.{lines}
 use Rattle.rules.specs.Search.{Stored, noText, scoreView}
 use Rattle.rules.specs.Book.{shelved, editionOf}
 use Rattle.rules.specs.Refusal.{refusal, ofView}
-use Rattle.rules.specs.Jobs.{lent, scoreJob, ScoreDone}
+use Rattle.rules.specs.Jobs.{lent, scoredAs, scoreJob, ScoreDone}
 use Rattle.refusals.proofs.AdmitLaws.{view-kept}
 use Rattle.refusals.proofs.AreaLaws.{BothAfter}
 use Rattle.score_answer.specs.Answers.{refusedBy}
@@ -27,7 +27,7 @@ module _ (t : List ℕ) (bs : List (List ℕ)) (v : View) (k : ℕ) (b₀ w₀ :
       let areas = view-kept t bs v k b₀ w₀ n e q in
       rw r (record { answer = rw (← e, ne-eqb n 0 q); bytes = areas .bytes; words = areas .words })
 
-  pub score-done : (ss : List Stored) → shelved 0 bs ≡ ss → (x : Float) → number ≡ 0 → x ≡ scoreView (lines (editionOf bs) t) (getD ss k noText) v .value .score →
-      {b w : List ℕ} → BothAfter 0 b₀ b w₀ w → ScoreDone t bs v k b₀ b w₀ w (record { refusal = 0; score = x })
+  pub score-done : (ss : List Stored) → shelved 0 bs ≡ ss → (x : Value) (r : Scored) → r ≡ scoredAs 0 x → number ≡ 0 →
+      x ≡ scoreView (lines (editionOf bs) t) (getD ss k noText) v .value → {b w : List ℕ} → BothAfter 0 b₀ b w₀ w → ScoreDone t bs v k b₀ b w₀ w r
   unfolding scoreJob
-  score-done ss s x z e areas = record { answer = rw (z, e, s); bytes = areas .bytes; words = areas .words }
+  score-done ss s x r q z e areas = rw q (record { answer = rw (z, e, s); bytes = areas .bytes; words = areas .words })

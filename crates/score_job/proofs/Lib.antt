@@ -1,1 +1,2 @@
 pub mod JobLaws
+pub mod FaceLaws

@@ -8,6 +8,7 @@ use license_notes::clear;
 use refusals::admit_view;
 use rules::Scored;
 use rules::View;
+use score_answer::answer;
 use score_answer::refused;
 use score_work::score_laid;
 
@@ -31,9 +32,9 @@ fn score_lent<'a>(
         return refused(refusal);
     }
     let counts = admitted.texts;
-    let score = score_laid(text, book, second, counts, v, k, area, words);
+    let value = score_laid(text, book, second, counts, v, k, area, words);
     clear(area, words);
-    Scored { refusal: 0, score }
+    answer(value)
 }
 
 // Two books, whose texts count on from the first into the second.

@@ -17,6 +17,7 @@ use license_charge::charge_exact;
 use license_charge::scorings_of;
 use license_notes::lay;
 use license_views::view_table;
+use rules::Value;
 use rules::View;
 use slices::class::class_table;
 
@@ -30,10 +31,10 @@ pub fn score_laid<'a>(
     k: u32,
     area: &mut [u8],
     words: &mut [u32],
-) -> f32
+) -> Value
     requires { ⌜ ViewThrough (now text) (shelf (now book) (now second)) v k (lent (now area) (now words)) ⌝ }
     requires { ⌜ CountsOf (shelf (now book) (now second)) counts ⌝ }
-    ensures { λ r. ⌜ r ≡ scoreView (lines (edition (now (book .entry))) (now (text .entry))) (getD (texts (shelf (now (book .entry)) (now (second .entry)))) k noText) v .value .score ⌝ }
+    ensures { λ r. ⌜ r ≡ scoreView (lines (edition (now (book .entry))) (now (text .entry))) (getD (texts (shelf (now (book .entry)) (now (second .entry)))) k noText) v .value ⌝ }
 {
     let class = class_table(edition_of(book));
     let n = text.len();
@@ -42,5 +43,5 @@ pub fn score_laid<'a>(
     let found = stored_on(book, second, counts, k);
     let body = body_of(book, second, found);
     let charged = charge_exact(area, words, n, t, body, scorings_of(1));
-    charged.value.score
+    charged.value
 }

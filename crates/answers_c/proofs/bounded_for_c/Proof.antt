@@ -1,4 +1,4 @@
--- `answers_c::bounded_for_c` meets its contract: five fields are the answer.
+-- `answers_c::bounded_for_c` meets its contract: seven fields are the answer.
 -- Assumes nothing.
 use mathlib.Core.Path.{refl}
 use Rattle.answers_c.proofs.bounded_for_c.Statement.{statement}

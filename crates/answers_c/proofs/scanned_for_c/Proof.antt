@@ -13,6 +13,8 @@ returns c =
       len = s .len;
       kind = s .kind;
       score = s .score;
+      m = s .m;
+      t = s .t;
       count = s .count;
       records = s .records;
       part = record { second = s .part .second; at = s .part .at; len = e i };

@@ -1,4 +1,4 @@
--- `answers_c::scored_for_c` meets its contract: two fields are the answer.
+-- `answers_c::scored_for_c` meets its contract: four fields are the answer.
 -- Assumes nothing.
 use mathlib.Core.Path.{refl}
 use Rattle.answers_c.proofs.scored_for_c.Statement.{statement}

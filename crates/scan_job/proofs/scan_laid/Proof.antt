@@ -34,6 +34,9 @@ module _ (x : tie.After-scan-mode) where
   abbrev area-laid : tie.After-area
   area-laid = search
 
+  abbrev words-laid : tie.After-words
+  words-laid = search
+
   abbrev laid : tie.After-lay
   laid = search
 
@@ -83,7 +86,10 @@ same-length c =
     area .area2 .given ∙ area-laid m .area .given
 
 same-length-2 : tie.Need-same-length-2
-same-length-2 c = search needs
+same-length-2 c =
+    let words : tie.After-words2 = search in
+    let m : tie.After-scan-mode = search in
+    words .words2 .given ∙ words-laid m .words .given
 
 same-length-3 : tie.Need-same-length-3
 same-length-3 c = search needs

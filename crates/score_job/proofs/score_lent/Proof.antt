@@ -52,7 +52,7 @@ returns-2 c =
     let on = passed cleared in
     let a = start on .args in
     let books = shelf (now (a .book)) (now (a .second)) in
-    score-done (now (a .text)) (booksOf books (a .two)) (a .v) (a .k) (a .area .now) (a .words .now) (texts books) (lent-read books (a .two) (start on .pre) .texts) _
+    score-done (now (a .text)) (booksOf books (a .two)) (a .v) (a .k) (a .area .now) (a .words .now) (texts books) (lent-read books (a .two) (start on .pre) .texts) _ _ (c .answer .ensures)
     (sym (admitted on .admit-view .ensures .number) ∙ on .if1 .left) (worked cleared .score-laid .ensures)
     (both-zeroed (area-back cleared .area .given) (cleared .clear .ensures .0) (words-back cleared .words .given) (cleared .clear .ensures .1))
 
@@ -65,6 +65,7 @@ score-lent-spec =
     returns
     score-laid-requires
     (λ c κs. search needs)
+    (λ c. search needs)
     (λ c. search needs)
     (λ c. search needs)
     returns-2)

@@ -84,19 +84,24 @@ charge-exact-requires c κs =
     (tabled f .view-table .ensures .0, (rw (body .body-of .ensures) (f .stored-on .ensures .0 .found .is .sound), rw (one .scorings-of .ensures) (omega arith)))
 
 same-length : tie.Need-same-length
-same-length c = omega (arith, area-back (found c) .area2 .given, area-laid (tabled (found c)) .area .given)
+same-length c =
+    let done : tie.After-charge-exact = search in
+    omega (arith, area-back (found done) .area2 .given, area-laid (tabled (found done)) .area .given)
 
 same-length-2 : tie.Need-same-length-2
-same-length-2 c = omega (arith, words-back (found c) .words2 .given, words-laid (tabled (found c)) .words .given)
+same-length-2 c =
+    let done : tie.After-charge-exact = search in
+    omega (arith, words-back (found done) .words2 .given, words-laid (tabled (found done)) .words .given)
 
 returns : tie.Need-returns
 returns c =
-    let f = found c in
+    let done : tie.After-charge-exact = search in
+    let f = found done in
     let t = tabled f in
     let a = start (made (laid t)) .args in
     let s = shelf (now (a .book)) (now (a .second)) in
     score-is _ _ _ _ _ _ _ (noted-lines _ _ _ _ _ (asked (made (laid t)) .edition-of .ensures) (made (laid t) .class-table .ensures) (laid t .lay .ensures .1 .0)) (t .view-table .ensures .1 .0)
-    (stored-table s _ _ (f .stored-on .ensures .0) (f .stored-on .ensures .1) ∙ ap tableOfBody (sym (lent c .body-of .ensures))) (c .charge-exact .ensures .0)
+    (stored-table s _ _ (f .stored-on .ensures .0) (f .stored-on .ensures .1) ∙ ap tableOfBody (sym (lent done .body-of .ensures))) (done .charge-exact .ensures .0)
 
 pub score-laid-spec : {M : Type 1} → statement M
 score-laid-spec =
