@@ -57,8 +57,9 @@ static void print_range(const held *book, const uint32_t *record) {
 
 static void print_answer(const held *book, const chultarvi_note_scanned *answer, const uint32_t *results) {
     const char *name = (const char *)chultarvi_name(book->bytes, 0, answer);
-    if (answer->kind == CHULTARVI_NONE) printf("no licence as a whole, score %.4f\n", (double)answer->score);
-    else printf("%.*s, score %.4f\n", (int)answer->len, name, (double)answer->score);
+    if (answer->kind == CHULTARVI_NONE) printf("no licence as a whole");
+    else printf("%.*s", (int)answer->len, name);
+    printf(", score %.4f, %" PRIu32 " word pairs shared, %" PRIu32 " of both together\n", (double)answer->score, answer->m, answer->t);
     for (size_t k = 0; k < answer->records; k++) print_range(book, results + CHULTARVI_RECORD_WIDTH * k);
     printf("  %" PRIu64 " scorings\n", answer->count);
 }

@@ -205,7 +205,7 @@ err_has 'fr: refused (15): a-2.book is of edition 2 and a-3.book of edition 3; '
 run 0 scan wide.book --beside a-3.book fr license
 out_is 'fr: FR, original, score 1.0000, from wide.book
   4 scorings
-license: A, original, score 1.0000, from a-3.book
+license: A, original, score 1.0000, 2m/t = 2*2/4, from a-3.book
   4 scorings'
 run 0 scan none.book --beside wide.book fr
 out_has 'fr: FR, original, score 1.0000, from wide.book'
@@ -316,7 +316,7 @@ json 'notes[0]["unheld"]' 3
 # lines count by newlines alone: U+0085 ends none
 printf 'é\302\205à\302\205ü\n// My First License\nß' >next-lines
 run 0 scan a-3.book next-lines
-out_has '  line 2: A, original, score 1.0000'
+out_has '  line 2: A, original, score 1.0000, 2m/t = 2*2/4'
 # a name with accents of a note, in a message and in JSON
 cp fr 'prés à.txt'
 run 0 scan wide.book 'prés à.txt'

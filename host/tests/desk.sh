@@ -33,7 +33,7 @@ run 0 scan --thorough desk.book all
 out_has 'further, lines '
 out_has '15 lines with words are in no range
 '
-out_has ' more in further scans'
+out_has ' more behind the scan'
 # without it, what nobody has read is said, and what looks there
 run 0 scan desk.book all idle alpha
 out_has 'lines with words are in no range; --thorough looks there'
@@ -103,7 +103,7 @@ $program book twins.book list >/dev/null 2>&1
 run 0 scan twins.book alpha
 out_is 'alpha: Alpha, original, score 1.0000
     but as high: Twin, original, score 1.0000
-  3 scorings, 1 more in further scans'
+  3 scorings, 1 more behind the scan'
 run 0 scan --json twins.book alpha
 json '[notes[0]["licence"], notes[0]["rival"]]' '["Alpha", {"licence": "Twin", "kind": "original", "score": 1}]'
 run 0 scan --json twins.book near
@@ -137,7 +137,7 @@ printf 'M\303\277 \342\200\234F\304\261rst\342\200\235\302\240L\303\255c\303\250
 run 1 scan a.book letters
 err_is 'chultarvi: letters: refused (2): the text is not ASCII: line 1, byte 2 is 0xc3, of U+00FF; a BOOK of edition 3 takes it (debian-3.book, or yours made anew by chultarvi book --edition 3); --ascii scans it with such characters mapped or dropped'
 run 0 scan --ascii a.book letters
-out_is 'letters: A, original, score 1.0000
+out_is 'letters: A, original, score 1.0000, 2m/t = 2*2/4
   --ascii changed 10 characters
   1 scoring'
 run 0 scan --ascii --json a.book letters license
@@ -164,13 +164,13 @@ ln -s nowhere tree/b/gone
 ln -s self tree/b/self
 mkfifo tree/pipe
 so 0 "$soon scan -r a.book tree"
-out_is 'tree/-x: A, original, score 1.0000
+out_is 'tree/-x: A, original, score 1.0000, 2m/t = 2*2/4
   1 scoring
-tree/a/note: A, original, score 1.0000
+tree/a/note: A, original, score 1.0000, 2m/t = 2*2/4
   1 scoring
-tree/b/deep/note: A, original, score 1.0000
+tree/b/deep/note: A, original, score 1.0000, 2m/t = 2*2/4
   1 scoring
-tree/b/link: A, original, score 1.0000
+tree/b/link: A, original, score 1.0000, 2m/t = 2*2/4
   1 scoring
 tree: 4 notes; skipped: 1 over 1,048,576 bytes, 3 no regular file, 1 a link to a folder, 1 .git'
 err_is ''
@@ -180,7 +180,7 @@ json '[notes[-1]["notes"], notes[-1]["skipped"]]' '[4, {"large": 1, "odd": 3, "l
 cp .out folder.json
 so 0 "python3 '$root/host/tests/schema.py' '$root/host/scan.schema.json' <folder.json"
 run 0 scan -r a.book license
-out_is 'license: A, original, score 1.0000
+out_is 'license: A, original, score 1.0000, 2m/t = 2*2/4
   1 scoring'
 run 2 scan a.book tree license
 err_is 'chultarvi: tree: cannot be read: it is a folder; -r scans the files in it'
@@ -203,12 +203,12 @@ chmod 755 tree/closed
 so 2 "$soon scan a.book tree/pipe license /dev/null"
 err_is 'chultarvi: tree/pipe: cannot be read: it is a FIFO or a device, which is skipped; a note is a regular file, or - for standard input
 chultarvi: /dev/null: cannot be read: it is a FIFO or a device, which is skipped; a note is a regular file, or - for standard input'
-out_is 'license: A, original, score 1.0000
+out_is 'license: A, original, score 1.0000, 2m/t = 2*2/4
   1 scoring'
 so 2 "$soon scan --json a.book --beside desk.book tree/pipe license"
 json '[sorted(notes[0]), notes[1]["licence"]]' '[["note", "trouble"], "A"]'
 so 0 "cat license | $soon scan a.book -"
-out_has '-: A, original, score 1.0000'
+out_has '-: A, original, score 1.0000, 2m/t = 2*2/4'
 
 so 0 "$soon scan --json --ascii -r a.book --beside desk.book tree letters"
 json '[[n["licence"], n["book"], n["changed"]] for n in notes if "note" in n]' '[["A", "a.book", 0], ["A", "a.book", 0], ["A", "a.book", 0], ["A", "a.book", 0], ["A", "a.book", 10]]'

@@ -92,10 +92,10 @@ err_is ''
 run 0 scan gpl-1.book g5 g4
 out_is 'g5: G4, original, score 1.0000
     but as high: G5, original, score 1.0000
-  2 scorings, 1 more in further scans
+  2 scorings, 1 more behind the scan
 g4: G4, original, score 1.0000
     but as high: G5, original, score 1.0000
-  2 scorings, 1 more in further scans'
+  2 scorings, 1 more behind the scan'
 run 0 scan --json gpl-2.book g5 g4
 json '[[n["licence"], n["score"], n["rival"]] for n in notes]' '[["G5", 1, false], ["G4", 1, false]]'
 run 0 scan --json --second gpl-2.book g5
@@ -264,7 +264,7 @@ cp a.book debian.book
 run 0 scan debian.book --beside ours.book license
 run 0 book ours.book list --edition 2
 run 0 scan debian-2.book --beside ours.book license
-out_has 'license: A, original, score 1.0000, from debian-2.book'
+out_has 'license: A, original, score 1.0000, 2m/t = 2*2/4, from debian-2.book'
 cp a.book ours.book
 odd=$(printf 'o"\\\n\033\377.book')
 cp a.book "$odd"
@@ -287,7 +287,7 @@ run 1 scan just-2.book --beside empty license
 err_is 'chultarvi: license: refused (5): neither book has a stored text; make one by chultarvi book'
 for words in 'a-2.book --beside just-2.book' 'just-2.book --beside a-2.book'; do
     run 0 scan $words license
-    out_is 'license: A, original, score 1.0000, from a-2.book
+    out_is 'license: A, original, score 1.0000, 2m/t = 2*2/4, from a-2.book
   1 scoring'
     run 0 scan --thorough --second --json $words license two
     json '[[n["licence"], n["second"]] for n in notes]' '[["A", null], [null, {"licence": "A", "book": "a-2.book", "kind": "original", "score": 0.666666687}]]'

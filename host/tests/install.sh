@@ -149,17 +149,17 @@ head -c 57 "$work/a.book" >"$work/cut.book"
 try_example() {
     for book in a.book a-2.book a-3.book; do
         run 0 $RUN "$embed" "$work/$book" "$work/two"
-        out_is 'no licence as a whole, score 0.6667
+        out_is 'no licence as a whole, score 0.6667, 2 word pairs shared, 6 of both together
   lines 2 to 2: A, score 1.0000
   20 scorings'
     done
     run 0 $RUN "$embed" "$work/a.book" "$work/license" 5
-    out_is 'A, score 1.0000
+    out_is 'A, score 1.0000, 2 word pairs shared, 4 of both together
   1 scorings'
     run 1 $RUN "$embed" "$work/a.book" "$work/two" 0
     run 1 $RUN "$embed" "$work/a.book" "$work/long" 1
     err_has 'refused (12): stopped by the budget'
-    out_is 'no licence as a whole, score 0.6667
+    out_is 'no licence as a whole, score 0.6667, 2 word pairs shared, 6 of both together
   1 scorings'
 }
 refuse_example() {

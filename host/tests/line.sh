@@ -38,40 +38,40 @@ run 2 scan --no-optimize --passes 3 a.book two
 err_is 'chultarvi: --passes has no meaning with --no-optimize'
 # scan: the marked text, for people
 run 0 scan a.book two
-out_is "two: no licence as a whole (best score 0.6667)
-  line 2: A, original, score 1.0000
+out_is "two: no licence as a whole (best score 0.6667, 2m/t = 2*2/6)
+  line 2: A, original, score 1.0000, 2m/t = 2*2/4
   2 lines with words are $unread
   20 scorings"
 err_is ''
 run 0 scan a.book license
-out_is 'license: A, original, score 1.0000
+out_is 'license: A, original, score 1.0000, 2m/t = 2*2/4
   1 scoring'
 run 0 scan --threshold 1 a.book license
-out_has 'no licence as a whole (best score 1.0000)'
+out_has 'no licence as a whole (best score 1.0000, 2m/t = 2*2/4)'
 run 0 scan --no-optimize a.book two
-out_is "two: no licence as a whole (best score 0.6667)
+out_is "two: no licence as a whole (best score 0.6667, 2m/t = 2*2/6)
   3 lines with words are $unread
   1 scoring"
 run 0 scan --passes 0 a.book two
-out_is "two: no licence as a whole (best score 0.6667)
+out_is "two: no licence as a whole (best score 0.6667, 2m/t = 2*2/6)
   3 lines with words are $unread
   1 scoring"
 run 0 scan --threshold=0.5 --shallow=0.6 a.book two
-out_is 'two: A, original, score 0.6667
+out_is 'two: A, original, score 0.6667, 2m/t = 2*2/6
   1 scoring'
 run 0 scan --top-down 1 a.book two
 out_has 'two: ranges
-  line 2: A, original, score 1.0000'
+  line 2: A, original, score 1.0000, 2m/t = 2*2/4'
 run 0 scan --top-down 1 a.book empty
 out_has 'empty: no range'
 run 0 scan --threshold 0 --top-down 1 a.book empty
 out_has 'no line, after line 1: A, original, score 0.0000'
 run 1 scan --budget 8 a.book two
-out_is 'two: no licence as a whole (best score 0.6667); stopped by the budget
+out_is 'two: no licence as a whole (best score 0.6667, 2m/t = 2*2/6); stopped by the budget
   8 scorings'
 err_is 'chultarvi: two: refused (12): stopped by the budget'
 run 1 scan --budget 9 a.book two
-out_has 'line 2: A, original, score 1.0000'
+out_has 'line 2: A, original, score 1.0000, 2m/t = 2*2/4'
 run 1 scan --budget 0 a.book two
 out_is 'two: not known as a whole; stopped by the budget
   0 scorings'
@@ -122,9 +122,9 @@ err_is "chultarvi: --top-down wants a number of lines, at least 1, not '0'"
 run 2 scan nowhere two
 err_is 'chultarvi: nowhere: cannot be read: No such file or directory'
 run 2 scan a.book license nowhere . umlaut license
-out_is 'license: A, original, score 1.0000
+out_is 'license: A, original, score 1.0000, 2m/t = 2*2/4
   1 scoring
-license: A, original, score 1.0000
+license: A, original, score 1.0000, 2m/t = 2*2/4
   1 scoring'
 err_has 'chultarvi: nowhere: cannot be read: No such file or directory
 chultarvi: .: cannot be read: it is a folder; -r scans the files in it
@@ -132,11 +132,11 @@ chultarvi: umlaut: refused (2)'
 run 1 scan a.book license umlaut license
 # the same memory serves a long note and the short ones around it
 run 1 scan --no-optimize a.book license most over two
-out_is "license: A, original, score 1.0000
+out_is "license: A, original, score 1.0000, 2m/t = 2*2/4
   1 scoring
 most: no licence as a whole (best score 0.0000)
   1 scoring
-two: no licence as a whole (best score 0.6667)
+two: no licence as a whole (best score 0.6667, 2m/t = 2*2/6)
   3 lines with words are $unread
   1 scoring"
 
@@ -169,7 +169,7 @@ json 'notes[0]["licence"]' '"\"\\<&>'"'"'"'
 
 # scan: where options may stand: anywhere before '--'
 run 0 scan a.book --no-optimize two
-out_is "two: no licence as a whole (best score 0.6667)
+out_is "two: no licence as a whole (best score 0.6667, 2m/t = 2*2/6)
   3 lines with words are $unread
   1 scoring"
 run 0 scan --json a.book --no-optimize --threshold=0.5 two
@@ -186,15 +186,15 @@ cp license ./-x
 cp license ./--json
 for words in '-- a.book -x' 'a.book -- -x' 'a.book --no-optimize -- -x'; do
     run 0 scan $words
-    out_is '-x: A, original, score 1.0000
+    out_is '-x: A, original, score 1.0000, 2m/t = 2*2/4
   1 scoring'
 done
 run 0 scan a.book -- ./-x -x --json
-out_is './-x: A, original, score 1.0000
+out_is './-x: A, original, score 1.0000, 2m/t = 2*2/4
   1 scoring
--x: A, original, score 1.0000
+-x: A, original, score 1.0000, 2m/t = 2*2/4
   1 scoring
---json: A, original, score 1.0000
+--json: A, original, score 1.0000, 2m/t = 2*2/4
   1 scoring'
 run 0 scan a.book ./-x --json license
 json '[n["note"] for n in notes]' '["./-x", "license"]'
@@ -203,7 +203,7 @@ err_is "chultarvi: -x: scan has no such option; $scan_help"
 run 2 scan a.book "$(printf -- '-\001')" two
 err_is "chultarvi: -\\x01: scan has no such option; $scan_help"
 run 0 scan a.book license --budget 5
-out_has 'license: A, original, score 1.0000'
+out_has 'license: A, original, score 1.0000, 2m/t = 2*2/4'
 run 2 scan a.book license --budget
 err_is 'chultarvi: --budget wants a value'
 for words in 'scan -h' 'scan --help' 'scan a.book --help license' 'scan --budget 1 -h'; do
@@ -221,7 +221,7 @@ run 0 book b.book list
 printf 'A original other\n' >list
 run 0 book other-a.book list
 cp a.book again.book
-from_a='license: A, original, score 1.0000, from a.book
+from_a='license: A, original, score 1.0000, 2m/t = 2*2/4, from a.book
   2 scorings'
 for words in 'a.book --beside b.book' '--beside b.book a.book' '--beside=b.book a.book' 'b.book --beside a.book' 'a.book --beside again.book' \
     'a.book --beside a.book' 'other-a.book --beside a.book' 'a.book --beside other-a.book' '--beside b.book -- a.book' 'a.book --beside b.book --'; do
@@ -230,20 +230,20 @@ for words in 'a.book --beside b.book' '--beside b.book a.book' '--beside=b.book 
     err_is ''
 done
 run 0 scan again.book --beside a.book license
-out_has 'A, original, score 1.0000, from again.book'
+out_has 'A, original, score 1.0000, 2m/t = 2*2/4, from again.book'
 run 0 scan a.book license
-out_is 'license: A, original, score 1.0000
+out_is 'license: A, original, score 1.0000, 2m/t = 2*2/4
   1 scoring'
 { cat two; printf '\n\n'; cat other; } >mixed
 run 0 scan b.book --beside a.book mixed
 out_is "mixed: no licence as a whole (best score 0.6154)
   line 6: B, original, score 1.0000, from b.book
-  line 2: A, original, score 1.0000, from a.book
+  line 2: A, original, score 1.0000, 2m/t = 2*2/4, from a.book
   2 lines with words are $unread
   39 scorings"
 run 0 scan b.book --beside a.book --top-down 1 mixed
 out_has 'mixed: ranges
-  line 2: A, original, score 1.0000, from a.book
+  line 2: A, original, score 1.0000, 2m/t = 2*2/4, from a.book
   line 6: B, original, score 1.0000, from b.book'
 run 0 scan --json b.book --beside a.book license mixed
 out_has '{"note":"license","refusal":0,"licence":"A","book":"a.book","kind":"original","score":1,"rival":false,"scorings":2,"ranges":[],"unheld":0,"more":0}
@@ -290,10 +290,10 @@ json notes '[{"note": "license", "refusal": 4, "message": "refused (4): the book
 run 1 scan empty --beside empty license
 err_is 'chultarvi: license: refused (5): neither book has a stored text; make one by chultarvi book'
 run 0 scan a.book --beside empty license
-out_is 'license: A, original, score 1.0000, from a.book
+out_is 'license: A, original, score 1.0000, 2m/t = 2*2/4, from a.book
   1 scoring'
 run 0 scan empty --beside a.book license
-out_is 'license: A, original, score 1.0000, from a.book
+out_is 'license: A, original, score 1.0000, 2m/t = 2*2/4, from a.book
   1 scoring'
 run 1 scan a.book --beside b.book umlaut
 err_has 'umlaut: refused (2): the text is not ASCII: line 2, byte 5 is 0xc3'
@@ -305,19 +305,19 @@ json '[notes[0][k] for k in ("refusal", "licence", "book", "score", "scorings")]
 run 0 scan b.book --beside a.book --budget 2 license
 out_is "$from_a"
 run 1 scan b.book --beside a.book --budget 2 two
-out_is 'two: no licence as a whole (best score 0.6667); stopped by the budget
+out_is 'two: no licence as a whole (best score 0.6667, 2m/t = 2*2/6); stopped by the budget
   2 scorings'
 run 1 scan b.book --beside a.book --threshold 0.6 --budget 2 two
-out_is 'two: A, original, score 0.6667, from a.book; stopped by the budget
+out_is 'two: A, original, score 0.6667, 2m/t = 2*2/6, from a.book; stopped by the budget
   2 scorings'
 from a.book 0 scan b.book --beside - license
-out_has 'license: A, original, score 1.0000, from -'
+out_has 'license: A, original, score 1.0000, 2m/t = 2*2/4, from -'
 from a.book 2 scan - --beside - license
 err_is 'chultarvi: -: cannot be read: standard input is read already'
 out_is ''
 from a.book 2 scan b.book --beside - - license
 err_is 'chultarvi: -: cannot be read: standard input is read already'
-out_has 'license: A, original, score 1.0000, from -'
+out_has 'license: A, original, score 1.0000, 2m/t = 2*2/4, from -'
 cp b.book "$odd.book"
 run 0 scan a.book --beside "$odd.book" other
 out_has "$(printf 'other: B, original, score 1.0000, from q" b\\\\ t\\tn\\nc\\x1b \\xc2\\x85 \303\244 \\xff \\xed\\xa0\\x80 \\xc3.book')"

@@ -21,7 +21,6 @@ pub mod Fifths
 pub mod ScoreOrder
 pub mod FloatOrder
 pub mod TableLaws
-pub mod PairLaws
 pub mod PrefixLaws
 pub mod CountLaws
 pub mod BudgetLaws
@@ -29,4 +28,5 @@ pub mod ScanCountLaws
 pub mod ShelfLaws
 pub mod RefusalLaws
 pub mod VerdictLaws
+pub mod PairLaws
 pub mod NameLaws

@@ -9,7 +9,7 @@ use mathlib.Core.Path.{_≡_, refl, sym, subst, _∙_}
 use Prim.Native.Nat.{ℕ, _+_, _*_, _^_, _≤_, _<_}
 use native.Mathlib.Nat.{not-suc-le-zero}
 use native.Mathlib.Omega.{arith}
-use mathlib.Core.Bool.{Bool, true, false, _||_, cond}
+use mathlib.Core.Bool.{Bool, true, false, cond}
 use mathlib.Core.List.{List, [], _∷_}
 use lib.Dec.{eqb}
 use lib.ListN.{length}
@@ -22,9 +22,11 @@ use Rattle.rules.specs.declared.Scanned.{Scanned}
 use Rattle.rules.specs.Sizes.{textMost, totalMost}
 use Rattle.rules.specs.Points.{utf8}
 use Rattle.rules.specs.Lines.{lines, size}
-use Rattle.rules.specs.Table.{Table, Value, viewTable, tableOf, nought, float, score, valueOf, noValue, meet}
+use Rattle.rules.specs.Table.{Value, viewTable, tableOf, nought, float, score, valueOf, noValue, meet}
 use Rattle.rules.specs.Book.{Proper}
 use Rattle.rules.specs.Search.{View, view, viewed, search, Stored, Made, scored, scoreView, bounds, Best, noBest, better, bestFrom, best, noText}
+use Rattle.rules.proofs.DownLaws.{each-of}
+use Rattle.rules.proofs.VerdictLaws.{best-one}
 use Rattle.rules.proofs.Steps.{search-in, search-scored}
 use Rattle.rules.proofs.SoundLaws.{StoredSound}
 use Rattle.rules.proofs.TableLaws.{table-proper, stored-proper, meet-le}
@@ -59,25 +61,12 @@ unfolding better lt
 earlier-wins a b k = (rw (k, smaller-is, larger-is), rw (k, smaller-is, larger-is))
 
 -- ---- the best text's value is that of its scoring
-best-from : (t : Table) (v : View) (ss : List Stored) (b : Best) → b .value ≡ valueOf t (b .text .table) →
-    bestFrom t v ss b .value .value ≡ valueOf t (bestFrom t v ss b .value .text .table)
-unfolding bestFrom better scored
-best-from t v [] b h = h
-best-from t v (s ∷ ss) b h = best-from t v ss (better b new) (at (eqb (b .text .kind) 0 || lt (b .value .score) (new .value .score)))
-  where
-    new : Best
-    new = record { text = s; value = valueOf t (s .table) }
-
-    at : (q : Bool) → cond q new b .value ≡ valueOf t (cond q new b .text .table)
-    at true = refl
-    at false = h
-
 pub best-scored : (ss : List Stored) (ls : List (List ℕ)) (v : View) → 0 < length ss → best ss ls v .value .value ≡ scoreView ls (best ss ls v .value .text) v .value
 unfolding best bestFrom scoreView scored better noBest noText
 best-scored [] ls v h = absurd (not-suc-le-zero h)
 best-scored (s ∷ ss) ls v h =
     let t = viewTable (viewed ls v) in
-    best-from t v ss (record { text = s; value = valueOf t (s .table) }) refl
+    best-one (λ b. b .value ≡ valueOf t (b .text .table)) t v ss (record { text = s; value = valueOf t (s .table) }) (each-of _ ss noText (λ k h. refl)) refl
 
 -- ---- bounds' value is that of the range's scoring
 pub bounds-scored : (ls : List (List ℕ)) (v : View) (s : Stored) → v .start ≤ v .end →

@@ -2,7 +2,7 @@
 --     verdict-after, verdict-prefix     scorings do not change it, and a budget leaves it or none
 --     down-verdict                      top-down has none
 --     overall-paid, overall-unpaid      of elimination it is the best of all stored texts, once each is scored, and none before
---     happened-one                      what holds of none and of every stored text's scoring holds of it
+--     best-one, happened-one            what holds of none and of every stored text's scoring holds of it
 --     named-one                         what holds of no text and of every stored text holds of the text that a scan names
 -- Assumes nothing.
 use mathlib.Core.Path.{_≡_, refl, sym, ap, _∙_, subst}
@@ -85,26 +85,27 @@ module _ (lim : Limits) (optimize : Bool) (p : ℕ) (ss : List Stored) (ls : Lis
   overall-unpaid h =
       ap verdict (afford-part b (first .list) _ (omega (arith, h, best-count ss ls (whole ls)))) ∙ verdict-after (take b (first .list)) []
 
--- ---- what holds of none and of the scoring of every stored text
+-- ---- what holds of the best so far and of the scoring of every stored text holds of the best
+pub best-one : (P : Best → Type 0) (t : Table) (v : View) (ss : List Stored) (b : Best) → Each (λ s. P (record { text = s; value = valueOf t (s .table) })) ss → P b →
+    P (bestFrom t v ss b .value)
+unfolding bestFrom better scored
+best-one P t v [] b h k = k
+best-one P t v (s ∷ ss) b h k = best-one P t v ss (better b new) (h .1) (at (eqb (b .text .kind) 0 || lt (b .value .score) (new .value .score)))
+  where
+    new : Best
+    new = record { text = s; value = valueOf t (s .table) }
+
+    at : (q : Bool) → P (cond q new b)
+    at true = h .0
+    at false = k
+
 module _ (P : Best → Type 0) (no : P noBest) where
   abbrev pub Scored : List (List ℕ) → Stored → Type 0
   Scored ls s = P (record { text = s; value = scoreView ls s (whole ls) .value })
 
-  best-one : (t : Table) (v : View) (ss : List Stored) (b : Best) → Each (λ s. P (record { text = s; value = valueOf t (s .table) })) ss → P b → P (bestFrom t v ss b .value)
-  unfolding bestFrom better scored
-  best-one t v [] b h k = k
-  best-one t v (s ∷ ss) b h k = best-one t v ss (better b new) (h .1) (at (eqb (b .text .kind) 0 || lt (b .value .score) (new .value .score)))
-    where
-      new : Best
-      new = record { text = s; value = valueOf t (s .table) }
-
-      at : (q : Bool) → P (cond q new b)
-      at true = h .0
-      at false = k
-
   events-one : (lim : Limits) (mode : Mode) (ss : List Stored) (ls : List (List ℕ)) → Each (Scored ls) ss → P (verdict (events lim mode ss ls))
   unfolding events elimination verdict best scoreView scored
-  events-one lim (Elimination optimize p) ss ls h = subst P (sym (verdict-after (best ss ls (whole ls) .list) _)) (best-one _ _ ss noBest h no)
+  events-one lim (Elimination optimize p) ss ls h = subst P (sym (verdict-after (best ss ls (whole ls) .list) _)) (best-one P _ _ ss noBest h no)
   events-one lim (TopDown s) ss ls h = subst P (sym (down-verdict lim s ss ls)) no
 
   pub happened-one : (t : List ℕ) (bs : List (List ℕ)) (lim : Limits) (mode : Mode) (b : ℕ) (a : Areas) (results : ℕ) →
