@@ -1,7 +1,7 @@
 #!/bin/sh
 # shellcheck disable=SC1091,SC2086,SC2154
 # Passes all tests of the host: builds what is missing, runs host/tests/callers.sh, host/tests/face.c and expressions.c compiled as C and as C++,
-# oracle/rows.py --quick, oracle/expressions_rows.py --quick, oracle/unicode.py, and expressions.py, line.sh, desk.sh, commands.sh, editions.sh,
+# oracle/rows.py --quick, oracle/expressions_rows.py --quick, oracle/unicode.py, and pairs.py, expressions.py, line.sh, desk.sh, commands.sh, editions.sh,
 # accents.sh, expressions.sh, drivers.sh, measure.sh and install.sh of host/tests. All that it makes stands in a folder of its own under target/, so
 # that several runs at once do not meet.
 # The last line is 'N passed, M failed', the sum; the exit status is 0 only where M is 0.
@@ -55,10 +55,11 @@ export RUN CC LINK
 if command -v python3 >/dev/null; then
     part 'answers and areas against a second reading' python3 oracle/rows.py --quick
     part 'expressions against a second reading' python3 oracle/expressions_rows.py --quick
+    part 'the command line: m and t against a second reading' python3 host/tests/pairs.py $RUN target/chultarvi
     part 'the command line: expressions against a second reading' python3 host/tests/expressions.py $RUN target/chultarvi
     part 'the classes of characters against Unicode' python3 oracle/unicode.py
 else
-    echo 'not run here: answers, areas and expressions against a second reading, the classes of characters against Unicode (no python3)'
+    echo 'not run here: answers, areas, m and t and expressions against a second reading, the classes of characters against Unicode (no python3)'
 fi
 set -- target/chultarvi "$folder/faulty" books/debian-3.book examples/note.txt
 part 'the command line: scan' sh host/tests/line.sh "$@"

@@ -203,12 +203,12 @@ chultarvi: latin-1: refused (2): the text is not UTF-8 up to U+00FF: line 1, byt
 run 1 scan a-2.book --beside a-3.book --ascii fr
 err_has 'fr: refused (15): a-2.book is of edition 2 and a-3.book of edition 3; '
 run 0 scan wide.book --beside a-3.book fr license
-out_is 'fr: FR, original, score 1.0000, from wide.book
+out_is 'fr: FR, original, score 1.0000, 2m/t = 2*8/16, from wide.book
   4 scorings
 license: A, original, score 1.0000, 2m/t = 2*2/4, from a-3.book
   4 scorings'
 run 0 scan none.book --beside wide.book fr
-out_has 'fr: FR, original, score 1.0000, from wide.book'
+out_has 'fr: FR, original, score 1.0000, 2m/t = 2*8/16, from wide.book'
 # beside a default book: the one that fits, or how the other is made anew
 cp a-1.book debian.book
 cp a-2.book debian-2.book
@@ -320,7 +320,7 @@ out_has '  line 2: A, original, score 1.0000, 2m/t = 2*2/4'
 # a name with accents of a note, in a message and in JSON
 cp fr 'prés à.txt'
 run 0 scan wide.book 'prés à.txt'
-out_is 'prés à.txt: FR, original, score 1.0000
+out_is 'prés à.txt: FR, original, score 1.0000, 2m/t = 2*8/16
   3 scorings'
 run 0 scan --json wide.book 'prés à.txt'
 json 'notes[0]["note"]' '"pr\u00e9s \u00e0.txt"'

@@ -101,11 +101,11 @@ words zeta 40 | sed 3q >zeta
 printf 'Alpha original alpha\nTwin original twin\nNear original near\n' >list
 $program book twins.book list >/dev/null 2>&1
 run 0 scan twins.book alpha
-out_is 'alpha: Alpha, original, score 1.0000
-    but as high: Twin, original, score 1.0000
+out_is 'alpha: Alpha, original, score 1.0000, 2m/t = 2*39/78
+    but as high: Twin, original, score 1.0000, 2m/t = 2*39/78
   3 scorings, 1 more behind the scan'
 run 0 scan --json twins.book alpha
-json '[notes[0]["licence"], notes[0]["rival"]]' '["Alpha", {"licence": "Twin", "kind": "original", "score": 1}]'
+json '[notes[0]["licence"], notes[0]["rival"]]' '["Alpha", {"licence": "Twin", "kind": "original", "score": 1, "m": 39, "t": 78}]'
 run 0 scan --json twins.book near
 json '[notes[0]["licence"], notes[0]["rival"], "second" in notes[0]]' '["Near", false, false]'
 run 0 scan --json --second twins.book near
@@ -124,7 +124,7 @@ json '[[r["licence"], r["rival"]["licence"]] for r in notes[0]["ranges"]]' '[["A
 printf 'Twin original twin\n' >list
 run 0 book twin.book list
 run 0 scan desk.book --beside twin.book alpha
-out_has '    but as high: Twin, original, score 1.0000, from twin.book'
+out_has '    but as high: Twin, original, score 1.0000, 2m/t = 2*39/78, from twin.book'
 # the budget did not pay for the look
 run 0 scan --json --budget 3 twins.book alpha
 json '[notes[0]["licence"], notes[0]["rival"]]' '["Alpha", null]'

@@ -90,11 +90,11 @@ err_is 'chultarvi: gpl.list: line 2: warning: G5 original has the same table as 
 run 0 book gpl-2.book gpl.list --edition 2
 err_is ''
 run 0 scan gpl-1.book g5 g4
-out_is 'g5: G4, original, score 1.0000
-    but as high: G5, original, score 1.0000
+out_is 'g5: G4, original, score 1.0000, 2m/t = 2*4/8
+    but as high: G5, original, score 1.0000, 2m/t = 2*4/8
   2 scorings, 1 more behind the scan
-g4: G4, original, score 1.0000
-    but as high: G5, original, score 1.0000
+g4: G4, original, score 1.0000, 2m/t = 2*4/8
+    but as high: G5, original, score 1.0000, 2m/t = 2*4/8
   2 scorings, 1 more behind the scan'
 run 0 scan --json gpl-2.book g5 g4
 json '[[n["licence"], n["score"], n["rival"]] for n in notes]' '[["G5", 1, false], ["G4", 1, false]]'
@@ -225,7 +225,7 @@ run 0 book twin-4.book twin.list --edition 2
 run 0 scan --json --thorough desk-4.book all.4
 json 'sorted([r["licence"], r["first"], r["after"], r["score"]] for r in notes[0]["ranges"] + notes[0]["further"])' '[["Alpha", 0, 5, 1], ["Beta", 12, 17, 1], ["Gamma", 24, 32, 1]]'
 run 0 scan desk-4.book --beside twin-4.book alpha.4
-out_has '    but as high: Twin, original, score 1.0000, from twin-4.book'
+out_has '    but as high: Twin, original, score 1.0000, 2m/t = 2*39/78, from twin-4.book'
 run 0 scan --json --thorough twin-4.book --beside desk-4.book all.4
 json 'sorted([r["licence"], r["book"], r["first"], r["rival"] and r["rival"]["book"]] for r in notes[0]["ranges"] + notes[0]["further"])' \
     '[["Beta", "desk-4.book", 12, false], ["Gamma", "desk-4.book", 24, false], ["Twin", "twin-4.book", 0, "desk-4.book"]]'
@@ -290,7 +290,7 @@ for words in 'a-2.book --beside just-2.book' 'just-2.book --beside a-2.book'; do
     out_is 'license: A, original, score 1.0000, 2m/t = 2*2/4, from a-2.book
   1 scoring'
     run 0 scan --thorough --second --json $words license two
-    json '[[n["licence"], n["second"]] for n in notes]' '[["A", null], [null, {"licence": "A", "book": "a-2.book", "kind": "original", "score": 0.666666687}]]'
+    json '[[n["licence"], n["second"]] for n in notes]' '[["A", null], [null, {"licence": "A", "book": "a-2.book", "kind": "original", "score": 0.666666687, "m": 2, "t": 6}]]'
 done
 
 the_end

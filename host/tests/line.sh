@@ -41,7 +41,7 @@ run 0 scan a.book two
 out_is "two: no licence as a whole (best score 0.6667, 2m/t = 2*2/6)
   line 2: A, original, score 1.0000, 2m/t = 2*2/4
   2 lines with words are $unread
-  20 scorings"
+  20 scorings, 1 more behind the scan"
 err_is ''
 run 0 scan a.book license
 out_is 'license: A, original, score 1.0000, 2m/t = 2*2/4
@@ -71,11 +71,22 @@ out_is 'two: no licence as a whole (best score 0.6667, 2m/t = 2*2/6); stopped by
   8 scorings'
 err_is 'chultarvi: two: refused (12): stopped by the budget'
 run 1 scan --budget 9 a.book two
-out_has 'line 2: A, original, score 1.0000, 2m/t = 2*2/4'
+out_is 'two: no licence as a whole (best score 0.6667, 2m/t = 2*2/6); stopped by the budget
+  line 2: A, original, score 1.0000
+  9 scorings'
 run 1 scan --budget 0 a.book two
 out_is 'two: not known as a whole; stopped by the budget
   0 scorings'
+# m and t of a range take one scoring more, where the budget has it
 run 0 scan --budget 20 a.book two
+out_has 'line 2: A, original, score 1.0000
+'
+run 0 scan --budget 21 a.book two
+out_has 'line 2: A, original, score 1.0000, 2m/t = 2*2/4
+'
+out_has '20 scorings, 1 more behind the scan'
+run 0 scan --json --budget 20 a.book two
+json '[notes[0][key] for key in ("score", "m", "t", "more")] + [[r["m"], r["t"]] for r in notes[0]["ranges"]]' '[0.666666687, 2, 6, 0, [null, null]]'
 run 1 scan --top-down 1 --budget 1 a.book two
 out_has 'two: no range; stopped by the budget'
 from two 0 scan a.book -
@@ -88,8 +99,8 @@ cp two ./-
 run 0 scan -- a.book ./-
 out_has './-: no licence'
 run 0 scan default.book example
-out_has ': MIT, original, score 0.9446
-  lines 5 to 22: MIT, original, score 1.0000'
+out_has ': MIT, original, score 0.9446, 2m/t = 2*162/343
+  lines 5 to 22: MIT, original, score 1.0000, 2m/t = 2*162/324'
 
 # scan: refusals, and a note in trouble among others
 run 1 scan a.book over
@@ -134,7 +145,7 @@ run 1 scan a.book license umlaut license
 run 1 scan --no-optimize a.book license most over two
 out_is "license: A, original, score 1.0000, 2m/t = 2*2/4
   1 scoring
-most: no licence as a whole (best score 0.0000)
+most: no licence as a whole (best score 0.0000, 2m/t = 2*0/2)
   1 scoring
 two: no licence as a whole (best score 0.6667, 2m/t = 2*2/6)
   3 lines with words are $unread
@@ -142,12 +153,12 @@ two: no licence as a whole (best score 0.6667, 2m/t = 2*2/6)
 
 # scan: JSON
 run 0 scan --json a.book two license
-out_is '{"note":"two","refusal":0,"licence":null,"kind":null,"score":0.666666687,"rival":null,"scorings":20,"ranges":[{"licence":"A","kind":"original","number":0,"first":1,"after":2,"score":1,"rival":false}],"unheld":2,"more":0}
-{"note":"license","refusal":0,"licence":"A","kind":"original","score":1,"rival":false,"scorings":1,"ranges":[],"unheld":0,"more":0}'
+out_is '{"note":"two","refusal":0,"licence":null,"kind":null,"score":0.666666687,"m":2,"t":6,"rival":null,"scorings":20,"ranges":[{"licence":"A","kind":"original","number":0,"first":1,"after":2,"score":1,"m":2,"t":4,"rival":false}],"unheld":2,"more":1}
+{"note":"license","refusal":0,"licence":"A","kind":"original","score":1,"m":2,"t":4,"rival":false,"scorings":1,"ranges":[],"unheld":0,"more":0}'
 run 1 scan --json --budget 0 a.book two
-out_is '{"note":"two","refusal":12,"message":"refused (12): stopped by the budget","licence":null,"kind":null,"score":null,"rival":null,"scorings":0,"ranges":[],"unheld":3,"more":0}'
+out_is '{"note":"two","refusal":12,"message":"refused (12): stopped by the budget","licence":null,"kind":null,"score":null,"m":null,"t":null,"rival":null,"scorings":0,"ranges":[],"unheld":3,"more":0}'
 run 0 scan --json --top-down 9 a.book license
-out_has '"licence":null,"kind":null,"score":null,"rival":null,"scorings":'
+out_has '"licence":null,"kind":null,"score":null,"m":null,"t":null,"rival":null,"scorings":'
 run 2 scan --json a.book nowhere umlaut
 json '[sorted(n) for n in notes]' '[["note", "trouble"], ["message", "note", "offset", "refusal"]]'
 out_is '{"note":"nowhere","trouble":"No such file or directory"}
@@ -236,17 +247,17 @@ out_is 'license: A, original, score 1.0000, 2m/t = 2*2/4
   1 scoring'
 { cat two; printf '\n\n'; cat other; } >mixed
 run 0 scan b.book --beside a.book mixed
-out_is "mixed: no licence as a whole (best score 0.6154)
-  line 6: B, original, score 1.0000, from b.book
+out_is "mixed: no licence as a whole (best score 0.6154, 2m/t = 2*4/13)
+  line 6: B, original, score 1.0000, 2m/t = 2*4/8, from b.book
   line 2: A, original, score 1.0000, 2m/t = 2*2/4, from a.book
   2 lines with words are $unread
-  39 scorings"
+  39 scorings, 2 more behind the scan"
 run 0 scan b.book --beside a.book --top-down 1 mixed
 out_has 'mixed: ranges
   line 2: A, original, score 1.0000, 2m/t = 2*2/4, from a.book
-  line 6: B, original, score 1.0000, from b.book'
+  line 6: B, original, score 1.0000, 2m/t = 2*4/8, from b.book'
 run 0 scan --json b.book --beside a.book license mixed
-out_has '{"note":"license","refusal":0,"licence":"A","book":"a.book","kind":"original","score":1,"rival":false,"scorings":2,"ranges":[],"unheld":0,"more":0}
+out_has '{"note":"license","refusal":0,"licence":"A","book":"a.book","kind":"original","score":1,"m":2,"t":4,"rival":false,"scorings":2,"ranges":[],"unheld":0,"more":0}
 {"note":"mixed","refusal":0,"licence":null,"book":null,"kind":null,'
 json '[[r["licence"], r["book"], r["number"], r["first"], r["after"]] for r in notes[1]["ranges"]]' '[["B", "b.book", 0, 5, 6], ["A", "a.book", 1, 1, 2]]'
 run 0 scan --json --top-down 1 a.book --beside b.book mixed
@@ -320,7 +331,7 @@ err_is 'chultarvi: -: cannot be read: standard input is read already'
 out_has 'license: A, original, score 1.0000, 2m/t = 2*2/4, from -'
 cp b.book "$odd.book"
 run 0 scan a.book --beside "$odd.book" other
-out_has "$(printf 'other: B, original, score 1.0000, from q" b\\\\ t\\tn\\nc\\x1b \\xc2\\x85 \303\244 \\xff \\xed\\xa0\\x80 \\xc3.book')"
+out_has "$(printf 'other: B, original, score 1.0000, 2m/t = 2*4/8, from q" b\\\\ t\\tn\\nc\\x1b \\xc2\\x85 \303\244 \\xff \\xed\\xa0\\x80 \\xc3.book')"
 run 0 scan --json a.book --beside "$odd.book" other
 json 'os.fsencode(notes[0]["book"]) == os.fsencode("""q" b\\ t\tn\nc\x1b """) + b"\xc2\x85 \xc3\xa4 \xff \xed\xa0\x80 \xc3.book"' true
 cp cut.book "$odd.book"
@@ -332,7 +343,7 @@ run 0 book most.book list
 awk 'BEGIN { for (i = 0; i < 1024; i++) printf "M%04d original %s\n", i, i < 1023 ? "other" : "license" }' >list
 run 0 book maker.book list
 run 0 scan most.book --beside maker.book license
-out_is 'license: M1023, original, score 1.0000, from maker.book
+out_is 'license: M1023, original, score 1.0000, 2m/t = 2*2/4, from maker.book
   2048 scorings'
 run 0 scan --json most.book --beside maker.book two
 json '[[r["licence"], r["book"], r["number"]] for r in notes[0]["ranges"]]' '[["M1023", "maker.book", 2047]]'
