@@ -61,6 +61,7 @@
 extern "C" {
 #endif
 
+/* 0.6.0: three answers have grown by m and t, so callers compile anew. */
 #define CHULTARVI_VERSION "0.6.0"
 #define CHULTARVI_VERSION_MAJOR 0
 #define CHULTARVI_VERSION_MINOR 6

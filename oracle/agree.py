@@ -1,5 +1,6 @@
 #!/usr/bin/env python3
-"""Holds model.py, the second reading of the rules, against the original Rust: lines, views, tables, scores, bounds and both scans.
+"""Holds model.py, the second reading of the rules, against the original Rust: lines, views, tables, scores, bounds and both scans; m and t, which the
+original does not tell, against its own tables of both texts.
 
     oracle/agree.py [--edition E] [--seed N] [--texts N]
 
@@ -97,8 +98,9 @@ def jobs(tally, oracle, rng, seed, i):
         theirs = oracle.counted(f"count{job} {threshold:08x} {shallow:08x} {before} {WHOLE} {hexed(t)}")
         part = None if theirs.named is None else model.shelved((book,))[theirs.named].part
         tally.hold(job, f"{threshold:08x} {before} of {t!r}", theirs._replace(named=part), ours)
-        if theirs.named is not None:
-            tally.hold("m and t overall", told, pairs(oracle, t, 0, n, texts[theirs.named].text), (a.m, a.t))
+        if job == "eliminate":
+            scores = [int(score, 16) for score in oracle.ask("scores", 0, n, hexed(t)).split(" ")]  # none is below 0.0, so their bits rise as they do
+            tally.hold("m and t overall", told, pairs(oracle, t, 0, n, texts[scores.index(max(scores))].text), (a.m, a.t))
 
 
 def main():

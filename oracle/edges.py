@@ -1,7 +1,7 @@
 """Each limit of the rules with its neighbours, as plans of asking.py: one below, the limit itself, one above, and the refusal that is due.
 
 `small` has those that the definitions can be computed on, `both` those of two books; `large` those of long texts, many lines and large books, and
-each form of a book as either of two.
+each form of a book as either of two. `ties` has two fractions that are one float and the next that are not, `all_ties` more of them, with each job.
 """
 
 import collections

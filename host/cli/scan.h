@@ -29,8 +29,8 @@ typedef struct {
     uint32_t *pair_room;
 } shelf;
 
-/* What a scoring yields: m word pairs shared, t word pairs of both together, and the score, 2m/t. A record has its score alone, and m and t are asked for
-   behind it: `counted` is false where the budget did not pay for that. */
+/* What a scoring yields: m word pairs shared, t word pairs of both together, and the score, 2m/t. A record has its score alone, and m and t are asked
+   for behind it: `counted` is false where the budget did not pay for that, or the answer had another score, which it never has. */
 typedef struct { float score; uint32_t m, t; bool counted; } value;
 
 /* A licence that was found, in the whole note or in the lines from `first` up to, and without, `after`. No name: none was found.

@@ -1,9 +1,10 @@
 #!/usr/bin/env python3
 """Holds m and t of the command scan against the second reading (oracle/model.py), run by host/test.sh: pairs.py COMMAND...
 
-Random notes, of licences that are alike, cut and mixed, against one book and against two, by both modes. Of each line of JSON: every score has its m and t and is 2m/t in
-binary32; overall they are the best stored text's, and of a range those of its lines as the scan had them, so with the ranges before it blanked. Then budgets: of the
-ranges so many have m and t as scorings are left. The last line is 'N passed, M failed'; the exit status is 0 only where M is 0."""
+Random notes, of licences that are alike, cut and mixed, against one book and against two, by both modes. Of each line of JSON: every score has its m and
+t and is 2m/t in binary32; overall they are the best stored text's, and of a range those of its lines as the scan had them, so with the ranges before it
+blanked. Then budgets: of the ranges so many have m and t as scorings are left. The last line is 'N passed, M failed'; the exit status is 0 only where M
+is 0."""
 import json
 import os
 import random
@@ -151,7 +152,8 @@ def hold_budgets(tally, command, told, words):
         (short,) = (json.loads(line) for line in run(command, *words, "--budget", str(count + more), told["note"])[0].splitlines())
         paid = [each["m"] is not None for each in short["ranges"]]
         tally.hold(paid == [i < more for i in range(ranges)], f"{told['note']} with {more} left: {paid}")
-        tally.hold(short["scorings"] == count and short["more"] <= more, f"{told['note']} with {more} left: {short['more']} more")
+        spent = short["more"] == more if more <= ranges else short["more"] >= ranges
+        tally.hold(spent and short["scorings"] == count, f"{told['note']} with {more} left: {short['more']} more")
         tally.met["unpaid"] += paid.count(False)
 
 

@@ -255,6 +255,7 @@ others =
     scanCase (text "my first license\nx") bookA (limits 0x80000000 0) (TopDown 0xFFFFFFFFFFFFFFFF) 100 room 8
     ((0 ∷ 6 ∷ 0 ∷ 0 ∷ 0 ∷ 0 ∷ 0 ∷ 2 ∷ []) ++ noName ++ 0 ∷ 0 ∷ 0 ∷ 0 ∷ 0 ∷ 1 ∷ 1 ∷ 0 ∷ []) ∷
     -- m and t: of all lines, of an empty table, of two, of none shared; with 8 nothing of the range; with 12 none before all are scored
+    scoreCase note bookA (view 0 1) 0 room (0 ∷ unity ∷ 2 ∷ 4 ∷ []) ∷
     scoreCase second bookA (view 0 4) 0 room (0 ∷ 0x3f2aaaab ∷ 2 ∷ 6 ∷ []) ∷
     scoreCase [] bookA (view 0 1) 0 room (0 ∷ 0 ∷ 0 ∷ 2 ∷ []) ∷
     scoreCase [] (bare "A") (view 0 1) 0 room (0 ∷ 0 ∷ 0 ∷ 0 ∷ []) ∷

@@ -10,7 +10,8 @@
 --     recorded-stays, recorded-first    the records that it has written are the first of the full scan's
 --     t-below                           t of every scoring that a scan may make is below 2^24, so exact
 --     overall-value, overall-pair       the answer's score, m and t are the overall best's value; the score is 2m/t, 2m at most t, t below 2^24
---     overall-scored, overall-short     of elimination one scoring's, of the best text, once every stored text is scored; before that 0.0, 0 and 0
+--     overall-scored, pair-of-overall   of elimination one scoring's, of the best text, once every stored text is scored: `score m a b`, t is a + b,
+--     overall-short                     and before that 0.0, 0 and 0
 --     overall-down, overall-refused     of top-down, and of what is refused before any work, 0.0, 0 and 0
 --     part-lies, part-named, part-length   the name's part lies in the book that it names, its bytes are the name, and as many
 --     part-handed                       `name_part` of the answer hands back the part that the definition gives
@@ -18,7 +19,7 @@
 use mathlib.Core.Path.{_≡_, refl, sym, ap, _∙_, subst}
 use mathlib.Core.Bool.{Bool, true, false, not, _&&_}
 use mathlib.Core.List.{List}
-use Prim.Native.Nat.{ℕ, _-_, _*_, _^_, _≤_, _<_, min}
+use Prim.Native.Nat.{ℕ, _+_, _-_, _*_, _^_, _≤_, _<_, min}
 use native.Mathlib.Omega.{arith}
 use lib.Dec.{eqb}
 use lib.ListN.{length, getD, take}
@@ -30,8 +31,8 @@ use Rattle.rules.specs.declared.Scanned.{Scanned}
 use Rattle.rules.specs.Sizes.{linesMost, storedMost}
 use Rattle.rules.specs.Lines.{lines, lineCount, size}
 use Rattle.rules.specs.declared.View.{View}
-use Rattle.rules.specs.Table.{noValue}
-use Rattle.rules.specs.Search.{noText, whole, scoreView, Best, noBest, best}
+use Rattle.rules.specs.Table.{viewTable, score, noValue}
+use Rattle.rules.specs.Search.{noText, whole, viewed, scoreView, Best, noBest, best}
 use Rattle.rules.specs.Scan.{Event, events, afford, Begins, scorings, records, verdict, numbers}
 use Rattle.rules.specs.Book.{shelved, editionOf, nameParts, partIn, Lies, ReadAs}
 use Rattle.rules.specs.Count.{mostElimination, mostTopDown}
@@ -39,7 +40,7 @@ use Rattle.rules.specs.Refusal.{refusal, unit, stepZero, beforeScan, ofScan}
 use Rattle.rules.specs.Jobs.{lent, over, happened, answered, scan, resultsAfter, ScanDone}
 use Rattle.rules.proofs.DownLaws.{each-of}
 use Rattle.rules.proofs.ShelfLaws.{shelved-most}
-use Rattle.rules.proofs.PairLaws.{PairFacts, no-pair, best-scored, pair-either, scannedValue}
+use Rattle.rules.proofs.PairLaws.{PairFacts, no-pair, best-scored, by-totals, pair-either, scannedValue}
 use Rattle.rules.proofs.VerdictLaws.{happened-one, overall-paid, overall-unpaid, down-unpaid}
 use Rattle.rules.proofs.NameLaws.{answer-lies, answer-named, answer-length}
 use Rattle.rules.proofs.BudgetLaws.{afford-all, records-begins}
@@ -178,6 +179,15 @@ module _ {t : List ℕ} {bs : List (List ℕ)} {lim : Limits} {budget : ℕ} {b�
   overall-scored optimize p d z h =
       let ls = lines (editionOf bs) t in
       overall-left d z ∙ ap (λ (x : Best). x .value) (overall-paid lim optimize p (shelved 0 bs) ls budget h) ∙ best-scored (shelved 0 bs) ls (whole ls) (passed d z .0 .some)
+
+  pub pair-of-overall : (optimize : Bool) (p : ℕ) (d : ScanDone t bs lim (Elimination optimize p) budget b₀ b w₀ w r₀ r a) → before d ≡ 0 → length (shelved 0 bs) ≤ budget →
+      let ls = lines (editionOf bs) t in
+      let total = viewTable (viewed ls (whole ls)) .total in
+      let stored = best (shelved 0 bs) ls (whole ls) .value .text .table .total in
+      (a .score ≡ score (a .m) total stored) × (a .t ≡ total + stored)
+  pair-of-overall optimize p d z h =
+      let ls = lines (editionOf bs) t in
+      by-totals ls (best (shelved 0 bs) ls (whole ls) .value .text) (whole ls) (scannedValue a) (overall-scored optimize p d z h)
 
   pub overall-short : (optimize : Bool) (p : ℕ) (d : ScanDone t bs lim (Elimination optimize p) budget b₀ b w₀ w r₀ r a) → budget < length (shelved 0 bs) → scannedValue a ≡ noValue
   unfolding events
