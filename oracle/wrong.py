@@ -8,6 +8,7 @@ the model agree. Prints by how many rows each is found. Exit status: 0 all are f
 """
 
 import argparse
+import inspect
 import os
 import sys
 import types
@@ -31,18 +32,7 @@ NO_URL, COLLAPSED, TWO_WORDS = 'f"https?://[^{SPACE}]+"', 're.sub(f"[{SPACE}]+",
 VALUED, TOLD = "if one and other else 0.0,", "bits_of(value), value.m, value.t"
 VALUE, OVERALL, FOUND_THERE = f"{VALUED} m, t)", "tell(a, event.score)\n", "            tell(a, value)\n            return\n"
 BETTER = "            found = text, value\n"
-FROM_OVERALL = """\
-    yield Overall(text, value)
-    if (value > threshold and value > shallow) or not q.optimize:
-        return
-    for _ in range(q.passes):
-        first, after, value = yield from bounds(note, 0, whole, text)
-        if value < threshold:
-            return
-        yield Found(text.number, first, after, value)
-        note = note.blanked(first, after)
-        text, _ = yield from best(note, 0, whole, shelf)
-"""
+FROM_OVERALL = "    yield Overall" + inspect.getsource(model.elimination).split("    yield Overall")[1]
 BYTES, ONLY_LATER = '"utf-8" if edition == ACCENTS else "ascii"', "edition == 1 or "
 
 
