@@ -54,7 +54,7 @@ need_archive() {
 # by their paths from the root, where all compiling is done
 sources='host/cli/*.c'
 own_headers='host/cli/*.h'
-headers='include/chultarvi.h host/records.h host/chain.h'
+headers='include/chultarvi.h host/records.h host/chain.h host/pairs.h'
 
 # stale FILE OTHER...: is one of the others newer than the file, or the file not there?
 stale() {

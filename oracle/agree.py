@@ -59,20 +59,10 @@ def scanned(a):
     return compare.Counted(a.refusal, a.count, a.score, a.part if a.kind else None, [tuple(r) for r in numbers])
 
 
-def entries(body):
-    """The counts of a table body."""
-    counts, at = collections.Counter(), 8
-    while at < len(body):
-        count, size = struct.unpack_from("<II", body, at)
-        counts[body[at + 8 : at + 8 + size]] = count
-        at += 8 + size
-    return counts
-
-
 def pairs(oracle, t, first, after, licence):
     """m and t of these lines against the licence, by the original's own tables of both."""
-    view, stored = (entries(oracle.body(text)) for text in ("\n".join(t.split("\n")[first:after]), licence))
-    return sum((view & stored).values()), sum(view.values()) + sum(stored.values())
+    (view_total, view), (stored_total, stored) = map(oracle.table, ("\n".join(t.split("\n")[first:after]), licence))
+    return sum(min(view[bigram], stored[bigram]) for bigram in view.keys() & stored.keys()), view_total + stored_total
 
 
 def jobs(tally, oracle, rng, seed, i):

@@ -169,14 +169,18 @@ class Oracle:
         records = [(int(k), int(a), int(e), int(x, 16)) for k, a, e, x in (r.split(" ") for r in records)]
         return Counted(int(refusal), int(count), int(score, 16), None if named == "none" else int(named), records)
 
+    def table(self, text):
+        """The table of a text: its total, and each bigram with its count, in byte order."""
+        total, *entries = self.ask("table", hexed(text)).split(" ")
+        counts = (entry.split(":") for entry in entries)
+        return int(total), {bytes.fromhex(bigram): int(count) for count, bigram in counts}
+
     def body(self, text):
         """The compiled body of a text, from its table."""
-        total, *entries = self.ask("table", hexed(text)).split(" ")
-        out = little(int(total), 4) + little(len(entries), 4)
-        for entry in entries:
-            count, bigram = entry.split(":")
-            bigram = bytes.fromhex(bigram)
-            out += little(int(count), 4) + little(len(bigram), 4) + bigram
+        total, counts = self.table(text)
+        out = little(total, 4) + little(len(counts), 4)
+        for bigram, count in counts.items():
+            out += little(count, 4) + little(len(bigram), 4) + bigram
         return out
 
 

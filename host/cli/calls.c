@@ -80,23 +80,25 @@ static void count_pair(worker *w, report *r, part text, finding *f) {
     f->of = (value){f->of.score, s.m, s.t, s.refusal == 0 && s.score == f->of.score};
 }
 
-void blank_lines(worker *w, part lines) {
+/* Blanks these lines of `blanked`; newlines stay. */
+static void blank_lines(worker *w, part lines) {
     uint8_t *at = w->blanked + (lines.bytes - w->blanked);
     for (size_t k = 0; k < lines.len; k++) if (at[k] != '\n') at[k] = ' ';
 }
 
-/* Elimination blanks what it has recorded, and a later range may reach over it; top-down's ranges lie apart. */
-void count_pairs(worker *w, report *r, uint32_t first, uint32_t after, findings *made) {
-    if (made->count == 0) return;
+void look_in_all(worker *w, report *r, uint32_t first, uint32_t after, findings *all, look *at) {
+    if (all->count == 0) return;
     part scanned = lines_part(w, (part){r->text, r->len}, first, after);
     memcpy(w->blanked + (scanned.bytes - r->text), scanned.bytes, scanned.len);
-    for (size_t i = 0; i < made->count; i++) {
-        finding *f = made->at + i;
+    for (size_t i = 0; i < all->count; i++) {
+        finding *f = all->at + i;
         part lines = lines_part(w, (part){w->blanked, r->len}, f->first, f->after);
-        count_pair(w, r, lines, f);
+        at(w, r, lines, f);
         blank_lines(w, lines);
     }
 }
+
+void count_pairs(worker *w, report *r, uint32_t first, uint32_t after, findings *made) { look_in_all(w, r, first, after, made, count_pair); }
 
 chultarvi_note_scanned scan_more(const worker *w, report *r, part text, const part books[2], way by) {
     by.budget = unspent(r);

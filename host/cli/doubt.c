@@ -1,7 +1,6 @@
 /* Doubt about an answer: the best of the other licences on the same lines. For a rival that is a scan against those texts alone that may be named
    there; for the next one in any case (--second) a scan against all texts of other licences. */
 #include "scan.h"
-#include <string.h>
 
 static void look_for_other(worker *w, report *r, part text, finding *f) {
     part books[2];
@@ -11,17 +10,6 @@ static void look_for_other(worker *w, report *r, part text, finding *f) {
     f->looked = a.refusal == 0;
     f->other = chosen_by(w, &a);
     f->other_of = overall_of(&a);
-}
-
-/* Elimination blanks what it has recorded, and a later range may reach over it; so its lines are looked at as they were then. */
-static void look_in_all(worker *w, report *r, findings *all) {
-    memcpy(w->blanked, r->text, r->len);
-    for (size_t i = 0; i < all->count; i++) {
-        finding *f = all->at + i;
-        part lines = lines_part(w, (part){w->blanked, r->len}, f->first, f->after);
-        look_for_other(w, r, lines, f);
-        blank_lines(w, lines);
-    }
 }
 
 static bool is_higher(const finding *f) { return has_rival(f) && f->other_of.score > f->of.score; }
@@ -60,8 +48,8 @@ void look_for_others(worker *w, report *r) {
     bool named = r->whole.text.kind;
     if (r->answer.refusal) return;
     if (named || (s->second && !s->down)) look_for_other(w, r, (part){r->text, r->len}, &r->whole);
-    look_in_all(w, r, &r->ranges);
-    look_in_all(w, r, &r->further);
+    look_in_all(w, r, 0, r->whole.after, &r->ranges, look_for_other);
+    look_in_all(w, r, 0, r->whole.after, &r->further, look_for_other);
     if (!s->thorough) return;
     name_highest(w, r);
     add_higher(w, r);

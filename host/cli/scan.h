@@ -62,7 +62,7 @@ typedef struct {
 } report;
 
 /* One worker's memory, taken once. `raw` is for the note as it was read, where --ascii changes it; `blanked` for the note without what was found
-   (calls.c, doubt.c); what is by lines, for further.c; from `table` on, for choice.c. */
+   (calls.c); what is by lines, for further.c; from `table` on, for choice.c. */
 typedef struct {
     const shelf *from;
     memory lent;
@@ -88,13 +88,15 @@ bool is_answered(const chultarvi_note_scanned *a);
 stored_text named_by(const shelf *s, const chultarvi_note_scanned *a);
 /* The overall value of an answer. */
 value overall_of(const chultarvi_note_scanned *a);
-/* Adds what the answer to a scan of the note's lines from `first` on recorded, to findings that have none yet. `numbers` says which stored text each
-   number of the answer means; null where the numbers are the shelf's own. */
+/* Adds what the answer recorded, its lines counted on from `first`. `numbers` says which stored text each number of the answer means; null where
+   the numbers are the shelf's own. */
 void add_records(const worker *w, const chultarvi_note_scanned *a, uint32_t first, const uint32_t *numbers, findings *to);
-/* Asks for m and t of the records of a scan of these lines, in the order in which they were made, as far as the note's budget pays. */
+/* Looks at findings of a scan of the note's lines from `first` up to, and without, `after`, in the order in which they were made, each with its lines as
+   they were then: elimination blanks what it has recorded, and a later range may reach over it; top-down's ranges lie apart. */
+typedef void look(worker *w, report *r, part lines, finding *f);
+void look_in_all(worker *w, report *r, uint32_t first, uint32_t after, findings *all, look *at);
+/* Asks for m and t of what such a scan recorded, as far as the note's budget pays. */
 void count_pairs(worker *w, report *r, uint32_t first, uint32_t after, findings *made);
-/* Blanks these lines of `blanked`; newlines stay. */
-void blank_lines(worker *w, part lines);
 /* One more scan for a note, against parts of the books, by what is left of its budget, and charged to it. */
 typedef struct { float threshold, shallow; bool optimize; uint64_t budget; } way;
 chultarvi_note_scanned scan_more(const worker *w, report *r, part text, const part books[2], way by);

@@ -3,6 +3,7 @@
    Every area is filled with garbage before a call and looked at after it, and so is the name's part.
    A question that cannot be held or read stops the program with a message and status 2. Build and run: host/drivers/answers.sh. Nothing here is part
    of the gate. */
+#include "../pairs.h"
 #include "../records.h"
 #include <errno.h>
 #include <inttypes.h>
@@ -126,8 +127,8 @@ static books_t beside_store(const uint8_t *own, size_t own_len, const char *bord
 }
 /* every score, which the original is asked for, is 2m/t of the m and t beside it, and these are 0 where there is none */
 static void look_at_pairs(float score, uint32_t m, uint32_t t, bool any) {
-    if (bits(t ? (float)(2 * m) / (float)t : 0.0f) != bits(score)) stop("a score is not 2m/t");
-    if (2 * m > t || t >= 1u << 24 || (!any && (m || t))) stop("m or t is out of its range");
+    if (!is_two_m_by_t(score, m, t)) stop("a score is not 2m/t");
+    if (!any && t) stop("m and t without a score");
 }
 static float score_of(text_t t, books_t b, size_t start, size_t end, uint32_t number) {
     areas_t a = lend(t.len, 0);

@@ -1,6 +1,7 @@
 /* Tests of the library as C and C++ see it: this file is compiled as both. Layout of every answer; every export, over one book and over two, by
    each edition; every refusal with the neighbour that is not refused; and after each call, what the lent areas hold and where the name stands. Prints
    what fails, then 'N passed, M failed'. */
+#include "../pairs.h"
 #include "../records.h"
 #include <assert.h>
 #include <float.h>
@@ -155,10 +156,9 @@ static lent lend(const void *text, size_t len, const uint8_t *book, size_t book_
 }
 static lent marked(void) { return lend(text_2, sizeof text_2 - 1, book_a, BOOK_A); }
 
-/* A score is 2m/t, by one division, and 0.0 where t is 0; after a refusal but 12 all three are 0. */
+/* After a refusal but 12 score, m and t are all 0. */
 static bool pairs_right(uint32_t refusal, float score, uint32_t m, uint32_t t) {
-    if (refusal != 0 && refusal != 12 && (m != 0 || t != 0)) return false;
-    return 2 * m <= t && t < 1u << 24 && score == (t ? (float)(2 * m) / (float)t : 0.0f);
+    return is_two_m_by_t(score, m, t) && (refusal == 0 || refusal == 12 || t == 0);
 }
 
 /* Each export, its areas and its m and t looked at. */
