@@ -61,11 +61,11 @@
 extern "C" {
 #endif
 
-/* 0.6.0: three answers have grown by m and t, so callers compile anew. */
-#define CHULTARVI_VERSION "0.6.0"
+/* 0.6.0: three answers have grown by m and t, so callers compile anew. 0.6.1: on equal scores a text's kind decides before its place. */
+#define CHULTARVI_VERSION "0.6.1"
 #define CHULTARVI_VERSION_MAJOR 0
 #define CHULTARVI_VERSION_MINOR 6
-#define CHULTARVI_VERSION_PATCH 0
+#define CHULTARVI_VERSION_PATCH 1
 
 #define CHULTARVI_TEXT_MOST 1048576u   /* bytes of a text */
 #define CHULTARVI_LINES_MOST 65536u    /* lines of a text */
@@ -181,7 +181,9 @@ chultarvi_text_named chultarvi_name_stored(const uint8_t *book, size_t book_len,
      score      the overall score: that of the best stored text over the whole text (0.0 in top-down, which has none)
      m, t       the numbers behind that score, of that text, named or not (0 and 0 in top-down). A record has none: chultarvi_score tells them, of its lines
                 against its stored text; in elimination with the lines of the records before it blanked
-     kind       CHULTARVI_ORIGINAL, _ALTERNATE or _HEADER where that score is above the threshold; else CHULTARVI_NONE, and len and name are 0
+     kind       CHULTARVI_ORIGINAL, _ALTERNATE or _HEADER where that score is above the threshold; else CHULTARVI_NONE, and len and name are 0. On equal
+                scores an original beats an alternate, an alternate a header, and only then the lower stored number wins; so it goes for every
+                best text, also those of the ranges (proved: best-first, crates/rules/proofs; overall-first, crates/scan_job/proofs)
      len, name  the licence's name. It is zero-filled, so no zero ends it where len is 64
      second, name_at  where the same bytes stand: in the second book where `second` is true, else in the first, from byte name_at on, and all of
                 them lie in that book (proved: part-lies, part-named, crates/scan_job/proofs). No name: false and 0. See chultarvi_name
@@ -217,7 +219,7 @@ chultarvi_note_scanned chultarvi_top_down(const uint8_t *text, size_t text_len, 
    text". Refusal 4 if either is unsound, 5 if neither has a text, 15 if their editions differ. An empty book, of length 0, may stand on either side of
    one of edition 1; beside one of 2 or 3 it is refused by 15, so where there is no second book take the calls above, which never are. Each book has
    its own limits of bytes and texts. Both are only read, and may be the same memory. Names rise in each book for itself, and equal ones may stand in
-   both: among equal scores the lower number wins, so the first book. */
+   both: among equal scores and kinds the lower number wins, so the first book. */
 chultarvi_view_scored chultarvi_score_both(const uint8_t *text, size_t text_len, const uint8_t *book, size_t book_len, const uint8_t *second,
                                            size_t second_len, size_t start, size_t end, uint32_t number, uint8_t *area, size_t area_len,
                                            uint32_t *words, size_t words_len);

@@ -183,15 +183,36 @@ def putting(rng, edition):
     return (lambda text: compare.drawn(later, f"{salt}", text)) if salt < 0.6 else (lambda text: text)
 
 
-def sound_plan(rng, job, lines=9, two=False):
-    """A plan that is not refused; its book has 2 to 5 stored texts, and two books together up to 10."""
+def sharing(rng, texts):
+    """A shelf of 2 to 4 licences: an original, often empty, the first mostly, and up to two variants, which are mostly of these texts."""
+    out = []
+    for name in sorted(rng.sample(compare.NAMES, rng.randint(2, 4))):
+        for kind in [2] + sorted(rng.choices([3, 4], k=rng.choice([0, 1, 1, 2]))):
+            own = rng.choice(["", "", compare.stored_text(rng)])
+            seldom = 0.1 if kind != 2 else 0.4 if out else 0.9
+            out.append(compare.Stored(name, kind, own if rng.random() < seldom else rng.choice(texts)))
+    return out
+
+
+def some_shelves(rng, two, share):
+    """Of one book or two; where `share` is said, with one text or two in common."""
+    if share:
+        texts = [compare.stored_text(rng) for _ in range(rng.choice([1, 1, 2]))]
+        return [sharing(rng, texts) for _ in range(1 + two)]
+    return two_shelves(rng) if two else (compare.shelf(rng),)
+
+
+def sound_plan(rng, job, lines=9, two=False, share=False):
+    """A plan that is not refused; its book has 2 to 5 stored texts, and two books together up to 10; where `share` is said up to 12 each, many of them
+    equal."""
     edition = rng.choice(model.EDITIONS)
     put = putting(rng, edition)
-    shelves = two_shelves(rng) if two else (compare.shelf(rng),)
+    shelves = some_shelves(rng, two, share)
     texts = [s for shelf in shelves for s in shelf]
+    texts = [s for s in texts if s.text] or texts if share else texts
     plan = types.SimpleNamespace(job=job, edition=edition, start=0, end=0, number=0, threshold=0, shallow=0)
     plan.records = [book_records(rng, [s._replace(text=put(s.text)) for s in shelf], edition) for shelf in shelves]
-    plan.text = put(compare.note(rng, texts, lines) if rng.random() < 0.75 else compare.text(rng)).encode("utf-8")
+    plan.text = put(compare.note(rng, texts, lines) if share or rng.random() < 0.75 else compare.text(rng)).encode("utf-8")
     if edition == model.ACCENTS and rng.random() < 0.1:
         plan.text = compare.wide_text(rng).encode("utf-8")
     plan.same = two and rng.random() < 0.1 and bool(shelves[0])
@@ -203,6 +224,8 @@ def sound_plan(rng, job, lines=9, two=False):
     plan.budget, plan.sizes = WHOLE, None
     if job in SCANS:
         plan.threshold, plan.shallow = limits(rng, plan)
+        low = 0 if job == "eliminate" else model.bits_of(0.3)  # which a shared text is soon above
+        plan.threshold = rng.choice([low, low, plan.threshold]) if share else plan.threshold
     if job in VIEWS:
         plan.start, plan.end = compare.any_view(rng, plan.text.count(b"\n") + 1)
     if job in NUMBERED:
@@ -401,9 +424,9 @@ def two_faults(rng, job, first, second, lines=9, two=False):
     return plan
 
 
-def budgeted(rng, job, lines=9, two=False):
+def budgeted(rng, job, lines=9, two=False, share=False):
     """One scan under several budgets: none, one, around the texts of the first book and of all, around its count, one between, all."""
-    plan = sound_plan(rng, job, lines, two)
+    plan = sound_plan(rng, job, lines, two, share)
     whole, texts = model.answered(question(plan)), {len(model.shelved(plan.books[:i])) for i in (1, 2)}
     budgets = {0, 1, rng.randint(0, whole.count), WHOLE} | {mark + by for mark in {whole.count, *texts} for by in (-1, 0, 1)}
     for budget in sorted(b for b in budgets if b >= 0):

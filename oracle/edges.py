@@ -1,7 +1,8 @@
 """Each limit of the rules with its neighbours, as plans of asking.py: one below, the limit itself, one above, and the refusal that is due.
 
 `small` has those that the definitions can be computed on, `both` those of two books; `large` those of long texts, many lines and large books, and
-each form of a book as either of two. `ties` has two fractions that are one float and the next that are not, `all_ties` more of them, with each job.
+each form of a book as either of two. `ties` has texts of each kind that score the same, and two fractions that are one float and the next that are
+not, in texts of each kind; `all_ties` more of these, with each job.
 """
 
 import collections
@@ -213,14 +214,22 @@ def small():
         yield from make()
 
 
-# ---- m and t: ranking is by the float ------------------------------------------------------------------------------------------------------
+# ---- equal scores: ranking is by the float, then by the kind -------------------------------------------------------------------------------
 
 ONE_FLOAT = {4096: 1, 20000: 5}  # pairs of words in a note: up to how many more and as many fewer of them in two stored texts are one float
 
 
-def often(name, times):
+TEXT_KINDS = (2, 3, 4)
+
+
+def of_kind(name, kind, body):
+    """A licence with this table as its original's, or behind an empty original as an alternate's or a header's."""
+    return record(1, name) + (record(2, EMPTY) if kind != 2 else b"") + record(kind, body)
+
+
+def often(name, times, kind=2):
     """A licence with the pair `a a` so many times."""
-    return record(1, name) + record(2, table_body(times, 1, [(times, b"a a")]))
+    return of_kind(name, kind, table_body(times, 1, [(times, b"a a")]))
 
 
 def told_of(pairs, times):
@@ -229,19 +238,37 @@ def told_of(pairs, times):
 
 
 def one_float(pairs, by):
-    """Two originals, of which one has the pair more often than the note and one less, in one book and in two. While they are one float the earlier wins
-    with its own m and t, then the one with more."""
-    for first, second in ((pairs - by, pairs + by), (pairs + by, pairs - by)):
-        books = often(b"A", first), often(b"B", second)
-        wins = first if by <= ONE_FLOAT[pairs] else pairs + by
-        more = {**told_of(pairs, wins), "name": (b"A" if wins == first else b"B").ljust(64, b"\0")}
+    """Two texts, of which one has the pair more often than the note and one less, in one book and in two, of each two kinds. While they are one float the
+    kind that goes before wins, of equal kinds the earlier, with its own m and t; then the one with more."""
+    for (first, second), kinds in itertools.product(((pairs - by, pairs + by), (pairs + by, pairs - by)), itertools.product(TEXT_KINDS, repeat=2)):
+        books = often(b"A", first, kinds[0]), often(b"B", second, kinds[1])
+        wins = kinds[1] < kinds[0] if by <= ONE_FLOAT[pairs] else second > first
+        more = {**told_of(pairs, second if wins else first), "name": (b"B" if wins else b"A").ljust(64, b"\0"), "kind": kinds[wins]}
         more["score"] = model.bits_of(model.rounded(model.Fraction(2 * pairs, 2 * pairs + by)))
         for lent in ((b"".join(books),), books):
             yield Edge("two fractions, one float", marked("eliminate", books=lent, text=b"a " * (pairs + 1), optimize=False), 0, more)
 
 
+def shared():
+    """Two and three licences share the marked licence's text, in each order of its kinds, in one book and in two. The smallest kind wins, of equal ones
+    the earliest."""
+    for kinds in itertools.chain(*(itertools.product(TEXT_KINDS, repeat=licences) for licences in (2, 3))):
+        books, texts = [of_kind(b"ABC"[i : i + 1], kind, model.compiled(NOTE)) for i, kind in enumerate(kinds)], sum(1 + (kind != 2) for kind in kinds)
+        wins = kinds.index(min(kinds))
+        named = {"name": b"ABC"[wins : wins + 1].ljust(64, b"\0"), "kind": kinds[wins], "score": model.bits_of(1.0), "m": 2, "t": 4}
+        for lent in ((b"".join(books),), (books[0], b"".join(books[1:]))):
+            for budget in (texts - 1, texts, WHOLE):
+                plan = marked("eliminate", books=lent, text=NOTE, optimize=False, budget=budget)
+                yield Edge("equal scores", plan, due(budget < texts, 12), {**named, "count": texts} if budget >= texts else {"kind": 0})
+            yield Edge("equal scores", marked("eliminate", books=lent, text=NOTE, shallow=model.bits_of(1.0), passes=1), 0, {**named, "records": 1})
+            for job in SCANS:
+                yield Edge("equal scores", marked(job, books=lent), 0, {"records": 1, "kind": 0})
+                yield Edge("equal scores", marked(job, books=lent, text=b"x y", threshold=0, passes=1), 0)
+
+
 def ties():
-    """2*4095/8191 and 2*4096/8193, and the next two, which are not one float."""
+    """Equal texts; 2*4095/8191 and 2*4096/8193, and the next two, which are not one float."""
+    yield from shared()
     for by in (1, 2):
         yield from one_float(4096, by)
 

@@ -328,11 +328,16 @@ def bounds(note, start, end, text):
     return first, after, value
 
 
+def rank(text, value):
+    """The higher is the better. On equal scores an original goes before an alternate, an alternate before a header; only then the earliest."""
+    return value, -text.kind
+
+
 def best(note, start, end, shelf):
     found = None
     for text in shelf:
         value = yield from scored(note, start, end, text)
-        if found is None or value > found[1]:
+        if found is None or rank(text, value) > rank(*found):
             found = text, value
     return found
 

@@ -22,10 +22,11 @@ Every text has at most 2,048 bytes. Those of the first four lists are ASCII and 
 
 A list of views takes each text whole, and some of the lines, the empty view among them. A list of scores takes pieces of one text against
 another. A list of scans fills the store anew every few questions; budgets are 0, the number of stored texts, one below, exactly and one
-above what the scan costs, and no limit.
+above what the scan costs, and no limit. At its end three licences share a text, in each order of its kinds.
 """
 
 import argparse
+import itertools
 import os
 import random
 import sys
@@ -312,6 +313,18 @@ def replay_scans(out, rng):
         for step in (1, 2, 3, 4, 5, 6, 7, WHOLE):
             out.ask("countdown", f"{rng.choice([ZERO, HALF, met]):08x} {ONE:08x} {step}", WHOLE, out.text(t))
         budgets(out, "eliminate", f"{rng.choice([HALF, met]):08x} {ONE:08x} 1 3", t, stored)
+
+    out.heading("equal scores: three licences share a text, each as its original, its alternate or its header")
+    for kinds in itertools.product((2, 3, 4), repeat=3):
+        stock(out, [s for name, kind in zip("ABC", kinds) for s in sharing(name, kind, LICENCE_A)])
+        for t in (LICENCE_A, TEXT_2):
+            out.ask("counteliminate", f"{HALF:08x} {ONE:08x} 1 2", WHOLE, out.text(t))
+        out.ask("countdown", f"{NINETY:08x} {ONE:08x} 1", WHOLE, out.text(TEXT_2))
+
+
+def sharing(name, kind, text):
+    """A licence with this text as its original, or, behind an empty one, as a text of another kind."""
+    return [compare.Stored(name, 2, text)] if kind == 2 else [compare.Stored(name, 2, ""), compare.Stored(name, kind, text)]
 
 
 def accent_texts(rng, how_many):

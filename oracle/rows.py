@@ -112,9 +112,19 @@ def with_accents(q):
     return third or not q.text.isascii()
 
 
+def by_kind(q, want):
+    """Would the earliest of equal scores, of whatever kind, have been answered otherwise?"""
+    if q.job not in asking.SCANS:
+        return False
+    rank, model.rank = model.rank, lambda text, value: value
+    earliest = model.answered(q)
+    model.rank = rank
+    return earliest != want
+
+
 class Tally:
     def __init__(self, archive):
-        self.archive, self.several, self.editions, self.accents, self.paired, self.none = archive, 0, 0, 0, 0, 0
+        self.archive, self.several, self.editions, self.accents, self.paired, self.none, self.kinds = archive, 0, 0, 0, 0, 0, 0
         self.rows, self.failed, self.met, self.met_by_kind = collections.Counter(), collections.Counter(), collections.Counter(), {}
 
     def hold(self, kind, q, due):
@@ -125,6 +135,7 @@ class Tally:
         self.editions += with_edition(q)
         self.accents += with_accents(q)
         self.paired += want.t > 0
+        self.kinds += by_kind(q, want)
         self.none += want.t == 0 and q.job in (*asking.VIEWS, *asking.SCANS)
         self.met[q.job, len(q.books), want.refusal] += 1
         self.met_by_kind.setdefault(kind, collections.Counter())[want.refusal] += 1
@@ -191,6 +202,13 @@ def books(rng, rows, job, two):
         yield plan, {}
 
 
+def ties(rng, rows, job, two):
+    """Scans whose licences share texts, each tenth under several budgets."""
+    for i in range(rows if job in asking.SCANS else 0):
+        plans = asking.budgeted(rng, job, two=two, share=True) if i % 10 == 0 else [asking.sound_plan(rng, job, two=two, share=True)]
+        yield from ((plan, {}) for plan in plans)
+
+
 # each kind of random row: what makes those of a job, how many times, and of two books
 RANDOM = {
     "answers": (answers, 200, 100),
@@ -198,6 +216,7 @@ RANDOM = {
     "two refusals at once": (pairs, 10, 5),
     "budgets": (budgets, 200, 100),
     "books, sound or not": (books, 286, 250),
+    "equal scores": (ties, 1800, 1800),
 }
 
 
@@ -240,7 +259,7 @@ def main():
         tally.table()
     failed = sum(tally.failed.values())
     told = f"{tally.several} rows with several faults at once, {tally.editions} with an edition, {tally.accents} that reach edition 3, "
-    told += f"{tally.paired} with word pairs and {tally.none} where m and t must be 0"
+    told += f"{tally.paired} with word pairs and {tally.none} where m and t must be 0, {tally.kinds} that a kind decides"
     print(f"{told}; seed {options.seed}, {time.monotonic() - began:.0f} s")
     print(f"{sum(tally.rows.values()) - failed} passed, {failed} failed")
     return 1 if failed else 0

@@ -31,7 +31,7 @@ WORDS, SPACES, MARKS = 'of_category("L", "Nd", "Pc")', 'SPACES = "\\t\\n\\v\\f\\
 NO_URL, COLLAPSED, TWO_WORDS = 'f"https?://[^{SPACE}]+"', 're.sub(f"[{SPACE}]+", " ", text)', 'f"[{LOWER}]+ [{LOWER}]+"'
 VALUED, TOLD = "if one and other else 0.0,", "bits_of(value), value.m, value.t"
 VALUE, OVERALL, FOUND_THERE = f"{VALUED} m, t)", "tell(a, event.score)\n", "            tell(a, value)\n            return\n"
-BETTER = "            found = text, value\n"
+BETTER, RANK, HIGHER = "            found = text, value\n", "return value, -text.kind", "rank(text, value) > rank(*found)"
 FROM_OVERALL = "    yield Overall" + inspect.getsource(model.elimination).split("    yield Overall")[1]
 BYTES, ONLY_LATER = '"utf-8" if edition == ACCENTS else "ascii"', "edition == 1 or "
 
@@ -88,7 +88,7 @@ WRONG = [
     ("left where both are equal", "at_low > at_high", "at_low >= at_high"),
     ("a search of width 2", "right - left > 3", "right - left > 2"),
     ("high-1 taken as high", "right = high - 1", "right = high"),
-    ("the later of equal texts", "value > found[1]", "value >= found[1]"),
+    ("the later of equal texts", HIGHER, "rank(text, value) >= rank(*found)"),
     ("no best after the last pass", "        text, _ = yield from best", "        if _ == q.passes - 1:\n            return\n        text, _ = yield from best"),
     ("the first line of a range not blanked", "first <= i < after", "first < i < after"),
     ("resumed at the range end", "line = after + 1", "line = max(after, line + 1)"),
@@ -127,10 +127,10 @@ WRONG = [
     if found:
         yield Overall(*found)
     other = yield from best(note, 0, whole, [text for text in shelf if text.part.second])
-    text, value = other if found is None or (other and other[1] > found[1]) else found
+    text, value = other if found is None or (other and rank(*other) > rank(*found)) else found
     yield Overall(text, value)
 """),
-    ("ties to the second book", "value > found[1]", "(value, text.part.second) > (found[1], found[0].part.second)"),
+    ("ties to the second book", RANK, "return value, -text.kind, text.part.second"),
     ("names that must rise from one book into the other", UNSOUND, f"{UNSOUND} or {TWO_NAMES.format('>=')}"),
     ("no equal names in both", UNSOUND, f"{UNSOUND} or {TWO_NAMES.format('==')}"),
     ("1,024 texts in both together", UNSOUND, f"{UNSOUND} or len(shelved(q.books)) > STORED_MOST"),
@@ -182,10 +182,47 @@ WRONG = [
         yield Overall(overall[0], Value(overall[1], _.m, _.t))
 """),
     ("m and t of the last record", "a.records += 1", "a.records, a.m, a.t = a.records + 1, event.score.m, event.score.t"),
-    ("ranked by m", "value > found[1]", "value.m > found[1].m"),
-    ("ranked by the fraction", "value > found[1]", "value.m * found[1].t > found[1].m * value.t"),
+    ("ranked by m", RANK, "return value.m, -text.kind"),
+    ("ranked by the fraction", RANK, "return Fraction(value.m, value.t or 1), -text.kind"),
     ("m and t of the later of equal texts", BETTER, f"{BETTER}        elif value == found[1]:\n            found = found[0], value\n"),
     ("m and t of the last text", BETTER, f"{BETTER}        found = found[0], Value(found[1], value.m, value.t)\n"),
+    # equal scores
+    ("the earliest of equal scores, of whatever kind", RANK, "return value"),
+    ("the later of equal scores and kinds", RANK, "return value, -text.kind, text.number"),
+    ("a header before an original", RANK, "return value, text.kind"),
+    ("an alternate as good as an original", RANK, "return value, text.kind != 4"),
+    ("a header as good as an alternate", RANK, "return value, text.kind == 2"),
+    ("an alternate before an original", RANK, "return value, (3, 2, 4).index(text.kind) * -1"),
+    ("a header before an alternate", RANK, "return value, (2, 4, 3).index(text.kind) * -1"),
+    ("the kind before the score", RANK, "return -text.kind, value"),
+    ("the kind of what scores nearly as high", RANK, "return round(value, 1), -text.kind, value"),
+    ("the kind before the score, where both are above 0.0", RANK, "return value > 0, -text.kind, value"),
+    ("the book before the kind", RANK, "return value, -text.part.second, -text.kind"),
+    ("the name before the kind", RANK, "return value, [-b for b in text.name], -text.kind"),
+    ("the kind decides in the first book alone", RANK, "return value, 0 if text.part.second else -text.kind"),
+    ("a tie at 1.0 lost by the early stop", RANK, "return value, -text.kind if value < 1 else 0"),
+    ("a tie at 1.0 alone", RANK, "return value, -text.kind if value == 1 else 0"),
+    ("a tie at 0.0 to the last original", HIGHER, f"{HIGHER} or not value and text.kind == 2"),
+    ("m and t of the text that a kind beats", BETTER, "            found = text, found[1] if found and found[1] == value else value\n"),
+    ("the score of the text, the name of the earliest", "    yield Overall(text, value)\n", """\
+    yield Overall(min((x for x in shelf if score(note.table(0, whole), x.table) == value), key=lambda x: x.number), value)
+"""),
+    ("the kind decides only what is named", "    for _ in range(q.passes):\n", """\
+    text = min((x for x in shelf if score(note.table(0, whole), x.table) == value), key=lambda x: x.number)
+    for _ in range(q.passes):
+"""),
+    ("the earliest bounded in later passes", "        text, _ = yield from best(note, 0, whole, shelf)\n", """\
+        text, value = yield from best(note, 0, whole, shelf)
+        text = min((x for x in shelf if score(note.table(0, whole), x.table) == value), key=lambda x: x.number)
+"""),
+    ("the earliest in top-down", "                latest = start, end, text\n", """\
+                latest = start, end, min((x for x in shelf if score(note.table(start, end), x.table) == value), key=lambda x: x.number)
+"""),
+    ("a text of the winner's kind alone scored", "        value = yield from scored(note, start, end, text)\n", """\
+        if found and found[1] == 1 and text.kind >= found[0].kind:
+            continue
+        value = yield from scored(note, start, end, text)
+"""),
     # editions: what stays
     ("the 4 goes in edition 2", "2: MENDED", r'2: rf"[{BLANKS}\t\\/|4]+"'),
     ("the 4 goes in edition 3", "3: MENDED", r'3: rf"[{BLANKS}\t\\/|4]+"'),

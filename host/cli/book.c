@@ -231,16 +231,31 @@ static const entry **sort_tables(const entries *all, size_t *count) {
     return texts;
 }
 
-/* Of equal scores the text that stands first wins, so the other name is never said. */
-static void warn_of_equals(const entries *all) {
-    size_t count;
-    const entry **texts = sort_tables(all, &count), *first = 0;
+/* Of texts that score the same, as equal tables do: the one that a scan names, of the kind that goes before, then the first. */
+static const entry *named_among(const entry **texts, size_t count) {
+    const entry *named = texts[0];
+    for (size_t i = 1; i < count; i++) if (texts[i]->kind < named->kind) named = texts[i];
+    return named;
+}
+
+/* The other names are never said for such a text: a word for each. */
+static void warn_of_others(const entries *all, const entry **texts, size_t count) {
+    const entry *named = named_among(texts, count);
     for (size_t i = 0; i < count; i++) {
         const entry *e = texts[i];
-        if (!first || !same_table(first, e)) first = e;
-        else if (!same_name(texts[i - 1], e))
-            say_of(all->list, "line %zu: warning: %s %s has the same table as %s %s, line %zu; a scan names %s for both", e->line, e->name,
-                   kind_words(e->kind), first->name, kind_words(first->kind), first->line, first->name);
+        if (same_name(named, e) || (i > 0 && same_name(texts[i - 1], e))) continue;
+        say_of(all->list, "line %zu: warning: %s %s has the same table as %s %s, line %zu; a scan names %s for both", e->line, e->name,
+               kind_words(e->kind), named->name, kind_words(named->kind), named->line, named->name);
+    }
+}
+
+static void warn_of_equals(const entries *all) {
+    size_t count, first = 0;
+    const entry **texts = sort_tables(all, &count);
+    for (size_t i = 1; i <= count; i++) {
+        if (i < count && same_table(texts[first], texts[i])) continue;
+        warn_of_others(all, texts + first, i - first);
+        first = i;
     }
     free(texts);
 }

@@ -14,6 +14,9 @@ static void look_for_other(worker *w, report *r, part text, finding *f) {
 
 static bool is_higher(const finding *f) { return has_rival(f) && f->other_of.score > f->of.score; }
 
+/* The other one is the better, as a scan has it: higher, or as high and of a kind that goes before. */
+static bool is_better(const finding *f) { return is_higher(f) || (has_rival(f) && f->other.kind < f->text.kind); }
+
 /* The finding as if the other licence had been found first. */
 static finding turned(const finding *f) {
     finding t = *f;
@@ -22,12 +25,12 @@ static finding turned(const finding *f) {
     return t;
 }
 
-/* What is found further is named after the highest, and falls away where the scan itself has that on these lines. */
-static void name_highest(worker *w, report *r) {
+/* What is found further is named after the best, and falls away where the scan itself has that on these lines. */
+static void name_best(worker *w, report *r) {
     size_t kept = 0;
     list_owners(w, &r->ranges);
     for (size_t i = 0; i < r->further.count; i++) {
-        finding f = is_higher(r->further.at + i) ? turned(r->further.at + i) : r->further.at[i];
+        finding f = is_better(r->further.at + i) ? turned(r->further.at + i) : r->further.at[i];
         if (!is_among(w, &r->ranges, &f)) r->further.at[kept++] = f;
     }
     r->further.count = kept;
@@ -51,7 +54,7 @@ void look_for_others(worker *w, report *r) {
     look_in_all(w, r, 0, r->whole.after, &r->ranges, look_for_other);
     look_in_all(w, r, 0, r->whole.after, &r->further, look_for_other);
     if (!s->thorough) return;
-    name_highest(w, r);
+    name_best(w, r);
     add_higher(w, r);
 }
 

@@ -30,7 +30,7 @@ static const char scan_help[] =
     "\n"
     "Says of each note which licence of the book it holds as a whole, and in which lines it holds which.\n"
     "\n"
-    "  --beside BOOK2    scan against this book too, and say of each licence which book holds it; of equal scores BOOK's wins.\n"
+    "  --beside BOOK2    scan against this book too, and say of each licence which book holds it; of equal scores and kinds BOOK's wins.\n"
     "                    Both are of one edition\n"
     "  --threshold X     a licence is named above this score (0.9)\n"
     "  --shallow X       above this score a note is one licence as a whole, and no ranges are looked for (0.99)\n"

@@ -3,8 +3,8 @@
 //
 // Changed from src/detection/license.rs (optimize_bounds, search_optimize), src/detection/detect.rs (analyze) and src/detection/scan.rs
 // (scan_elimination, scan_topdown, topdown_find_contained_license) of the crate spdx 0.13.6: the search remembers no scores, every scoring is
-// counted and paid from a budget, the stored texts stand in book order and of equal scores the earliest wins, and of every view the common
-// prefix is settled (settled.rs).
+// counted and paid from a budget, the stored texts stand in book order, of equal scores the kind of the smaller number wins and of equal kinds the
+// earliest, and of every view the common prefix is settled (settled.rs).
 
 //! Bounds and both scans, with the number of scorings that they make.
 
@@ -89,6 +89,12 @@ fn search(
 
 // ---- best stored text (detect.rs)
 
+/// A stored text and its kind: 2 original, 3 alternate, 4 header.
+pub struct Stored {
+    pub kind: u8,
+    pub text: TextData,
+}
+
 /// The number of a stored text and its score.
 #[derive(Clone, Copy)]
 struct Best {
@@ -96,12 +102,13 @@ struct Best {
     score: f32,
 }
 
-/// All stored texts are scored in book order; of equal scores the earliest wins.
-fn best(stored: &[TextData], view: &TextData, count: &mut Count) -> Result<Best, Spent> {
+/// All stored texts are scored in book order; on equal scores an original beats an alternate, an alternate a header; only then the earliest.
+fn best(stored: &[Stored], view: &TextData, count: &mut Count) -> Result<Best, Spent> {
     let mut best: Option<Best> = None;
-    for (number, text) in stored.iter().enumerate() {
+    for (number, Stored { kind, text }) in stored.iter().enumerate() {
         let score = count.score(view, text)?;
-        if best.is_none_or(|b| score > b.score) {
+        let wins = |b: Best| score > b.score || (score == b.score && *kind < stored[b.number].kind);
+        if best.is_none_or(wins) {
             best = Some(Best { number, score });
         }
     }
@@ -133,7 +140,7 @@ pub struct Findings {
 }
 
 pub fn elimination(
-    stored: &[TextData],
+    stored: &[Stored],
     limits: Limits,
     optimize: bool,
     passes: u16,
@@ -156,7 +163,7 @@ pub fn elimination(
 
     let mut current = text.clone();
     for _ in 0..passes {
-        let (optimized, score) = bounds(&current, &stored[winner.number], count)?;
+        let (optimized, score) = bounds(&current, &stored[winner.number].text, count)?;
         if score < limits.threshold {
             break;
         }
@@ -168,7 +175,7 @@ pub fn elimination(
 }
 
 pub fn topdown(
-    stored: &[TextData],
+    stored: &[Stored],
     limits: Limits,
     step: usize,
     text: &TextData,
@@ -188,7 +195,7 @@ pub fn topdown(
 }
 
 fn contained(
-    stored: &[TextData],
+    stored: &[Stored],
     limits: Limits,
     step: usize,
     text: &TextData,
@@ -213,7 +220,7 @@ fn contained(
     let Some((view, winner)) = latest else {
         return Ok(None);
     };
-    let (optimized, score) = bounds(&view, &stored[winner.number], count)?;
+    let (optimized, score) = bounds(&view, &stored[winner.number].text, count)?;
     if score < limits.threshold {
         return Ok(None);
     }

@@ -2,7 +2,7 @@
 
 use std::io::{BufRead, Write};
 
-use crate::counted::{self, Count, Findings, Limits, Spent};
+use crate::counted::{self, Count, Findings, Limits, Spent, Stored};
 use crate::detection::{
     LicenseEntry, LicenseType, Store, TextData,
     scan::{IdentifiedLicense, ScanMode, ScanResult, Scanner},
@@ -26,18 +26,17 @@ pub fn answer_all() {
 
 // ---- the stored texts
 
-/// A stored text: kind 2 original, 3 alternate, 4 header. Its number is its place in the shelf.
+/// A stored text's licence, and the text as it came. Its number is its place in the shelf.
 struct Item {
     name: String,
-    kind: u8,
     raw: String,
 }
 
 #[derive(Default)]
 struct Shelf {
     items: Vec<Item>,
-    /// the items' texts, in their order
-    texts: Vec<TextData>,
+    /// the items' texts with their kinds, in their order
+    texts: Vec<Stored>,
     /// the same texts as the original keeps them, made at the first scan that asks for it
     store: Option<Store>,
 }
@@ -48,14 +47,17 @@ impl Shelf {
     }
 
     fn add(&mut self, name: String, kind: u8, raw: String) {
-        self.texts.push(settled::text(&raw));
-        self.items.push(Item { name, kind, raw });
+        let text = settled::text(&raw);
+        self.texts.push(Stored { kind, text });
+        self.items.push(Item { name, raw });
         self.store = None;
     }
 
     /// All texts compiled anew, and a store with fresh maps: the original's ties fall in another order.
     fn shuffle(&mut self) {
-        self.texts = self.items.iter().map(|i| settled::text(&i.raw)).collect();
+        for (item, stored) in self.items.iter().zip(&mut self.texts) {
+            stored.text = settled::text(&item.raw);
+        }
         self.store = None;
     }
 
@@ -65,8 +67,8 @@ impl Shelf {
             return;
         }
         let mut store = Store::new();
-        for (item, text) in self.items.iter().zip(&self.texts) {
-            let variant = match item.kind {
+        for (item, Stored { kind, text }) in self.items.iter().zip(&self.texts) {
+            let variant = match kind {
                 2 => {
                     store.insert_entry(item.name.clone(), LicenseEntry::new(text.clone()));
                     continue;
@@ -99,7 +101,7 @@ impl Shelf {
             .position(|text| std::ptr::eq(text, license.data))
             .expect("a text of the store");
         let mut like = (0..self.items.len())
-            .filter(|&i| self.items[i].name == license.name && self.items[i].kind == kind);
+            .filter(|&i| self.items[i].name == license.name && self.texts[i].kind == kind);
         like.nth(nth).expect("an item of the shelf")
     }
 
@@ -132,7 +134,7 @@ impl Shelf {
             "score" => bits(viewed(w).match_score(&settled::text(&unhex(w[3])))),
             "scores" => {
                 let view = viewed(w);
-                joined(self.texts.iter().map(|text| bits(view.match_score(text))))
+                joined(self.texts.iter().map(|stored| bits(view.match_score(&stored.text))))
             }
 
             // bounds

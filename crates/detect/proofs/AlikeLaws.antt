@@ -5,41 +5,21 @@
 --     alike-lowest     with the floor at 0.0 they are the same
 -- Assumes nothing.
 use mathlib.Core.Path.{_≡_, refl, sym, ap, _∙_}
+use Prim.Native.Nat.{_≤_}
 use mathlib.Core.Bool.{Bool, true, false, not, _||_, cond, true≢false, false≢true}
-use lib.Dec.{T, eqb}
+use lib.Dec.{T, eqb, ltb}
 use lib.Ieee.{Float, lt}
-use borrow.Author.Tests.{not-true}
+use borrow.Author.Tests.{not-true, ltb-false}
 use Rattle.rules.specs.declared.Value.{Value}
 use Rattle.rules.specs.Table.{nought}
 use Rattle.rules.specs.Search.{Stored, Best, better}
 use Rattle.rules.specs.Refusal.{unit}
-use Rattle.rules.proofs.BoolLaws.{cond-of}
 use Rattle.rules.proofs.FloatOrder.{lt-between}
+use Rattle.rules.proofs.RankLaws.{better-any, better-none, better-ahead, better-behind, ahead-higher, behind, behind-lower}
 use Rattle.floors.specs.Floors.{beats, Judged}
 use Rattle.floors.proofs.LowestLaws.{beats-lowest}
 use Rattle.detect_best.specs.Beats.{toBeat}
 use Rattle.detect.specs.Bests.{Alike, same, both-below}
-
--- ---- the better of two, by its cases
-better-any : (P : Best → Type 0) (b n : Best) → P b → P n → P (better b n)
-unfolding better
-better-any P b n h k = cond-of P (eqb (b .text .kind) 0 || lt (b .value .score) (n .value .score)) n b k h
-
-better-first : (b n : Best) → eqb (b .text .kind) 0 ≡ true → better b n ≡ n
-unfolding better
-better-first b n k = rw k
-
-better-higher : (b n : Best) → lt (b .value .score) (n .value .score) ≡ true → better b n ≡ n
-unfolding better
-better-higher b n l = at (eqb (b .text .kind) 0)
-  where
-    at : (q : Bool) → cond (q || lt (b .value .score) (n .value .score)) n b ≡ n
-    at true = refl
-    at false = rw l
-
-better-kept : (b n : Best) → eqb (b .text .kind) 0 ≡ false → lt (b .value .score) (n .value .score) ≡ false → better b n ≡ b
-unfolding better
-better-kept b n k l = rw (k, l)
 
 pub better-unit : (b n : Best) → T (unit (b .value .score)) → T (unit (n .value .score)) → T (unit (better b n .value .score))
 better-unit b n h k = better-any (λ (x : Best). T (unit (x .value .score))) b n h k
@@ -68,8 +48,8 @@ module _ (floor : Float) (c x : Best) (s : Stored) (v r : Value) where
 
     first : c ≡ x → eqb (c .text .kind) 0 ≡ true → Alike floor (better c told) (better x real)
     first e k =
-        let y = better-first c told k in
-        let z = better-first x real (ap (λ (b : Best). eqb (b .text .kind) 0) (sym e) ∙ k) in
+        let y = better-none c told k in
+        let z = better-none x real (ap (λ (b : Best). eqb (b .text .kind) 0) (sym e) ∙ k) in
         rw (y, z) (at (lt (v .score) floor) refl)
       where
         at : (t : Bool) → lt (v .score) floor ≡ t → Alike floor told real
@@ -86,31 +66,58 @@ module _ (floor : Float) (c x : Best) (s : Stored) (v r : Value) where
             (better-any (λ (b : Best). lt (b .value .score) floor ≡ true) x real q l) (better-unit x real u (j .real-unit))
         at false l =
             let e : told ≡ real = ap (λ (y : Value). record { text = s; value = y }) (told-above l) in
-            let a = better-higher c real (lt-between (c .value .score) (v .score) floor (j .real-unit) p l) in
-            let b = better-higher x real (lt-between (x .value .score) (v .score) floor (j .real-unit) q l) in
+            let a = better-ahead c real (ahead-higher c real (lt-between (c .value .score) (v .score) floor (j .real-unit) p l)) in
+            let b = better-ahead x real (ahead-higher x real (lt-between (x .value .score) (v .score) floor (j .real-unit) q l)) in
             same (ap (better c) e ∙ a ∙ sym b)
 
-  -- against the best so far, which has reached the floor
-  reached : Judged (record { score = c .value .score; ties = false }) v r → c ≡ x → eqb (c .text .kind) 0 ≡ false →
+  -- against the best so far, which has reached the floor: where the next's kind does not go before it has to score higher,
+  above-best : Judged (record { score = c .value .score; ties = false }) v r → c ≡ x → eqb (c .text .kind) 0 ≡ false → c .text .kind ≤ s .kind →
       Alike floor (better c told) (better x real)
   unfolding beats
-  reached j e k = at (lt (c .value .score) (v .score)) refl
+  above-best j e k g = at (lt (c .value .score) (v .score)) refl
     where
       at : (t : Bool) → lt (c .value .score) (v .score) ≡ t → Alike floor (better c told) (better x real)
       at true q = same (ap (λ (y : Value). better c (record { text = s; value = y })) (j .real q) ∙ ap (λ (b : Best). better b real) e)
-      at false q = same (better-kept c told k (lost (lt (c .value .score) (r .score)) refl) ∙ sym (better-kept c real k q) ∙ ap (λ (b : Best). better b real) e)
+      at false q =
+          same
+          (better-behind c told k (behind c told (lost (lt (c .value .score) (r .score)) refl, λ z. g)) ∙
+          sym (better-behind c real k (behind c real (q, λ z. g))) ∙ ap (λ (b : Best). better b real) e)
         where
-          lost : (t : Bool) → lt (c .value .score) (r .score) ≡ t → t ≡ false
-          lost false l = refl
-          lost true l = sym l ∙ ap (λ (y : Value). lt (c .value .score) (y .score)) (j .told l) ∙ q
+          lost : (t : Bool) → lt (c .value .score) (r .score) ≡ t → lt (c .value .score) (r .score) ≡ false
+          lost false l = l
+          lost true l = ap (λ (y : Value). lt (c .value .score) (y .score)) (j .told l) ∙ q
 
-  pub alike-next : Alike floor c x → T (unit (x .value .score)) → Judged (toBeat floor (c .text .kind) (c .value .score)) v r →
+  -- where it does, only what scores lower is not told
+  tied-best : Judged (record { score = c .value .score; ties = true }) v r → c ≡ x → eqb (c .text .kind) 0 ≡ false → Alike floor (better c told) (better x real)
+  unfolding beats
+  tied-best j e k = at (lt (v .score) (c .value .score)) refl
+    where
+      at : (t : Bool) → lt (v .score) (c .value .score) ≡ t → Alike floor (better c told) (better x real)
+      at false q = same (ap (λ (y : Value). better c (record { text = s; value = y })) (j .real (ap not q)) ∙ ap (λ (b : Best). better b real) e)
+      at true q =
+          same
+          (better-behind c told k (behind-lower c told (low (lt (r .score) (c .value .score)) refl)) ∙ sym (better-behind c real k (behind-lower c real q)) ∙
+          ap (λ (b : Best). better b real) e)
+        where
+          low : (t : Bool) → lt (r .score) (c .value .score) ≡ t → lt (r .score) (c .value .score) ≡ true
+          low true l = l
+          low false l = ap (λ (y : Value). lt (y .score) (c .value .score)) (j .told (ap not l)) ∙ q
+
+  reached : Judged (record { score = c .value .score; ties = ltb (s .kind) (c .text .kind) }) v r → c ≡ x → eqb (c .text .kind) 0 ≡ false →
+      Alike floor (better c told) (better x real)
+  reached j e k = at (ltb (s .kind) (c .text .kind)) refl j
+    where
+      at : (t : Bool) → ltb (s .kind) (c .text .kind) ≡ t → Judged (record { score = c .value .score; ties = t }) v r → Alike floor (better c told) (better x real)
+      at true g i = tied-best i e k
+      at false g i = above-best i e k (ltb-false (s .kind) (c .text .kind) g)
+
+  pub alike-next : Alike floor c x → T (unit (x .value .score)) → Judged (toBeat floor (c .text .kind) (c .value .score) (s .kind)) v r →
       Alike floor (better c told) (better x real)
   unfolding toBeat
   alike-next a u j = at (eqb (c .text .kind) 0) (lt (c .value .score) floor) refl refl a j
     where
       at : (k l : Bool) → eqb (c .text .kind) 0 ≡ k → lt (c .value .score) floor ≡ l → Alike floor c x →
-          Judged (cond (k || l) (record { score = floor; ties = true }) (record { score = c .value .score; ties = false })) v r →
+          Judged (cond (k || l) (record { score = floor; ties = true }) (record { score = c .value .score; ties = ltb (s .kind) (c .text .kind) })) v r →
           Alike floor (better c told) (better x real)
       at true l f g (same e) i = first i e f
       at true l f g (both-below p q w) i = below i p q w

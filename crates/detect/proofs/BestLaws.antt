@@ -113,7 +113,7 @@ module _ {books : Shelf} {table : Table} {floor : Float} {budget : ℕ} {best : 
       ap₂ (λ (s : Stored) (x : Value). record { text = s; value = x }) t (ap (λ (s : Stored). valueOf table (s .table)) t)
 
   -- the code's best of this text and those before, and the definition's
-  next-alike : (text : Shelved) (value : Value) (after : Best) → Judged (toBeat floor (best .text .text .kind) (best .value .score)) (valueOf table (tableOfBody (bodyIn books text))) value →
+  next-alike : (text : Shelved) (value : Value) (after : Best) → Judged (toBeat floor (best .text .text .kind) (best .value .score) (text .text .kind)) (valueOf table (tableOfBody (bodyIn books text))) value →
       Betters best (record { text = text; value = value }) after →
       Alike floor (bestIn books after) (better (w .real) (bestIn books (record { text = text; value = valueOf table (tableOfBody (bodyIn books text)) })))
   unfolding bestIn textIn
@@ -126,7 +126,7 @@ module _ {books : Shelf} {table : Table} {floor : Float} {budget : ℕ} {best : 
   next-fair text u = better-unit (w .real) (bestIn books (record { text = text; value = valueOf table (tableOfBody (bodyIn books text)) })) (w .fair) u
 
   pub walk-step : (text : Shelved) (value : Value) (after : Best) (spot′ : Spot) (left′ : ℕ) (to-beat : Floor) → spot .number < all → 0 < left →
-      Next books (spot .number) text → to-beat ≡ toBeat floor (best .text .text .kind) (best .value .score) →
+      Next books (spot .number) text → to-beat ≡ toBeat floor (best .text .text .kind) (best .value .score) (text .text .kind) →
       Judged to-beat (valueOf table (tableOfBody (bodyIn books text))) value → Betters best (record { text = text; value = value }) after →
       left′ ≡ left - 1 → spot′ ≡ afterOn text → Walking books table floor budget after left′ spot′
   walk-step text value after spot′ left′ to-beat l k f t j b q p =

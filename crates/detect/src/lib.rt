@@ -54,7 +54,7 @@ pub fn best_of<'a>(
         }
         let text = next_on(book, second, texts, spot);
         let body = body_of(book, second, text);
-        let least = to_beat(floor, best);
+        let least = to_beat(floor, best, text.text.kind);
         let c = charge(area, words, n, t, body, least, left);
         left = c.left;
         let value = c.value;

@@ -3,7 +3,7 @@
 use mathlib.Core.Path.{_≡_}
 use Prim.Native.Nat.{ℕ}
 use mathlib.Core.Bool.{Bool, true, false, _||_, cond}
-use lib.Dec.{eqb}
+use lib.Dec.{eqb, ltb}
 use lib.Ieee.{Float, lt}
 use Rattle.rules.specs.Search as rules
 use Rattle.rules.specs.Search.{better}
@@ -24,6 +24,7 @@ pub record Wins (best next : Best) (r : Bool) : Type 0 where
   pub yes : r ≡ true → Betters best next next
   pub no : r ≡ false → Betters best next best
 
--- what the next text has to beat, by the best's kind and score: the floor, where ties with it do, as long as none reaches it; then the best
-unfoldable pub toBeat : Float → ℕ → Float → Floor
-toBeat floor kind score = cond (eqb kind 0 || lt score floor) (record { score = floor; ties = true }) (record { score = score; ties = false })
+-- what the next text has to beat, by the best's kind and score and by its own kind: the floor, where ties with it do, as long as none reaches it;
+-- then the best, where ties do if its kind goes before
+unfoldable pub toBeat : Float → ℕ → Float → ℕ → Floor
+toBeat floor kind score next = cond (eqb kind 0 || lt score floor) (record { score = floor; ties = true }) (record { score = score; ties = ltb next kind })

@@ -40,29 +40,35 @@ pub fn no_best() -> Best
     Best { text, value }
 }
 
-// Whether the next text is the better one: where it scores strictly higher, so ties go to the earliest. Its answer is no struct, since most texts
-// do not win, and the best would be copied for each.
+// Whether the next text is the better one: where it scores strictly higher, and on equal scores where its kind goes before; only then the earlier
+// one stays. Its answer is no struct, since most texts do not win, and the best would be copied for each.
 pub fn wins(best: Best, next: Best) -> bool
     ensures { λ r. ⌜ Wins best next r ⌝ }
 {
-    let held = best.text;
-    let text = held.text;
-    if text.kind == 0 {
+    if best.text.text.kind == 0 {
         return true;
     }
-    best.value.score < next.value.score
+    if best.value.score < next.value.score {
+        return true;
+    }
+    if next.value.score < best.value.score {
+        return false;
+    }
+    next.text.text.kind < best.text.text.kind
 }
 
-// What the next text has to beat: the floor, where ties with it do, as long as no text reaches it; then the best so far.
-pub fn to_beat(floor: f32, best: Best) -> Floor
-    ensures { λ r. ⌜ r ≡ toBeat floor (best .text .text .kind) (best .value .score) ⌝ }
+// What the next text, of this kind, has to beat: the floor, where ties with it do, as long as no text reaches it; then the best so far, where
+// ties do if its kind goes before.
+pub fn to_beat(floor: f32, best: Best, kind: u16) -> Floor
+    ensures { λ r. ⌜ r ≡ toBeat floor (best .text .text .kind) (best .value .score) kind ⌝ }
 {
-    let held = best.text;
-    let text = held.text;
     let score = best.value.score;
-    if text.kind != 0 {
+    if best.text.text.kind != 0 {
         if !(score < floor) {
-            return Floor { score, ties: false };
+            return Floor {
+                score,
+                ties: kind < best.text.text.kind,
+            };
         }
     }
     Floor {

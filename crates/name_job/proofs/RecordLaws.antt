@@ -14,7 +14,7 @@ use Rattle.rules.specs.declared.Mode.{Mode}
 use Rattle.rules.specs.declared.View.{View}
 use Rattle.rules.specs.declared.Mode.the-variants.{Elimination, TopDown}
 use Rattle.rules.specs.Lines.{lines}
-use Rattle.rules.specs.Table.{Table, valueOf, viewTable}
+use Rattle.rules.specs.Table.{viewTable}
 use Rattle.rules.specs.Search.{whole, viewed, blank, Stored, noText, Made, recurse, turns, scored, Best, noBest, better, bestFrom, best, bounds}
 use Rattle.rules.specs.Scan.{Event, overall, found, Recorded, after, afford, stops, below, eachPass, elimination, steps, viewsOf, Pair, latest, settled, contained, andOn, downOn, downFrom, topDown, events, records}
 use Rattle.rules.specs.Book.{shelved, editionOf}
@@ -22,6 +22,7 @@ use Rattle.rules.specs.Refusal.{refusal, Areas, ofScan}
 use Rattle.rules.specs.Jobs.{happened}
 use Rattle.rules.proofs.BoolLaws.{cond-of}
 use Rattle.rules.proofs.DownLaws.{Each, On}
+use Rattle.rules.proofs.RankLaws.{entered, best-one}
 use Rattle.rules.proofs.BudgetLaws.{records-after, records-begins}
 
 each-front : {A : Type 0} (P : A → Type 0) (xs ys : List A) → Each P (xs ++ ys) → Each P xs
@@ -30,24 +31,12 @@ each-front P (x ∷ xs) ys h = (h .0, each-front P xs ys (h .1))
 
 -- ---- the best of one or more
 module _ (P : Stored → Type 0) where
-  best-on : (t : Table) (v : View) (ss : List Stored) (b : Best) → Each P ss → P (b .text) → P (bestFrom t v ss b .value .text)
-  unfolding bestFrom better scored
-  best-on t v [] b h k = k
-  best-on t v (s ∷ ss) b h k = best-on t v ss (better b new) (h .1) (at (eqb (b .text .kind) 0 || lt (b .value .score) (new .value .score)))
-    where
-      new : Best
-      new = record { text = s; value = valueOf t (s .table) }
-
-      at : (q : Bool) → P (cond q new b .text)
-      at true = h .0
-      at false = k
-
   best-held : (ss : List Stored) → 0 < length ss → Each P ss → (ls : List (List ℕ)) (v : View) → P (best ss ls v .value .text)
   unfolding best bestFrom better scored noBest noText
   best-held [] n h ls v = absurd (not-suc-le-zero n)
   best-held (s ∷ ss) n h ls v =
       let t = viewTable (viewed ls v) in
-      best-on t v ss (record { text = s; value = valueOf t (s .table) }) (h .1) (h .0)
+      best-one (λ b. P (b .text)) t v ss (entered t s) (h .1) (h .0)
 
 -- ---- the records of what happens
 module _ (P : Stored → Type 0) (lim : Limits) (ss : List Stored) (one : 0 < length ss) (h : Each P ss) where

@@ -1,5 +1,5 @@
 -- What holds where no row of a text and its lent books applies, whatever rows follow (`both-passed`), and no row of a view (`view-passed`); so every
--- scoring that a job then makes has the facts of m and t (`passed-pair`).
+-- scoring that a job then makes has the facts of m and t (`passed-pair`), and the best stored text of every view is the first (`passed-first`).
 -- Assumes nothing.
 use mathlib.Core.Path.{_≡_}
 use mathlib.Core.Bool.{true, false, not, _&&_}
@@ -13,7 +13,8 @@ use Rattle.rules.specs.declared.View.{View}
 use Rattle.rules.specs.Sizes.{textMost, linesMost}
 use Rattle.rules.specs.Points.{utf8, wide, taken}
 use Rattle.rules.specs.Lines.{lines, lineCount, size}
-use Rattle.rules.specs.Search.{noText, scoreView}
+use Rattle.rules.specs.Table.{viewTable}
+use Rattle.rules.specs.Search.{viewed, noText, scoreView, best}
 use Rattle.rules.specs.Book.{allSound, shelved, editionOf, differ}
 use Rattle.rules.specs.Refusal.{Row, refusal, ofText, ofBooks, Areas, ofView}
 use Rattle.rules.proofs.BoolLaws.{and-left}
@@ -21,6 +22,7 @@ use Rattle.rules.proofs.DownLaws.{each-at}
 use Rattle.rules.proofs.PointLaws.{taken-utf8}
 use Rattle.rules.proofs.SoundLaws.{StoredSound}
 use Rattle.rules.proofs.ShelfLaws.{shelved-sound}
+use Rattle.rules.proofs.RankLaws.{First, books-first}
 use Rattle.rules.proofs.PairLaws.{PairFacts, scoring-pair}
 use Rattle.refusals.proofs.AdmitLaws.{row-passes}
 
@@ -75,3 +77,7 @@ pub passed-pair : (t : List ℕ) (bs : List (List ℕ)) → BothPassed t bs → 
     PairFacts (scoreView ls (getD (shelved 0 bs) k noText) v .value)
 passed-pair t bs p ls l v k h =
     scoring-pair (editionOf bs) t ls v (getD (shelved 0 bs) k noText) (p .bytes) (p .short) l (each-at StoredSound (shelved 0 bs) k noText h (shelved-sound 0 bs (p .sound)))
+
+pub passed-first : (t : List ℕ) (bs : List (List ℕ)) → BothPassed t bs → (ls : List (List ℕ)) → size ls ≤ size (lines (editionOf bs) t) → (v : View) →
+    First (viewTable (viewed ls v)) (shelved 0 bs) (best (shelved 0 bs) ls v .value)
+passed-first t bs p ls l v = books-first (editionOf bs) t bs ls v (p .bytes) (p .short) l (p .sound) (p .some)

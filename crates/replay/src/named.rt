@@ -1,5 +1,5 @@
 // Which stored text an answer names: the original's answer has its number, where a scan's has name, kind and score. The first text of that
-// name and kind that scores so over the whole note is the one, since ties fall to the earliest. Assumes nothing.
+// name and kind that scores so over the whole note is the one, since of equal scores and kinds the earliest wins. Assumes nothing.
 ghost use mathlib.Core.Path.{_≡_};
 ghost use mathlib.Core.Bool.{true};
 ghost use Prim.Native.Nat.{_<_};

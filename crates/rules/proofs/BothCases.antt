@@ -25,6 +25,10 @@ licence n s = rec 1 (text n) ++ rec 2 (compiled 1 (text s))
 a1 : List ℕ
 a1 = licence "A" "a b"
 
+-- an empty original, and `a b` as a header
+h1 : List ℕ
+h1 = rec 1 (text "H") ++ rec 2 (compiled 1 []) ++ rec 4 (compiled 1 (text "a b"))
+
 b1 : List ℕ
 b1 = licence "B" "c d"
 
@@ -73,6 +77,8 @@ got =
     shown note (a1 ∷ b1 ∷ []) 9 ∷
     shown note (b1 ∷ a1 ∷ []) 9 ∷
     shown note (a1 ∷ a1 ∷ []) 9 ∷
+    shown note (h1 ∷ a1 ∷ []) 9 ∷
+    shown note (h1 ∷ h1 ∷ []) 9 ∷
     shown note ((b1 ++ licence "C" "a b") ∷ a1 ∷ []) 9 ∷
     shown note (b1 ∷ (a1 ++ licence "C" "a b") ∷ []) 9 ∷
     shown note ([] ∷ a1 ∷ []) 9 ∷
@@ -104,6 +110,8 @@ pub both-hold :
     (0 ∷ 2 ∷ 0x3f800000 ∷ 1 ∷ 2 ∷ 2 ∷ 1 ∷ 0 ∷ 6 ∷ 1 ∷ []) ∷
     (0 ∷ 2 ∷ 0x3f800000 ∷ 1 ∷ 2 ∷ 2 ∷ 1 ∷ 1 ∷ 6 ∷ 1 ∷ []) ∷
     (0 ∷ 2 ∷ 0x3f800000 ∷ 1 ∷ 2 ∷ 2 ∷ 1 ∷ 0 ∷ 6 ∷ 1 ∷ []) ∷
+    (0 ∷ 3 ∷ 0x3f800000 ∷ 1 ∷ 2 ∷ 2 ∷ 1 ∷ 1 ∷ 6 ∷ 1 ∷ []) ∷
+    (0 ∷ 4 ∷ 0x3f800000 ∷ 1 ∷ 2 ∷ 4 ∷ 1 ∷ 0 ∷ 6 ∷ 1 ∷ []) ∷
     (0 ∷ 3 ∷ 0x3f800000 ∷ 1 ∷ 2 ∷ 2 ∷ 1 ∷ 0 ∷ 38 ∷ 1 ∷ []) ∷
     (0 ∷ 3 ∷ 0x3f800000 ∷ 1 ∷ 2 ∷ 2 ∷ 1 ∷ 1 ∷ 6 ∷ 1 ∷ []) ∷
     (0 ∷ 1 ∷ 0x3f800000 ∷ 1 ∷ 2 ∷ 2 ∷ 1 ∷ 1 ∷ 6 ∷ 1 ∷ []) ∷
@@ -129,5 +137,5 @@ pub both-hold :
     (5 ∷ 0 ∷ 0 ∷ 0 ∷ 0 ∷ 0 ∷ 0 ∷ 0 ∷ 0 ∷ 0 ∷ []) ∷
     (4 ∷ 0 ∷ 0 ∷ 0 ∷ 0 ∷ 0 ∷ 0 ∷ 0 ∷ 0 ∷ 0 ∷ []) ∷
     []
-unfolding got shown above down whole found limits bit note room a1 b1 licence rec opened
+unfolding got shown above down whole found limits bit note room a1 h1 b1 licence rec opened
 both-hold = refl

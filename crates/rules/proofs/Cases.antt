@@ -196,17 +196,33 @@ slim = with (body 1 1 (entry 1 (text "a b")))
 tiny : Areas
 tiny = record { bytes = 0; words = 0 }
 
--- ---- the best of two originals, with `a a` so often in their tables, for a view with it 4,096 times: number, score bits, m and t
+-- ---- the best of two texts of these kinds, with `a a` so often in their tables, for a view with it 4,096 times: number, score bits, m and t
 often : ℕ → Table
 often n = record { total = n; entries = record { bytes = text "a a"; count = n } ∷ [] }
 
-original : ℕ → ℕ → Stored
-original k n = record { number = k; name = text "A"; kind = 2; table = often n }
+storedAs : ℕ → ℕ → ℕ → Stored
+storedAs number kind n = record { number = number; name = text "A"; kind = kind; table = often n }
 
-tieCase : ℕ → ℕ → List ℕ → Case
-tieCase x y w =
-    let b = bestFrom (often 4_096) (view 0 1) (original 0 x ∷ original 1 y ∷ []) noBest .value in
+tieCase : ℕ → ℕ → ℕ → ℕ → List ℕ → Case
+tieCase kind x other y w =
+    let b = bestFrom (often 4_096) (view 0 1) (storedAs 0 kind x ∷ storedAs 1 other y ∷ []) noBest .value in
     record { got = b .text .number ∷ toBits binary32 (b .value .score) ∷ b .value .m ∷ b .value .t ∷ []; want = w }
+
+-- ---- licences that share the text `My First License`: as its original, or behind an empty one as an alternate or a header
+full : String → List ℕ
+full n = rec 1 (text n) ++ rec 2 bodyA
+
+sharing : String → ℕ → List ℕ
+sharing n kind = bare n ++ rec kind bodyA
+
+-- A's header is text 1, B's original text 2
+headerFirst : List ℕ
+headerFirst = sharing "A" 4 ++ full "B"
+
+-- the note is that text, so all that have it score 1.0: count, kind and name
+sharedCase : List ℕ → ℕ → ℕ → String → Case
+sharedCase book count kind s =
+    scanCase note book (limits half half) (Elimination false 0) 100 room 0 ((0 ∷ count ∷ unity ∷ 2 ∷ 4 ∷ kind ∷ 1 ∷ 0 ∷ []) ++ name (text s) 63)
 
 pub others : List Case
 others =
@@ -229,9 +245,23 @@ others =
     viewCase "copyright company\nb c" "b c" ∷
     viewCase "" "" ∷
     lineCase "a\t\\/|b--c__d[({e)]}'\"f" "a b-c_d(e)'f" ∷
-    -- ties to the earliest; a text of kind 3 and of kind 4 named
-    scanCase note (with bodyA ++ rec 1 (text "B") ++ rec 2 bodyA) (limits half half) (Elimination false 0) 100 room 0
-    ((0 ∷ 2 ∷ unity ∷ 2 ∷ 4 ∷ 2 ∷ 1 ∷ 0 ∷ []) ++ name (text "A") 63) ∷
+    -- on equal scores an original beats an alternate, an alternate a header; only then the earliest; what scores lower beats nothing
+    sharedCase headerFirst 3 2 "B" ∷
+    sharedCase (sharing "A" 4 ++ sharing "B" 3) 4 3 "B" ∷
+    sharedCase (sharing "A" 3 ++ full "B") 3 2 "B" ∷
+    sharedCase (sharing "A" 4 ++ sharing "B" 3 ++ full "C") 5 2 "C" ∷
+    sharedCase (full "A" ++ full "B") 2 2 "A" ∷
+    sharedCase (sharing "A" 3 ++ sharing "B" 3) 4 3 "A" ∷
+    sharedCase (sharing "A" 4 ++ sharing "B" 4) 4 4 "A" ∷
+    sharedCase (full "A" ++ sharing "B" 3 ++ sharing "C" 4) 5 2 "A" ∷
+    sharedCase (sharing "A" 4 ++ bare "B") 3 4 "A" ∷
+    -- so does the text of each pass, and top-down's; a tie at 0.0 stays with text 0
+    scanCase second headerFirst (limits 0x3f666666 0x3f7d70a4) (Elimination true 10) 100 room 40
+    ((0 ∷ 24 ∷ 0x3f2aaaab ∷ 2 ∷ 6 ∷ 0 ∷ 0 ∷ 1 ∷ []) ++ noName ++ (2 ∷ 1 ∷ 2 ∷ unity ∷ []) ++ replicate 36 7) ∷
+    scanCase second headerFirst (limits 0x3f666666 unity) (TopDown 1) 100 room 16
+    ((0 ∷ 24 ∷ 0 ∷ 0 ∷ 0 ∷ 0 ∷ 0 ∷ 1 ∷ []) ++ noName ++ (2 ∷ 1 ∷ 2 ∷ unity ∷ []) ++ replicate 12 7) ∷
+    scanCase (text "x y") headerFirst (limits 0 half) (Elimination true 1) 100 room 4 ((0 ∷ 10 ∷ 0 ∷ 0 ∷ 1 ∷ 0 ∷ 0 ∷ 1 ∷ []) ++ noName ++ 0 ∷ 1 ∷ 1 ∷ 0 ∷ []) ∷
+    -- a text of kind 3 and of kind 4 named
     scanCase note (bare "A" ++ bare "B-1" ++ rec 3 bodyA) (limits half half) (Elimination false 0) 100 room 0
     ((0 ∷ 3 ∷ unity ∷ 2 ∷ 4 ∷ 3 ∷ 3 ∷ 0 ∷ []) ++ name (text "B-1") 61) ∷
     scanCase note (bare "A" ++ rec 4 bodyA) (limits half half) (Elimination false 0) 100 room 0
@@ -266,9 +296,12 @@ others =
     scanCase (text "x y") bookA (limits half half) (Elimination false 0) 1 room 0 ((0 ∷ 1 ∷ 0 ∷ 0 ∷ 3 ∷ 0 ∷ 0 ∷ 0 ∷ []) ++ noName) ∷
     scanCase second bookA (limits 0x3f666666 unity) (TopDown 1) 100 room 16
     ((0 ∷ 12 ∷ 0 ∷ 0 ∷ 0 ∷ 0 ∷ 0 ∷ 1 ∷ []) ++ noName ++ (0 ∷ 1 ∷ 2 ∷ unity ∷ []) ++ replicate 12 7) ∷
-    -- two fractions that are one float: the earlier text, whose own m and t are answered, whichever is the larger
-    tieCase 4_095 4_097 (0 ∷ 0x3f7ff800 ∷ 4_095 ∷ 8_191 ∷ []) ∷
-    tieCase 4_097 4_095 (0 ∷ 0x3f7ff800 ∷ 4_096 ∷ 8_193 ∷ []) ∷
+    -- two fractions that are one float: the earlier text, unless the later one's kind goes before; its own m and t, whichever is the larger
+    tieCase 2 4_095 2 4_097 (0 ∷ 0x3f7ff800 ∷ 4_095 ∷ 8_191 ∷ []) ∷
+    tieCase 2 4_097 2 4_095 (0 ∷ 0x3f7ff800 ∷ 4_096 ∷ 8_193 ∷ []) ∷
+    tieCase 4 4_095 2 4_097 (1 ∷ 0x3f7ff800 ∷ 4_096 ∷ 8_193 ∷ []) ∷
+    tieCase 4 4_097 3 4_095 (1 ∷ 0x3f7ff800 ∷ 4_095 ∷ 8_191 ∷ []) ∷
+    tieCase 4 4_096 2 4_095 (0 ∷ unity ∷ 4_096 ∷ 8_192 ∷ []) ∷
     -- the order of the refusals: to each row two neighbours apply
     refusedCase (128 ∷ []) (1 ∷ []) (limits nan nan) (TopDown 0) tiny 2 ∷
     refusedCase note (1 ∷ []) (limits nan nan) (TopDown 0) tiny 4 ∷
@@ -369,6 +402,6 @@ others =
 
 pub others-hold : map (λ c. c .got) others ≡ map (λ c. c .want) others
 unfolding
-    others readCase shown nameCase several other unsound with bare body entry rec refusedCase tieCase original often tiny slim note half unity nan budgetCase name noName scanCase
+    others readCase shown nameCase several other unsound with bare body entry rec refusedCase sharedCase headerFirst sharing full tieCase storedAs often tiny slim note half unity nan budgetCase name noName scanCase
     boundsCase scoreCase compileCase bookCase bytesCase viewCase lineCase limits room second bookA bodyA opened
 others-hold = refl

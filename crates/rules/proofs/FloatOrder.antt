@@ -1,5 +1,6 @@
 -- The order of floats by their comparisons alone, whatever format holds them.
 --     le-not         where x is at most y, y is not below x
+--     lt-not         where x is below y, y is not below x
 --     lt-between     what is below z is below any y from 0.0 to 1.0 that is not below z
 -- Assumes nothing.
 use mathlib.Core.Path.{_≡_, refl, ap, _∙_}
@@ -47,6 +48,10 @@ le-not (fin s m e) nan h = absurd h
 le-not (fin s m e) (inf true) h = absurd h
 le-not (fin s m e) (inf false) h = refl
 le-not (fin s m e) (fin t n d) h = not-below s (m * up e * down d) t (n * up d * down e) h
+
+pub lt-not : (x y : Float) → lt x y ≡ true → lt y x ≡ false
+unfolding le
+lt-not x y h = le-not x y (rw h tt)
 
 -- ---- between: x is X / D, y is Y / E and z is Z / F, each with its sign
 some : (a b : ℕ) → 0 < a * b → 0 < a

@@ -27,6 +27,7 @@ pub mod BudgetLaws
 pub mod ScanCountLaws
 pub mod ShelfLaws
 pub mod RefusalLaws
+pub mod RankLaws
 pub mod VerdictLaws
 pub mod PairLaws
 pub mod NameLaws

@@ -7,7 +7,7 @@ use Rattle.rules.specs.Lines.{url, urls, slip, gap, signs, lineBy, lines
 use Rattle.rules.specs.Prefix.{common, prefixes, see, seeAll, winner, reach, reached, fourFifths, strip, stripWinner, withoutPrefix}
 use Rattle.rules.specs.Passes.{vertical, lowered, titleEnd, titleRest, titleLine, withoutTitle, paragraph, hitA, hitB, item, spaced, items, hitC, orElse, hit, withoutCopyright, passes, aggressive}
 use Rattle.rules.specs.Table.{pairs, bigrams, tally, tallied, occurs, tableOf, viewTable, countIn, meet, float, score, valueOf}
-use Rattle.rules.specs.Search.{whole, viewed, blank, noText, scored, scoreView, turns, recurse, higher, sweepFrom, sweep, narrow, search, bounds, noBest, better, bestFrom, best}
+use Rattle.rules.specs.Search.{whole, viewed, blank, noText, scored, scoreView, turns, recurse, higher, sweepFrom, sweep, narrow, search, bounds, noBest, ahead, better, bestFrom, best}
 use Rattle.rules.specs.Scan.{after, names, stops, below, eachPass, elimination, stepsOn, steps, viewsOf, latest, settled, contained, andOn, downOn, downFrom, topDown, events, afford, scorings, records, verdict, numbers}
 use Rattle.rules.specs.Count.{enough, roundsOn, rounds, mostFor, mostElimination, mostTopDown}
 use Rattle.rules.specs.Book.{number, written, front, also, goOn, pieces, recordOf, recordsOf, placed, recordAt, nextPlace, entryOf, entriesOf, sum, term, twoTerms, allTerms, soundEntries, shaped, soundTable, soundName, storedKind, soundEdition, soundBody, follows, soundRecords, tableIn, storedIn, storedOf, storedFrom, stored, saidBy, saidAt, edition, shelved, allSound, editionOf, allOf, differ, namesIn, namesOf, nameParts, filled, sound, entriesOut, tableOut, compiled}
@@ -24,7 +24,7 @@ unfolding
     common prefixes see seeAll winner reach reached fourFifths strip stripWinner withoutPrefix
     vertical lowered titleEnd titleRest titleLine withoutTitle paragraph hitA hitB item spaced items hitC orElse hit withoutCopyright passes aggressive
     pairs bigrams tally tallied occurs tableOf viewTable countIn meet float score valueOf
-    whole viewed blank noText scored scoreView turns recurse higher sweepFrom sweep narrow search bounds noBest better bestFrom best
+    whole viewed blank noText scored scoreView turns recurse higher sweepFrom sweep narrow search bounds noBest ahead better bestFrom best
     after names stops below eachPass elimination stepsOn steps viewsOf latest settled contained andOn downOn downFrom topDown events afford scorings records verdict numbers
     enough roundsOn rounds mostFor mostElimination mostTopDown
     number written front also goOn pieces recordOf recordsOf placed recordAt nextPlace entryOf entriesOf sum term twoTerms allTerms soundEntries shaped soundTable soundName storedKind soundEdition soundBody follows soundRecords tableIn storedIn storedOf storedFrom stored saidBy saidAt edition shelved allSound editionOf allOf differ namesIn namesOf nameParts filled sound entriesOut tableOut compiled

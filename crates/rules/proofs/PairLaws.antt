@@ -1,5 +1,6 @@
 -- m and t, the numbers behind a score.
---     equal-floats, earlier-wins        two fractions that are one float: the earlier text stays, with its own m and t
+--     equal-floats                      two fractions that are one float are a tie:
+--     earlier-wins, original-wins       the earlier text stays, unless the later one's kind goes before; each with its own m and t
 --     best-scored, bounds-scored        what the best text and bounds yield is one scoring's value: of that text, of that range
 --     by-totals                         its score is `score m a b`, and its t is a + b
 --     score-ratio                       a score is 2m/t, by m and t alone
@@ -26,7 +27,7 @@ use Rattle.rules.specs.Table.{Value, viewTable, tableOf, nought, float, 
 use Rattle.rules.specs.Book.{Proper}
 use Rattle.rules.specs.Search.{View, view, viewed, search, Stored, Made, scored, scoreView, bounds, Best, noBest, better, bestFrom, best, noText}
 use Rattle.rules.proofs.DownLaws.{each-of}
-use Rattle.rules.proofs.VerdictLaws.{best-one}
+use Rattle.rules.proofs.RankLaws.{better-ahead, better-behind, behind, ahead-tied, best-one}
 use Rattle.rules.proofs.Steps.{search-in, search-scored}
 use Rattle.rules.proofs.SoundLaws.{StoredSound}
 use Rattle.rules.proofs.TableLaws.{table-proper, stored-proper, meet-le}
@@ -56,9 +57,22 @@ smaller s = record { text = s; value = record { score = score 4_095 4_096 4_095;
 abbrev larger : Stored → Best
 larger s = record { text = s; value = record { score = score 4_096 4_096 4_097; m = 4_096; t = 8_193 } }
 
-pub earlier-wins : (a b : Stored) → eqb (a .kind) 0 ≡ false → (better (smaller a) (larger b) ≡ smaller a) × (better (larger a) (smaller b) ≡ larger a)
-unfolding better lt
-earlier-wins a b k = (rw (k, smaller-is, larger-is), rw (k, smaller-is, larger-is))
+same-float : (lt (score 4_095 4_096 4_095) (score 4_096 4_096 4_097) ≡ false) × (lt (score 4_096 4_096 4_097) (score 4_095 4_096 4_095) ≡ false)
+unfolding lt
+same-float = (rw (smaller-is, larger-is), rw (smaller-is, larger-is))
+
+pub earlier-wins : (a b : Stored) → eqb (a .kind) 0 ≡ false → a .kind ≤ b .kind →
+    (better (smaller a) (larger b) ≡ smaller a) × (better (larger a) (smaller b) ≡ larger a)
+earlier-wins a b k l = (
+  better-behind (smaller a) (larger b) k (behind (smaller a) (larger b) (same-float .0, λ z. l)),
+  better-behind (larger a) (smaller b) k (behind (larger a) (smaller b) (same-float .1, λ z. l)),
+)
+
+pub original-wins : (a b : Stored) → b .kind < a .kind → (better (smaller a) (larger b) ≡ larger b) × (better (larger a) (smaller b) ≡ smaller b)
+original-wins a b l = (
+  better-ahead (smaller a) (larger b) (ahead-tied (smaller a) (larger b) (same-float .1) l),
+  better-ahead (larger a) (smaller b) (ahead-tied (larger a) (smaller b) (same-float .0) l),
+)
 
 -- ---- the best text's value is that of its scoring
 pub best-scored : (ss : List Stored) (ls : List (List ℕ)) (v : View) → 0 < length ss → best ss ls v .value .value ≡ scoreView ls (best ss ls v .value .text) v .value

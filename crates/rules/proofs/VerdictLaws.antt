@@ -2,7 +2,7 @@
 --     verdict-after, verdict-prefix     scorings do not change it, and a budget leaves it or none
 --     down-verdict                      top-down has none
 --     overall-paid, overall-unpaid      of elimination it is the best of all stored texts, once each is scored, and none before
---     best-one, happened-one            what holds of none and of every stored text's scoring holds of it
+--     happened-one                      what holds of none and of every stored text's scoring holds of it
 --     named-one                         what holds of no text and of every stored text holds of the text that a scan names
 -- Assumes nothing.
 use mathlib.Core.Path.{_≡_, refl, sym, ap, _∙_, subst}
@@ -13,13 +13,11 @@ use Prim.Native.Nat.{ℕ, zero, suc, _+_, _-_, _≤_, _<_}
 use native.Mathlib.Omega.{arith}
 use lib.Dec.{ltb, eqb}
 use lib.ListN.{length, take}
-use lib.Ieee.{lt}
 use Rattle.rules.specs.declared.Limits.{Limits}
 use Rattle.rules.specs.declared.Mode.{Mode}
 use Rattle.rules.specs.declared.Mode.the-variants.{Elimination, TopDown}
 use Rattle.rules.specs.Lines.{lines}
-use Rattle.rules.specs.Table.{Table, valueOf}
-use Rattle.rules.specs.Search.{View, whole, Stored, noText, Scoring, Made, recurse, turns, scored, scoreView, Best, noBest, better, bestFrom, best}
+use Rattle.rules.specs.Search.{View, whole, Stored, noText, Scoring, Made, recurse, turns, scored, scoreView, Best, noBest, best}
 use Rattle.rules.specs.Scan.{Event, paid, overall, found, Recorded, after, afford, verdict, names, contained, andOn, downOn, downFrom, topDown, elimination, events}
 use Rattle.rules.specs.Book.{shelved, editionOf}
 use Rattle.rules.specs.Refusal.{refusal, Areas, ofScan}
@@ -27,6 +25,7 @@ use Rattle.rules.specs.Jobs.{happened, named}
 use Rattle.rules.proofs.BudgetLaws.{afford-whole, afford-part}
 use Rattle.rules.proofs.CountLaws.{best-count}
 use Rattle.rules.proofs.DownLaws.{Each}
+use Rattle.rules.proofs.RankLaws.{best-one}
 
 pub verdict-after : (ss : List Scoring) (es : List Event) → verdict (after ss es) ≡ verdict es
 unfolding after verdict
@@ -84,20 +83,6 @@ module _ (lim : Limits) (optimize : Bool) (p : ℕ) (ss : List Stored) (ls : Lis
   unfolding elimination verdict
   overall-unpaid h =
       ap verdict (afford-part b (first .list) _ (omega (arith, h, best-count ss ls (whole ls)))) ∙ verdict-after (take b (first .list)) []
-
--- ---- what holds of the best so far and of the scoring of every stored text holds of the best
-pub best-one : (P : Best → Type 0) (t : Table) (v : View) (ss : List Stored) (b : Best) → Each (λ s. P (record { text = s; value = valueOf t (s .table) })) ss → P b →
-    P (bestFrom t v ss b .value)
-unfolding bestFrom better scored
-best-one P t v [] b h k = k
-best-one P t v (s ∷ ss) b h k = best-one P t v ss (better b new) (h .1) (at (eqb (b .text .kind) 0 || lt (b .value .score) (new .value .score)))
-  where
-    new : Best
-    new = record { text = s; value = valueOf t (s .table) }
-
-    at : (q : Bool) → P (cond q new b)
-    at true = h .0
-    at false = k
 
 module _ (P : Best → Type 0) (no : P noBest) where
   abbrev pub Scored : List (List ℕ) → Stored → Type 0

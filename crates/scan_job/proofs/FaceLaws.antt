@@ -12,17 +12,19 @@
 --     overall-value, overall-pair       the answer's score, m and t are the overall best's value; the score is 2m/t, 2m at most t, t below 2^24
 --     overall-scored, pair-of-overall   of elimination one scoring's, of the best text, once every stored text is scored: `score m a b`, t is a + b,
 --     overall-short                     and before that 0.0, 0 and 0
+--     overall-first                     no stored text scores higher than it, and none of an equal score has a smaller kind than the answer's
 --     overall-down, overall-refused     of top-down, and of what is refused before any work, 0.0, 0 and 0
 --     part-lies, part-named, part-length   the name's part lies in the book that it names, its bytes are the name, and as many
 --     part-handed                       `name_part` of the answer hands back the part that the definition gives
 -- Assumes nothing.
 use mathlib.Core.Path.{_≡_, refl, sym, ap, _∙_, subst}
-use mathlib.Core.Bool.{Bool, true, false, not, _&&_}
+use mathlib.Core.Bool.{Bool, true, false, not, _&&_, cond}
 use mathlib.Core.List.{List}
 use Prim.Native.Nat.{ℕ, _+_, _-_, _*_, _^_, _≤_, _<_, min}
 use native.Mathlib.Omega.{arith}
 use lib.Dec.{eqb}
 use lib.ListN.{length, getD, take}
+use lib.Ieee.{lt}
 use borrow.Author.Tests.{eqb-true, eqb-false}
 use Rattle.rules.specs.declared.Limits.{Limits}
 use Rattle.rules.specs.declared.Mode.{Mode}
@@ -31,13 +33,14 @@ use Rattle.rules.specs.declared.Scanned.{Scanned}
 use Rattle.rules.specs.Sizes.{linesMost, storedMost}
 use Rattle.rules.specs.Lines.{lines, lineCount, size}
 use Rattle.rules.specs.declared.View.{View}
+use Rattle.rules.specs.declared.Value.{Value}
 use Rattle.rules.specs.Table.{viewTable, score, noValue}
-use Rattle.rules.specs.Search.{noText, whole, viewed, scoreView, Best, noBest, best}
-use Rattle.rules.specs.Scan.{Event, events, afford, Begins, scorings, records, verdict, numbers}
+use Rattle.rules.specs.Search.{noText, whole, viewed, scored, scoreView, Best, noBest, best}
+use Rattle.rules.specs.Scan.{Event, events, afford, Begins, scorings, records, verdict, numbers, names}
 use Rattle.rules.specs.Book.{shelved, editionOf, nameParts, partIn, Lies, ReadAs}
 use Rattle.rules.specs.Count.{mostElimination, mostTopDown}
 use Rattle.rules.specs.Refusal.{refusal, unit, stepZero, beforeScan, ofScan}
-use Rattle.rules.specs.Jobs.{lent, over, happened, answered, scan, resultsAfter, ScanDone}
+use Rattle.rules.specs.Jobs.{lent, over, happened, named, answered, scan, resultsAfter, ScanDone}
 use Rattle.rules.proofs.DownLaws.{each-of}
 use Rattle.rules.proofs.ShelfLaws.{shelved-most}
 use Rattle.rules.proofs.PairLaws.{PairFacts, no-pair, best-scored, by-totals, pair-either, scannedValue}
@@ -49,7 +52,7 @@ use Rattle.rules.proofs.ScanCountLaws.{elimination-count, topDown-count, elimin
 use Rattle.detection_part.specs.Parts.{fitting}
 use Rattle.detection_part.proofs.PartLaws.{part-fits}
 use Rattle.refusals.proofs.AdmitLaws.{row-passes}
-use Rattle.refusals.proofs.PassedLaws.{BothPassed, both-passed, passed-pair}
+use Rattle.refusals.proofs.PassedLaws.{BothPassed, both-passed, passed-pair, passed-first}
 use Rattle.scan_job.proofs.ModeLaws.{step-above}
 
 module _ {t : List ℕ} {bs : List (List ℕ)} {lim : Limits} {mode : Mode} {budget : ℕ} {b₀ b w₀ w r₀ r : List ℕ} {a : Scanned}
@@ -149,6 +152,19 @@ module _ {t : List ℕ} {bs : List (List ℕ)} {lim : Limits} {mode : Mode} {bud
   overall-left : before ≡ 0 → scannedValue a ≡ verdict (afford budget full) .value
   overall-left z = overall-value ∙ ap (λ (es : List Event). verdict es .value) (scan-happened t bs lim mode (lent b₀ w₀) (length r₀) budget z)
 
+  -- it is the overall best's kind, or 0
+  kind-most : before ≡ 0 → a .kind ≤ verdict (afford budget full) .text .kind
+  unfolding scan answered named noText
+  kind-most z =
+      let x = verdict (afford budget full) in
+      let e = ap (λ (y : Scanned). y .kind) (d .answer) ∙
+      ap (λ (es : List Event). named lim (verdict es) .kind) (scan-happened t bs lim mode (lent b₀ w₀) (length r₀) budget z) in
+      subst (λ (n : ℕ). n ≤ x .text .kind) (sym e) (at (names lim x))
+    where
+      at : (q : Bool) → cond q (verdict (afford budget full) .text) noText .kind ≤ verdict (afford budget full) .text .kind
+      at true = omega arith
+      at false = omega arith
+
   overall-none : verdict (afford budget full) ≡ noBest → scannedValue a ≡ noValue
   unfolding noBest
   overall-none n = at (eqb before 0) refl
@@ -188,6 +204,21 @@ module _ {t : List ℕ} {bs : List (List ℕ)} {lim : Limits} {budget : ℕ} {b�
   pair-of-overall optimize p d z h =
       let ls = lines (editionOf bs) t in
       by-totals ls (best (shelved 0 bs) ls (whole ls) .value .text) (whole ls) (scannedValue a) (overall-scored optimize p d z h)
+
+  -- the kind is 0 where no text is named
+  pub overall-first : (optimize : Bool) (p : ℕ) (d : ScanDone t bs lim (Elimination optimize p) budget b₀ b w₀ w r₀ r a) → before d ≡ 0 → length (shelved 0 bs) ≤ budget →
+      (k : ℕ) → k < length (shelved 0 bs) →
+      let ls = lines (editionOf bs) t in
+      let s = getD (shelved 0 bs) k noText in
+      let x = scoreView ls s (whole ls) .value .score in
+      (lt (a .score) x ≡ false) × (lt x (a .score) ≡ false → a .kind ≤ s .kind)
+  unfolding events scoreView scored
+  overall-first optimize p d z h k l =
+      let ls = lines (editionOf bs) t in
+      let f = passed-first t bs (passed d z .0) ls (omega arith) (whole ls) in
+      let paid = overall-paid lim optimize p (shelved 0 bs) ls budget h in
+      let e = ap (λ (x : Value). x .score) (overall-left d z ∙ ap (λ (x : Best). x .value) paid) in
+      (rw e (f .no-higher k l), λ q. omega (arith, kind-most d z, ap (λ (x : Best). x .text .kind) paid, f .no-smaller-kind k l (rw e at q)))
 
   pub overall-short : (optimize : Bool) (p : ℕ) (d : ScanDone t bs lim (Elimination optimize p) budget b₀ b w₀ w r₀ r a) → budget < length (shelved 0 bs) → scannedValue a ≡ noValue
   unfolding events
