@@ -23,7 +23,7 @@ from compare import WHOLE, Oracle, Trouble, hexed
 
 class Tally:
     def __init__(self):
-        self.asked, self.differing = collections.Counter(), 0
+        self.asked, self.differing, self.kinds = collections.Counter(), 0, 0
 
     def hold(self, kind, told, theirs, ours):
         self.asked[kind] += 1
@@ -47,7 +47,7 @@ def every_pair(tally, oracle):
 
 def shelved(rng, oracle, seed, i):
     """A store of the oracle's, its book, and a note."""
-    plain, salt = compare.shelf(rng), f"{seed} agree {i}"
+    plain, salt = compare.sharing(rng) if i % 2 else compare.shelf(rng), f"{seed} agree {i}"
     texts = [s._replace(text=compare.drawn(oracle.edition, salt, s.text)) for s in plain]
     oracle.stock(texts)
     return texts, asking.book_of(asking.book_records(rng, texts, oracle.edition)), compare.drawn(oracle.edition, salt, compare.note(rng, plain, 9))
@@ -88,9 +88,11 @@ def jobs(tally, oracle, rng, seed, i):
         theirs = oracle.counted(f"count{job} {threshold:08x} {shallow:08x} {before} {WHOLE} {hexed(t)}")
         part = None if theirs.named is None else model.shelved((book,))[theirs.named].part
         tally.hold(job, f"{threshold:08x} {before} of {t!r}", theirs._replace(named=part), ours)
+        tally.kinds += asking.by_kind(dataclasses.replace(q, job=job, results=bytes(room)), a)
         if job == "eliminate":
             scores = [int(score, 16) for score in oracle.ask("scores", 0, n, hexed(t)).split(" ")]  # none is below 0.0, so their bits rise as they do
-            tally.hold("m and t overall", told, pairs(oracle, t, 0, n, texts[scores.index(max(scores))].text), (a.m, a.t))
+            highest = max(range(len(texts)), key=lambda i: (scores[i], -texts[i].kind, -i))
+            tally.hold("m and t overall", told, pairs(oracle, t, 0, n, texts[highest].text), (a.m, a.t))
 
 
 def main():
@@ -107,7 +109,7 @@ def main():
         passes(tally, oracle, fixed[i] if i < len(fixed) else compare.text_of(options.edition, rng, f"{options.seed} agree {i}"))
     for i in range(options.texts // 10):
         jobs(tally, oracle, rng, options.seed, i)
-    print(", ".join(f"{kind} {count}" for kind, count in tally.asked.items()))
+    print(", ".join(f"{kind} {count}" for kind, count in tally.asked.items()) + f"; a kind decides {tally.kinds} scans")
     print(f"edition {options.edition}, seed {options.seed}: {tally.asked.total()} cases, {tally.differing} differences")
     return 1 if tally.differing else 0
 

@@ -183,22 +183,11 @@ def putting(rng, edition):
     return (lambda text: compare.drawn(later, f"{salt}", text)) if salt < 0.6 else (lambda text: text)
 
 
-def sharing(rng, texts):
-    """A shelf of 2 to 4 licences: an original, often empty, the first mostly, and up to two variants, which are mostly of these texts."""
-    out = []
-    for name in sorted(rng.sample(compare.NAMES, rng.randint(2, 4))):
-        for kind in [2] + sorted(rng.choices([3, 4], k=rng.choice([0, 1, 1, 2]))):
-            own = rng.choice(["", "", compare.stored_text(rng)])
-            seldom = 0.1 if kind != 2 else 0.4 if out else 0.9
-            out.append(compare.Stored(name, kind, own if rng.random() < seldom else rng.choice(texts)))
-    return out
-
-
 def some_shelves(rng, two, share):
     """Of one book or two; where `share` is said, with one text or two in common."""
     if share:
-        texts = [compare.stored_text(rng) for _ in range(rng.choice([1, 1, 2]))]
-        return [sharing(rng, texts) for _ in range(1 + two)]
+        texts = compare.to_share(rng)
+        return [compare.sharing(rng, texts) for _ in range(1 + two)]
     return two_shelves(rng) if two else (compare.shelf(rng),)
 
 
@@ -431,6 +420,16 @@ def budgeted(rng, job, lines=9, two=False, share=False):
     budgets = {0, 1, rng.randint(0, whole.count), WHOLE} | {mark + by for mark in {whole.count, *texts} for by in (-1, 0, 1)}
     for budget in sorted(b for b in budgets if b >= 0):
         yield altered(plan, budget=budget, slack={area: slack(rng) for area in plan.slack})
+
+
+def by_kind(q, want):
+    """Would the earliest of equal scores, of whatever kind, have been answered otherwise?"""
+    if q.job not in SCANS:
+        return False
+    rank, model.rank = model.rank, lambda text, value: value
+    earliest = model.answered(q)
+    model.rank = rank
+    return earliest != want
 
 
 def altered(plan, **fields):

@@ -468,6 +468,22 @@ def shelf(rng):
     return out
 
 
+def to_share(rng):
+    return [stored_text(rng) for _ in range(rng.choice([1, 1, 2]))]
+
+
+def sharing(rng, texts=None):
+    """2 to 12 stored texts in book order, of 2 to 4 licences: an original, often empty, the first mostly, and up to two variants; most are of one or two
+    texts that they share."""
+    out, texts = [], texts or to_share(rng)
+    for name in sorted(rng.sample(NAMES, rng.randint(2, 4))):
+        for kind in [2] + sorted(rng.choices([3, 4], k=rng.choice([0, 1, 1, 2]))):
+            own = rng.choice(["", "", stored_text(rng)])
+            seldom = 0.1 if kind != 2 else 0.4 if out else 0.9
+            out.append(Stored(name, kind, own if rng.random() < seldom else rng.choice(texts)))
+    return out
+
+
 def licences(texts):
     """How many licences these stored texts have."""
     return sum(s.kind == 2 for s in texts)
@@ -748,8 +764,8 @@ class Maker:
                 out += piece(5, b"alias")
         return out
 
-    def setting(self, rng, most):
-        plain = shelf(rng)
+    def setting(self, rng, most, make=shelf):
+        plain = make(rng)
         texts = [s._replace(text=self.drawn(s.text)) for s in plain]
         books = self.books(rng, texts)
         t = self.asked_on(self.drawn(note(rng, plain, most)))
@@ -793,8 +809,8 @@ class Maker:
         shallow = rng.choice([ONE, ONE, bits(0.99), HALF, ZERO, rng.choice(met)])
         return threshold, shallow
 
-    def eliminate_setting(self, rng):
-        texts, books, t, n = self.setting(rng, 12)
+    def eliminate_setting(self, rng, make=shelf):
+        texts, books, t, n = self.setting(rng, 12, make)
         everything = self.oracle.counted(f"counteliminate {ZERO:08x} {ONE:08x} 1 4 {WHOLE} {hexed(t)}")
         threshold, shallow = self.limits(rng, [everything.score] + [r[3] for r in everything.records])
         optimize, passes = int(rng.random() < 0.85), rng.choice([0, 1, 2, 2, 3, 3, 4])
@@ -803,9 +819,9 @@ class Maker:
         need = 4 * passes if optimize else 0
         return Setting(texts, books, t, threshold, shallow, mode, "eliminate", before, need)
 
-    def down_setting(self, rng):
+    def down_setting(self, rng, make=shelf):
         step = rng.choice([1, 1, 2, 3, 4, 5, 6, 7, WHOLE])
-        texts, books, t, n = self.setting(rng, 5 if step == 1 else 8 if step == 2 else 12)
+        texts, books, t, n = self.setting(rng, 5 if step == 1 else 8 if step == 2 else 12, make)
         scores = [int(x, 16) for _ in range(3) for x in self.oracle.ask("scores", *any_view(rng, n), hexed(t)).split(" ")]
         threshold, shallow = self.limits(rng, [max(scores), rng.choice(scores)])
         before = f"{threshold:08x} {shallow:08x} {step}"
@@ -816,6 +832,10 @@ class Maker:
 
     def down(self, rng, i):
         return self.scan_row(self.down_setting(rng))
+
+    def ties(self, rng, i):
+        """Both scans, of licences that share texts."""
+        return self.scan_row(self.eliminate_setting(rng, sharing) if i % 3 else self.down_setting(rng, sharing))
 
     def scan_row(self, s):
         a = self.said(lambda oracle: oracle.counted(s.question(WHOLE)))
@@ -898,6 +918,7 @@ KINDS = {
     "bounds": (250, 3, "bounds with their counts"),
     "eliminate": (250, 1, "elimination scans with their counts"),
     "down": (250, 1, "top-down scans with their counts"),
+    "ties": (150, 1, "scans whose licences share texts"),
     "job": (60, 1, "public scans with a budget and a results area"),
 }
 # a row that must be refused

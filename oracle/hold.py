@@ -310,6 +310,14 @@ def limits(rng, scale, two):
     yield from computable(edges.both() if two else edges.small(), scale)
 
 
+def ties(rng, scale, two):
+    """Equal scores: texts shared in each order of kinds, and random ones."""
+    yield from computable((edge for edge in edges.shared() if len(edge.plan.books) == 1 + two), scale)
+    for job in asking.SCANS:
+        for _ in range(times(20 if two else 40, scale)):
+            yield asking.sound_plan(rng, job, LINES[two], two, True)
+
+
 def rulings(rng, scale, two):
     """The edges of the editions."""
     yield from computable(editions.both() if two else editions.one(), scale)
@@ -329,7 +337,8 @@ def computable(found, scale):
 
 
 MAKERS = {
-    "answers": answers, "refusals": refusals, "budgets": budgets, "books, sound or not": books, "edges": limits, "editions": rulings, "accents": wide,
+    "answers": answers, "refusals": refusals, "budgets": budgets, "books, sound or not": books, "edges": limits, "ties": ties, "editions": rulings,
+    "accents": wide,
 }  # fmt: skip
 KINDS = {kind: (make, False) for kind, make in MAKERS.items()} | {f"two books: {kind}": (make, True) for kind, make in MAKERS.items()}
 LINES = {False: 5, True: 3}  # of a text, at most; with two books each view costs more

@@ -112,16 +112,6 @@ def with_accents(q):
     return third or not q.text.isascii()
 
 
-def by_kind(q, want):
-    """Would the earliest of equal scores, of whatever kind, have been answered otherwise?"""
-    if q.job not in asking.SCANS:
-        return False
-    rank, model.rank = model.rank, lambda text, value: value
-    earliest = model.answered(q)
-    model.rank = rank
-    return earliest != want
-
-
 class Tally:
     def __init__(self, archive):
         self.archive, self.several, self.editions, self.accents, self.paired, self.none, self.kinds = archive, 0, 0, 0, 0, 0, 0
@@ -135,7 +125,7 @@ class Tally:
         self.editions += with_edition(q)
         self.accents += with_accents(q)
         self.paired += want.t > 0
-        self.kinds += by_kind(q, want)
+        self.kinds += asking.by_kind(q, want)
         self.none += want.t == 0 and q.job in (*asking.VIEWS, *asking.SCANS)
         self.met[q.job, len(q.books), want.refusal] += 1
         self.met_by_kind.setdefault(kind, collections.Counter())[want.refusal] += 1

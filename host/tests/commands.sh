@@ -324,6 +324,19 @@ chultarvi: list: line 6: warning: E header has the same table as A original, lin
 out_has '8 stored texts'
 run 0 scan warned.book license
 out_has 'license: A, original'
+# of equal scores the original is named, though it stands behind; and of equal kinds the first
+printf 'A original two\nA header license\nB original license\nB alternate license\nC original empty\nC header license\n' >list
+run 0 book warned.book list
+err_is 'chultarvi: list: line 5: empty: warning: no bigrams, so no note is like it; is this the right file?
+chultarvi: list: line 2: warning: A header has the same table as B original, line 3; a scan names B for both
+chultarvi: list: line 6: warning: C header has the same table as B original, line 3; a scan names B for both'
+run 0 scan --json warned.book license
+json '[notes[0][k] for k in ("licence", "kind")] + [notes[0]["rival"][k] for k in ("licence", "kind")]' '["B", "original", "A", "header"]'
+printf 'A original two\nA header license\nC original /dev/null\nC header license\n' >list
+run 0 book warned.book list
+err_is 'chultarvi: list: line 4: warning: C header has the same table as A header, line 2; a scan names A for both'
+run 0 scan warned.book license
+out_has 'license: A, header'
 printf 'A original license\nA alternate two\nA header license\nB original pairs\n' >list
 run 0 book warned.book list
 err_is ''

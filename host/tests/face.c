@@ -1259,6 +1259,52 @@ static void test_ranked(void) {
     check_ranked(1, CHULTARVI_TEXT_MOST, 8 * CHULTARVI_TEXT_MOST, CHULTARVI_TEXT_MOST, "totals to 8,388,608");
 }
 
+/* ---- equal scores: the kind decides, and only then the place */
+
+enum { SHARERS = 3 };
+/* Licences of A, B and C share the marked text, each as its kind, behind an empty original where that is another. */
+static held put_sharers(uint8_t *at, const uint32_t kinds[SHARERS], size_t first, size_t after) {
+    static const uint8_t empty[8] = {0};
+    uint8_t *p = put_edition(at, edition);
+    for (size_t i = first; i < after; i++) {
+        p = put_record(p, CHULTARVI_LICENCE_NAME, &"ABC"[i], 1);
+        if (kinds[i] != CHULTARVI_ORIGINAL) p = put_record(p, CHULTARVI_ORIGINAL, empty, sizeof empty);
+        p = put_record(p, kinds[i], book_a + 13, BOOK_A - 13);
+    }
+    return hold(at, (size_t)(p - at));
+}
+static size_t texts_of(const uint32_t kinds[SHARERS], size_t after) {
+    size_t texts = 0;
+    for (size_t i = 0; i < after; i++) texts += kinds[i] == CHULTARVI_ORIGINAL ? 1 : 2;
+    return texts;
+}
+/* The licences before the border stand in the first book; without one behind it a single book is lent. */
+static void check_sharers(const uint32_t kinds[SHARERS], size_t border, size_t wins) {
+    static uint8_t one[512], other[512];
+    held first = put_sharers(one, kinds, 0, border), second = put_sharers(other, kinds, border, SHARERS);
+    lent l = lend_held(note_a, first, second);
+    l.both = border < SHARERS;
+    chultarvi_note_scanned s = eliminate(&l, 0.5f, 0.5f, false, 0, UINT64_MAX, "areas, equal scores");
+    check(s.refusal == 0 && s.kind == kinds[wins] && s.len == 1 && s.name[0] == "ABC"[wins], "of equal scores the smallest kind, then the first");
+    check(s.second == (wins >= border) && s.count == texts_of(kinds, SHARERS) && s.score == 1.0f, "of equal scores: its book, and all are scored");
+    uint32_t record[] = {(uint32_t)texts_of(kinds, wins + 1) - 1, 1, 2, 0x3f800000};
+    l = lend_held(text_2, first, second);
+    l.both = border < SHARERS;
+    l.results_len = 16;
+    s = eliminate(&l, 0.9f, 0.99f, true, 4, UINT64_MAX, "areas, equal scores in a pass");
+    check(s.refusal == 0 && s.records == 1 && memcmp(results, record, sizeof record) == 0, "elimination bounds the same text");
+    s = top_down(&l, 0.9f, 0.99f, 1, UINT64_MAX, "areas, equal scores in top-down");
+    check(s.refusal == 0 && s.records == 1 && memcmp(results, record, sizeof record) == 0, "top-down takes the same text");
+}
+static void test_sharers(void) {
+    for (uint32_t all = 0; all < 27; all++) {
+        const uint32_t kinds[SHARERS] = {2 + all / 9, 2 + all / 3 % 3, 2 + all % 3};
+        size_t wins = 0;
+        for (size_t i = 1; i < SHARERS; i++) if (kinds[i] < kinds[wins]) wins = i;
+        for (size_t border = 1; border <= SHARERS; border++) check_sharers(kinds, border, wins);
+    }
+}
+
 static void test_pairs(void) {
     for (const pair_row *r = pair_rows; r < pair_rows + sizeof pair_rows / sizeof *pair_rows; r++) {
         for (uint32_t by = 1; by <= 2; by++) check(pair_refused(by, r->pair, r->len) == 4, "a wide word in editions 1 and 2");
@@ -1403,6 +1449,8 @@ int main(void) {
     test_large_books();
     test_both_budget();
     test_ranked();
+    for (edition = 1; edition <= CHULTARVI_EDITION_MOST; edition++) test_sharers();
+    edition = 1;
     test_editions();
     test_addresses();
     test_wide_most();

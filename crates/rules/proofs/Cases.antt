@@ -219,6 +219,10 @@ sharing n kind = bare n ++ rec kind bodyA
 headerFirst : List ℕ
 headerFirst = sharing "A" 4 ++ full "B"
 
+-- behind `slim`: `c d` is B's header, text 2, and C's original, text 3
+laterTie : List ℕ
+laterTie = let cd = body 1 1 (entry 1 (text "c d")) in bare "B" ++ rec 4 cd ++ rec 1 (text "C") ++ rec 2 cd
+
 -- the note is that text, so all that have it score 1.0: count, kind and name
 sharedCase : List ℕ → ℕ → ℕ → String → Case
 sharedCase book count kind s =
@@ -255,9 +259,11 @@ others =
     sharedCase (sharing "A" 4 ++ sharing "B" 4) 4 4 "A" ∷
     sharedCase (full "A" ++ sharing "B" 3 ++ sharing "C" 4) 5 2 "A" ∷
     sharedCase (sharing "A" 4 ++ bare "B") 3 4 "A" ∷
-    -- so does the text of each pass, and top-down's; a tie at 0.0 stays with text 0
+    -- so it goes for the text of each pass, the second too, and for top-down's; a tie at 0.0 stays with text 0
     scanCase second headerFirst (limits 0x3f666666 0x3f7d70a4) (Elimination true 10) 100 room 40
     ((0 ∷ 24 ∷ 0x3f2aaaab ∷ 2 ∷ 6 ∷ 0 ∷ 0 ∷ 1 ∷ []) ++ noName ++ (2 ∷ 1 ∷ 2 ∷ unity ∷ []) ++ replicate 36 7) ∷
+    scanCase (text "a b\nc d") (slim ++ laterTie) (limits half unity) (Elimination true 2) 100 room 8
+    ((0 ∷ 23 ∷ half ∷ 1 ∷ 4 ∷ 0 ∷ 0 ∷ 2 ∷ []) ++ noName ++ 0 ∷ 0 ∷ 1 ∷ unity ∷ 3 ∷ 1 ∷ 2 ∷ unity ∷ []) ∷
     scanCase second headerFirst (limits 0x3f666666 unity) (TopDown 1) 100 room 16
     ((0 ∷ 24 ∷ 0 ∷ 0 ∷ 0 ∷ 0 ∷ 0 ∷ 1 ∷ []) ++ noName ++ (2 ∷ 1 ∷ 2 ∷ unity ∷ []) ++ replicate 12 7) ∷
     scanCase (text "x y") headerFirst (limits 0 half) (Elimination true 1) 100 room 4 ((0 ∷ 10 ∷ 0 ∷ 0 ∷ 1 ∷ 0 ∷ 0 ∷ 1 ∷ []) ++ noName ++ 0 ∷ 1 ∷ 1 ∷ 0 ∷ []) ∷
@@ -402,6 +408,6 @@ others =
 
 pub others-hold : map (λ c. c .got) others ≡ map (λ c. c .want) others
 unfolding
-    others readCase shown nameCase several other unsound with bare body entry rec refusedCase sharedCase headerFirst sharing full tieCase storedAs often tiny slim note half unity nan budgetCase name noName scanCase
+    others readCase shown nameCase several other unsound with bare body entry rec refusedCase sharedCase laterTie headerFirst sharing full tieCase storedAs often tiny slim note half unity nan budgetCase name noName scanCase
     boundsCase scoreCase compileCase bookCase bytesCase viewCase lineCase limits room second bookA bodyA opened
 others-hold = refl

@@ -152,7 +152,7 @@ module _ {t : List ℕ} {bs : List (List ℕ)} {lim : Limits} {mode : Mode} {bud
   overall-left : before ≡ 0 → scannedValue a ≡ verdict (afford budget full) .value
   overall-left z = overall-value ∙ ap (λ (es : List Event). verdict es .value) (scan-happened t bs lim mode (lent b₀ w₀) (length r₀) budget z)
 
-  -- it is the overall best's kind, or 0
+  -- it is the overall best's kind or, where that is not named, 0
   kind-most : before ≡ 0 → a .kind ≤ verdict (afford budget full) .text .kind
   unfolding scan answered named noText
   kind-most z =
