@@ -24,7 +24,8 @@
    The numbers behind a score: m, word pairs shared, each as often as it stands in both; t, word pairs of both together, those of the lines and those of the
    stored text. The score is 2m/t, one division in binary32, and 0.0 where t is 0; of an empty text or table m is 0 and t still the sum. Every answer with a
    score has its m and t, 2m is at most t, and t is below 2^24 (proved: pair-told, overall-pair, crates/score_job, bounds_job and scan_job, proofs).
-   Two fractions may be one float (2*4095/8191 and 2*4096/8193): stored texts are ranked by the float, so the earlier wins, with its own m and t.
+   Two fractions may be one float (2*4095/8191 and 2*4096/8193): stored texts are ranked by the float, so these tie (see `kind` of a scan's answer), and
+   the winner has its own m and t.
 
    A book. Records, one behind the other, fill it; numbers are little-endian.
      record   u32 length of the body, u16 kind, the body

@@ -803,6 +803,17 @@ class Maker:
             self.oracle.ask("shuffle")
         self.lost.append(f"{told}: the counted copy says {counted}, the Rust {own}, in {MOST_DRAWS} draws")
 
+    def agree_alike(self, s, a):
+        """The original's own scan must be the counted copy's where all kinds are alike. In one scan its licences stand in one order, so where a kind
+        decides, ours need not be among its answers; but what is overall scores the same."""
+        alike = self.oracle.counted(s.question(WHOLE, "first"))
+        own = f"{alike.score:08x} {'none' if alike.named is None else alike.named}"
+        own += "".join(f" ; {k} {first} {after} {x:08x}" for k, first, after, x in alike.records)
+        self.agree(s.told(), own, lambda: self.oracle.ask(s.word, s.before, hexed(s.text)))
+        self.told["scans that a kind decides"] += alike != a
+        if alike.score != a.score or (alike.named is None) != (a.named is None):
+            self.lost.append(f"{s.told()}: the kinds change the overall score")
+
     # scans
     def limits(self, rng, met):
         threshold = rng.choice([ZERO, HALF, HALF, NINETY, NINETY, ONE, rng.choice(met), rng.choice(met), rng.choice(met)])
@@ -839,9 +850,7 @@ class Maker:
 
     def scan_row(self, s):
         a = self.said(lambda oracle: oracle.counted(s.question(WHOLE)))
-        own = f"{a.score:08x} {'none' if a.named is None else a.named}"
-        own += "".join(f" ; {k} {first} {after} {x:08x}" for k, first, after, x in a.records)
-        self.agree(s.told(), own, lambda: self.oracle.ask(s.word, s.before, hexed(s.text)))
+        self.agree_alike(s, a)
         self.tell(s, a)
         name, licence = a.licence(s.texts)
         want = [a.count, a.score, licence, len(a.records), len(name), *name.encode("ascii"), *a.flat()]
@@ -876,8 +885,8 @@ class Maker:
 
 
 class Setting(collections.namedtuple("Setting", "texts books text threshold shallow mode word before need")):
-    def question(self, budget):
-        return f"count{self.word} {self.before} {budget} {hexed(self.text)}"
+    def question(self, budget, copy="count"):
+        return f"{copy}{self.word} {self.before} {budget} {hexed(self.text)}"
 
     def call(self):
         return f"{quoted(self.text)} {lent(self.books)} (limits {self.threshold:#x} {self.shallow:#x}) {self.mode}"

@@ -351,7 +351,8 @@ def parts():
     for kind in (3, 4):
         variant = record(1, b"D") + record(2, EMPTY) + record(kind, words) + record(5, b"alias")
         yield (MARKED_BOOK[:7] + record(2, EMPTY), ANOTHER + variant + licence(b"E", b"a b")), 0, (1, 95, 1)
-        yield (ANOTHER + variant + licence(b"E", b"a b"), MARKED_BOOK), 0, (0, 95, 1)
+        yield (ANOTHER + variant + licence(b"E", b"a b"), MARKED_BOOK), 0, (1, 6, 1)  # an original's, though it stands behind
+        yield (ANOTHER + variant + licence(b"E", b"a b"), licence(b"A", b"a b")), 0, (0, 95, 1)
     yield (licence(b"A", b"a b"), MARKED_BOOK), 0, (1, 6, 1)
     yield (MORE, MARKED_BOOK), 0, (0, 6, 1)
     yield (licence(b"Z", b"a b"), MARKED_BOOK + MORE), 0, (1, 6, 1)

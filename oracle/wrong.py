@@ -188,7 +188,6 @@ WRONG = [
     ("m and t of the last text", BETTER, f"{BETTER}        found = found[0], Value(found[1], value.m, value.t)\n"),
     # equal scores
     ("the earliest of equal scores, of whatever kind", RANK, "return value"),
-    ("the later of equal scores and kinds", RANK, "return value, -text.kind, text.number"),
     ("a header before an original", RANK, "return value, text.kind"),
     ("an alternate as good as an original", RANK, "return value, text.kind != 4"),
     ("a header as good as an alternate", RANK, "return value, text.kind == 2"),
@@ -202,7 +201,8 @@ WRONG = [
     ("the kind decides in the first book alone", RANK, "return value, 0 if text.part.second else -text.kind"),
     ("a tie at 1.0 lost by the early stop", RANK, "return value, -text.kind if value < 1 else 0"),
     ("a tie at 1.0 alone", RANK, "return value, -text.kind if value == 1 else 0"),
-    ("a tie at 0.0 to the last original", HIGHER, f"{HIGHER} or not value and text.kind == 2"),
+    ("a tie at 0.0 to the last original", HIGHER, f"{HIGHER} or not value and not found[1] and text.kind == 2"),
+    ("a tie of equal fractions alone", HIGHER, "value > found[1] or value.m * found[1].t == found[1].m * value.t and text.kind < found[0].kind"),
     ("m and t of the text that a kind beats", BETTER, "            found = text, found[1] if found and found[1] == value else value\n"),
     ("the score of the text, the name of the earliest", "    yield Overall(text, value)\n", """\
     yield Overall(min((x for x in shelf if score(note.table(0, whole), x.table) == value), key=lambda x: x.number), value)
@@ -218,7 +218,7 @@ WRONG = [
     ("the earliest in top-down", "                latest = start, end, text\n", """\
                 latest = start, end, min((x for x in shelf if score(note.table(start, end), x.table) == value), key=lambda x: x.number)
 """),
-    ("a text of the winner's kind alone scored", "        value = yield from scored(note, start, end, text)\n", """\
+    ("what cannot win at 1.0 not scored", "        value = yield from scored(note, start, end, text)\n", """\
         if found and found[1] == 1 and text.kind >= found[0].kind:
             continue
         value = yield from scored(note, start, end, text)

@@ -14,7 +14,7 @@ static void look_for_other(worker *w, report *r, part text, finding *f) {
 
 static bool is_higher(const finding *f) { return has_rival(f) && f->other_of.score > f->of.score; }
 
-/* The other one is the better, as a scan has it: higher, or as high and of a kind that goes before. */
+/* The other one is the better: higher, or as high and of a kind that goes before. */
 static bool is_better(const finding *f) { return is_higher(f) || (has_rival(f) && f->other.kind < f->text.kind); }
 
 /* The finding as if the other licence had been found first. */

@@ -28,7 +28,8 @@ static const char program_help[] =
 static const char scan_help[] =
     "chultarvi scan [options] BOOK NOTE...\n"
     "\n"
-    "Says of each note which licence of the book it holds as a whole, and in which lines it holds which.\n"
+    "Says of each note which licence of the book it holds as a whole, and in which lines it holds which. On equal scores an original\n"
+    "beats an alternate, an alternate a header; only then the text that stands first.\n"
     "\n"
     "  --beside BOOK2    scan against this book too, and say of each licence which book holds it; of equal scores and kinds BOOK's wins.\n"
     "                    Both are of one edition\n"

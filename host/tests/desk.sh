@@ -125,6 +125,34 @@ printf 'Twin original twin\n' >list
 run 0 book twin.book list
 run 0 scan desk.book --beside twin.book alpha
 out_has '    but as high: Twin, original, score 1.0000, 2m/t = 2*39/78, from twin.book'
+# on equal scores an original is named, though a header stands before it, in the same book or in the first of two; the header is said beside it
+printf 'Alpha original near\nAlpha header alpha\nTwin original twin\n' >list
+$program book kinds.book list >/dev/null 2>&1
+run 0 scan kinds.book alpha
+out_is 'alpha: Twin, original, score 1.0000, 2m/t = 2*39/78
+    but as high: Alpha, header, score 1.0000, 2m/t = 2*39/78
+  3 scorings, 2 more behind the scan'
+run 0 scan --json kinds.book behind
+json '[[r["licence"], r["kind"], r["number"], r["rival"]["kind"]] for r in notes[0]["ranges"]]' '[["Twin", "original", 2, "header"]]'
+run 0 scan --json --top-down 1 kinds.book behind
+json '[[r["licence"], r["kind"], r["number"]] for r in notes[0]["ranges"]]' '[["Twin", "original", 2]]'
+printf 'Alpha original near\nAlpha header alpha\n' >list
+run 0 book header.book list
+for books in 'header.book --beside twin.book' 'twin.book --beside header.book'; do
+    run 0 scan $books alpha
+    out_has 'alpha: Twin, original, score 1.0000, 2m/t = 2*39/78, from twin.book
+    but as high: Alpha, header, score 1.0000, 2m/t = 2*39/78, from header.book'
+done
+# so is what is found further: Low's header is the best of the last three lines, and on the second of them High's original is as high
+words zed 30 >zed
+printf 'one two three four x y z' >low
+printf 'one two three' >high
+printf 'Low original idle\nLow header low\nHigh original high\nZed original zed\n' >list
+run 0 book further.book list
+{ cat zed; printf '\np q\none two three four five six seven\nk l m n\n'; } >further
+run 0 scan --json --thorough --passes 1 --threshold 0.35 further.book further
+json '[r["licence"] for r in notes[0]["ranges"]] + [[r["licence"], r["kind"], r["m"], r["rival"]["licence"], r["rival"]["kind"]] for r in notes[0]["further"]]' \
+    '["Zed", ["High", "original", 2, "Low", "header"]]'
 # the budget did not pay for the look
 run 0 scan --json --budget 3 twins.book alpha
 json '[notes[0]["licence"], notes[0]["rival"]]' '["Alpha", null]'

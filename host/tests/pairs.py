@@ -106,7 +106,7 @@ def hold_note(tally, told, shelf, down):
     for each in values(told):
         tally.hold(is_value(each) and (each["m"] is not None or each["score"] is None), f"2m/t: {each}")
     scores = [model.score(whole.table(0, len(whole.lines)), stored.table) for stored in shelf]
-    best = max(scores)  # the first of equals
+    best = max(zip(scores, shelf), key=lambda pair: model.rank(pair[1], pair[0]))[0]
     if not down:
         tally.hold((told["m"], told["t"]) == (best.m, best.t), f"overall: {told}, not {best.m} and {best.t}")
     seen = set()

@@ -182,21 +182,38 @@ impl Shelf {
                     .shallow_limit(float(w[1]));
                 self.scanned(&scanner.scan(&TextData::new(&unhex(w[3]))))
             }
-            "counteliminate" => {
-                let text = settled::text(&unhex(w[5]));
-                let passes = w[3].parse().expect("passes");
-                self.counting(w[4], |made, out| {
-                    counted::elimination(&self.texts, limits(w), w[2] == "1", passes, &text, made, out)
-                })
-            }
-            "countdown" => {
-                let text = settled::text(&unhex(w[4]));
-                self.counting(w[3], |made, out| {
-                    counted::topdown(&self.texts, limits(w), count(w[2]), &text, made, out)
-                })
-            }
+            "counteliminate" => self.eliminating(&self.texts, w),
+            "countdown" => self.going_down(&self.texts, w),
+            "firsteliminate" => self.eliminating(&self.alike(), w),
+            "firstdown" => self.going_down(&self.alike(), w),
             other => panic!("no such question: {other}"),
         }
+    }
+
+    /// The stored texts as if of one kind: of equal scores the earliest wins, which is one order of the original's maps.
+    fn alike(&self) -> Vec<Stored> {
+        let alike = |s: &Stored| Stored {
+            kind: 0,
+            text: s.text.clone(),
+        };
+        self.texts.iter().map(alike).collect()
+    }
+
+    /// Elimination by the counted copy.
+    fn eliminating(&self, stored: &[Stored], w: &[&str]) -> String {
+        let text = settled::text(&unhex(w[5]));
+        let passes = w[3].parse().expect("passes");
+        self.counting(w[4], |made, out| {
+            counted::elimination(stored, limits(w), w[2] == "1", passes, &text, made, out)
+        })
+    }
+
+    /// Top-down by the counted copy.
+    fn going_down(&self, stored: &[Stored], w: &[&str]) -> String {
+        let text = settled::text(&unhex(w[4]));
+        self.counting(w[3], |made, out| {
+            counted::topdown(stored, limits(w), count(w[2]), &text, made, out)
+        })
     }
 
     /// What the original found.

@@ -17,7 +17,7 @@ use Rattle.rules.specs.declared.Limits.{Limits}
 use Rattle.rules.specs.declared.Mode.{Mode}
 use Rattle.rules.specs.declared.Mode.the-variants.{Elimination, TopDown}
 use Rattle.rules.specs.Lines.{lines}
-use Rattle.rules.specs.Search.{View, whole, Stored, noText, Scoring, Made, recurse, turns, scored, scoreView, Best, noBest, best}
+use Rattle.rules.specs.Search.{whole, Stored, noText, Scoring, Made, recurse, turns, scored, scoreView, Best, noBest, best}
 use Rattle.rules.specs.Scan.{Event, paid, overall, found, Recorded, after, afford, verdict, names, contained, andOn, downOn, downFrom, topDown, elimination, events}
 use Rattle.rules.specs.Book.{shelved, editionOf}
 use Rattle.rules.specs.Refusal.{refusal, Areas, ofScan}
