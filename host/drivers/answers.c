@@ -207,11 +207,14 @@ static size_t lines_of(text_t t) {
     for (size_t i = 0; i < t.len; i++) lines += t.bytes[i] == '\n';
     return lines;
 }
-/* the stored number of the named licence: the text that scores first best is its kind's; the oracle tells its number */
+static uint32_t kind_of(books_t b, uint32_t k) {
+    return b.two ? chultarvi_name_stored_both(b.first, b.first_len, b.second, b.second_len, k).kind : chultarvi_name_stored(b.first, b.first_len, k).kind;
+}
+/* the stored number of the named licence, which the oracle tells: the first text of that kind with that score, since no other kind goes before it */
 static uint32_t stored_number(const chultarvi_note_scanned *s, text_t t, books_t b) {
     uint32_t texts = chultarvi_check_book(book, book_len).texts;
-    for (uint32_t k = 0; k < texts; k++) if (bits(score_of(t, b, 0, lines_of(t), k)) == bits(s->score)) return k;
-    stop("no stored text has the score of the named one");
+    for (uint32_t k = 0; k < texts; k++) if (kind_of(b, k) == s->kind && bits(score_of(t, b, 0, lines_of(t), k)) == bits(s->score)) return k;
+    stop("no stored text of the named kind has the score of the named one");
     return 0;
 }
 /* writes who is named, whose name must stand where the answer says: with no name that is the first book's start */

@@ -55,6 +55,18 @@ ok
 0 1 00000000 none
 0"
 
+# on equal scores the original is named, though a header stands before it, in the same book or in the first of two
+ask "add 41 2 -" "add 41 4 $licence" "add 42 2 $licence" "add 43 2 $licence" "counteliminate 3f000000 3f000000 0 0 9 $licence" \
+    "border 1 counteliminate 3f000000 3f000000 0 0 9 $licence" "border 1 countdown 3f666666 3f7d70a4 9 1000 $licence" "countdown 3f666666 3f7d70a4 1 1000 $two"
+answers_are "ok
+ok
+ok
+ok
+0 4 3f800000 2
+0 4 3f800000 2
+0 4 00000000 none
+0 30 00000000 none ; 2 1 2 3f800000"
+
 # in edition 3: letters of two bytes, over one book and over two
 ask "table $(printf '\303\211T\303\211 \303\240' | hex)" "add 41 2 $(printf '\303\251t\303\251 \303\240 la' | hex)" "add 42 2 $licence" \
     "border 1 counteliminate 3f666666 3f7d70a4 0 10 1000 $(printf '\303\211t\303\251 \303\200 LA' | hex)"
