@@ -83,15 +83,15 @@ def jobs(tally, oracle, rng, seed, i):
     threshold, shallow = rng.choice([compare.ZERO, compare.HALF, compare.NINETY]), compare.ONE
     q = dataclasses.replace(q, threshold=threshold, shallow=shallow, optimize=True, passes=3, step=rng.choice([1, 2, 3]), budget=WHOLE)
     for job, before, room in (("eliminate", "1 3", 48), ("down", q.step, 16 * n)):
-        a = model.answered(dataclasses.replace(q, job=job, results=bytes(room)))
-        ours = scanned(a)
+        asked = dataclasses.replace(q, job=job, results=bytes(room))
+        a = model.answered(asked)
         theirs = oracle.counted(f"count{job} {threshold:08x} {shallow:08x} {before} {WHOLE} {hexed(t)}")
         part = None if theirs.named is None else model.shelved((book,))[theirs.named].part
-        tally.hold(job, f"{threshold:08x} {before} of {t!r}", theirs._replace(named=part), ours)
-        tally.kinds += asking.by_kind(dataclasses.replace(q, job=job, results=bytes(room)), a)
+        tally.hold(job, f"{threshold:08x} {before} of {t!r}", theirs._replace(named=part), scanned(a))
+        tally.kinds += asking.by_kind(asked, a)
         if job == "eliminate":
             scores = [int(score, 16) for score in oracle.ask("scores", 0, n, hexed(t)).split(" ")]  # none is below 0.0, so their bits rise as they do
-            highest = max(range(len(texts)), key=lambda i: (scores[i], -texts[i].kind, -i))
+            highest = max(range(len(texts)), key=lambda i: (scores[i], -texts[i].kind))  # the first of equals
             tally.hold("m and t overall", told, pairs(oracle, t, 0, n, texts[highest].text), (a.m, a.t))
 
 

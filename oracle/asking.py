@@ -3,13 +3,16 @@
 A plan is a question without its areas. For each area it holds by how much it is longer than needed (below 0: shorter), so that a fault of the text
 keeps the others right. `filled` makes the question. A fault is named by the refusal that it should bring; whether it does, the model says. Plans of
 the jobs that scan, look at a view or name a stored text have one book or, where `two` is said, two. A plan has an edition, which is that of its books
-and of compile.
+and of compile. `reading` gives the model with one place changed, for wrong.py and to tell what a question reaches.
 """
 
 import copy
 import dataclasses
+import functools
+import os
 import random
 import struct
+import sys
 import types
 
 import compare
@@ -422,16 +425,6 @@ def budgeted(rng, job, lines=9, two=False, share=False):
         yield altered(plan, budget=budget, slack={area: slack(rng) for area in plan.slack})
 
 
-def by_kind(q, want):
-    """Would the earliest of equal scores, of whatever kind, have been answered otherwise?"""
-    if q.job not in SCANS:
-        return False
-    rank, model.rank = model.rank, lambda text, value: value
-    earliest = model.answered(q)
-    model.rank = rank
-    return earliest != want
-
-
 def altered(plan, **fields):
     """A copy of a plan with other fields."""
     other = copy.deepcopy(plan)
@@ -442,3 +435,31 @@ def altered(plan, **fields):
 
 def stream(seed, kind):
     return random.Random(f"{seed} {kind}")
+
+
+# ---- the rules read otherwise ----------------------------------------------------------------------------------------------------------------
+
+RANK = "return value, -text.kind"  # in model.py
+
+
+def reading(old, new):
+    """model.py with one place changed."""
+    with open(os.path.join(compare.HERE, "model.py")) as source:
+        text = source.read()
+    if text.count(old) != 1:
+        raise SystemExit(f"{old!r} stands {text.count(old)} times in model.py")
+    module = types.ModuleType("reading")
+    sys.modules["reading"] = module  # where the dataclasses look for their own
+    exec(compile(text.replace(old, new), "reading", "exec"), vars(module))
+    return module
+
+
+@functools.cache
+def kindless():
+    """Where of equal scores the earliest wins, of whatever kind."""
+    return reading(RANK, "return value")
+
+
+def by_kind(q, want):
+    """Is it a scan that is answered otherwise where kinds decide nothing?"""
+    return q.job in SCANS and vars(kindless().answered(q)) != vars(want)

@@ -217,8 +217,6 @@ def small():
 # ---- equal scores: ranking is by the float, then by the kind -------------------------------------------------------------------------------
 
 ONE_FLOAT = {4096: 1, 20000: 5}  # pairs of words in a note: up to how many more and as many fewer of them in two stored texts are one float
-
-
 TEXT_KINDS = (2, 3, 4)
 
 

@@ -316,13 +316,13 @@ def replay_scans(out, rng):
 
     out.heading("equal scores: three licences share a text, each as its original, its alternate or its header")
     for kinds in itertools.product((2, 3, 4), repeat=3):
-        stock(out, [s for name, kind in zip("ABC", kinds) for s in sharing(name, kind, LICENCE_A)])
+        stock(out, [s for name, kind in zip("ABC", kinds) for s in of_kind(name, kind, LICENCE_A)])
         for t in (LICENCE_A, TEXT_2):
             out.ask("counteliminate", f"{HALF:08x} {ONE:08x} 1 2", WHOLE, out.text(t))
         out.ask("countdown", f"{NINETY:08x} {ONE:08x} 1", WHOLE, out.text(TEXT_2))
 
 
-def sharing(name, kind, text):
+def of_kind(name, kind, text):
     """A licence with this text as its original, or, behind an empty one, as a text of another kind."""
     return [compare.Stored(name, 2, text)] if kind == 2 else [compare.Stored(name, 2, ""), compare.Stored(name, kind, text)]
 

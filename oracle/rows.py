@@ -112,21 +112,27 @@ def with_accents(q):
     return third or not q.text.isascii()
 
 
+# what a row may reach, by its question and the model's answer
+REACHED = {
+    "with several faults at once": lambda q, want: several(q),
+    "with an edition": lambda q, want: with_edition(q),
+    "that reach edition 3": lambda q, want: with_accents(q),
+    "with word pairs": lambda q, want: want.t > 0,
+    "where m and t must be 0": lambda q, want: want.t == 0 and q.job in (*asking.VIEWS, *asking.SCANS),
+    "that a kind decides": asking.by_kind,
+}
+
+
 class Tally:
     def __init__(self, archive):
-        self.archive, self.several, self.editions, self.accents, self.paired, self.none, self.kinds = archive, 0, 0, 0, 0, 0, 0
+        self.archive, self.reached = archive, collections.Counter()
         self.rows, self.failed, self.met, self.met_by_kind = collections.Counter(), collections.Counter(), collections.Counter(), {}
 
     def hold(self, kind, q, due):
         want = model.answered(q)
         got, faults = self.archive.ask(q)
         self.rows[kind] += 1
-        self.several += several(q)
-        self.editions += with_edition(q)
-        self.accents += with_accents(q)
-        self.paired += want.t > 0
-        self.kinds += asking.by_kind(q, want)
-        self.none += want.t == 0 and q.job in (*asking.VIEWS, *asking.SCANS)
+        self.reached.update(what for what, reaches in REACHED.items() if reaches(q, want))
         self.met[q.job, len(q.books), want.refusal] += 1
         self.met_by_kind.setdefault(kind, collections.Counter())[want.refusal] += 1
         faults += apart(want, got)
@@ -248,9 +254,8 @@ def main():
         tally.require()
         tally.table()
     failed = sum(tally.failed.values())
-    told = f"{tally.several} rows with several faults at once, {tally.editions} with an edition, {tally.accents} that reach edition 3, "
-    told += f"{tally.paired} with word pairs and {tally.none} where m and t must be 0, {tally.kinds} that a kind decides"
-    print(f"{told}; seed {options.seed}, {time.monotonic() - began:.0f} s")
+    told = ", ".join(f"{tally.reached[what]} {what}" for what in REACHED)
+    print(f"rows {told}; seed {options.seed}, {time.monotonic() - began:.0f} s")
     print(f"{sum(tally.rows.values()) - failed} passed, {failed} failed")
     return 1 if failed else 0
 

@@ -9,11 +9,9 @@ the model agree. Prints by how many rows each is found. Exit status: 0 all are f
 
 import argparse
 import inspect
-import os
 import sys
-import types
 
-import compare
+import asking
 import model
 import rows
 
@@ -31,7 +29,8 @@ WORDS, SPACES, MARKS = 'of_category("L", "Nd", "Pc")', 'SPACES = "\\t\\n\\v\\f\\
 NO_URL, COLLAPSED, TWO_WORDS = 'f"https?://[^{SPACE}]+"', 're.sub(f"[{SPACE}]+", " ", text)', 'f"[{LOWER}]+ [{LOWER}]+"'
 VALUED, TOLD = "if one and other else 0.0,", "bits_of(value), value.m, value.t"
 VALUE, OVERALL, FOUND_THERE = f"{VALUED} m, t)", "tell(a, event.score)\n", "            tell(a, value)\n            return\n"
-BETTER, RANK, HIGHER = "            found = text, value\n", "return value, -text.kind", "rank(text, value) > rank(*found)"
+BETTER, RANK, HIGHER = "            found = text, value\n", asking.RANK, "rank(text, value) > rank(*found)"
+EARLIEST = "next(x for x in shelf if score(note.table({}, {}), x.table) == value)"  # of equal scores, of whatever kind
 FROM_OVERALL = "    yield Overall" + inspect.getsource(model.elimination).split("    yield Overall")[1]
 BYTES, ONLY_LATER = '"utf-8" if edition == ACCENTS else "ascii"', "edition == 1 or "
 
@@ -204,20 +203,16 @@ WRONG = [
     ("a tie at 0.0 to the last original", HIGHER, f"{HIGHER} or not value and not found[1] and text.kind == 2"),
     ("a tie of equal fractions alone", HIGHER, "value > found[1] or value.m * found[1].t == found[1].m * value.t and text.kind < found[0].kind"),
     ("m and t of the text that a kind beats", BETTER, "            found = text, found[1] if found and found[1] == value else value\n"),
-    ("the score of the text, the name of the earliest", "    yield Overall(text, value)\n", """\
-    yield Overall(min((x for x in shelf if score(note.table(0, whole), x.table) == value), key=lambda x: x.number), value)
-"""),
-    ("the kind decides only what is named", "    for _ in range(q.passes):\n", """\
-    text = min((x for x in shelf if score(note.table(0, whole), x.table) == value), key=lambda x: x.number)
+    ("the score of the text, the name of the earliest", "yield Overall(text, value)", f"yield Overall({EARLIEST.format(0, 'whole')}, value)"),
+    ("the kind decides only what is named", "    for _ in range(q.passes):\n", f"""\
+    text = {EARLIEST.format(0, "whole")}
     for _ in range(q.passes):
 """),
-    ("the earliest bounded in later passes", "        text, _ = yield from best(note, 0, whole, shelf)\n", """\
+    ("the earliest bounded in later passes", "        text, _ = yield from best(note, 0, whole, shelf)\n", f"""\
         text, value = yield from best(note, 0, whole, shelf)
-        text = min((x for x in shelf if score(note.table(0, whole), x.table) == value), key=lambda x: x.number)
+        text = {EARLIEST.format(0, "whole")}
 """),
-    ("the earliest in top-down", "                latest = start, end, text\n", """\
-                latest = start, end, min((x for x in shelf if score(note.table(start, end), x.table) == value), key=lambda x: x.number)
-"""),
+    ("the earliest in top-down", "latest = start, end, text\n", f"latest = start, end, {EARLIEST.format('start', 'end')}\n"),
     ("what cannot win at 1.0 not scored", "        value = yield from scored(note, start, end, text)\n", """\
         if found and found[1] == 1 and text.kind >= found[0].kind:
             continue
@@ -396,18 +391,6 @@ WRONG = [
 ]  # fmt: skip
 
 
-def reading(old, new):
-    """model.py with one place changed."""
-    with open(os.path.join(compare.HERE, "model.py")) as source:
-        text = source.read()
-    if text.count(old) != 1:
-        raise SystemExit(f"wrong: {old!r} stands {text.count(old)} times in model.py")
-    module = types.ModuleType("wrong")
-    sys.modules["wrong"] = module  # where the dataclasses look for their own
-    exec(compile(text.replace(old, new), "wrong", "exec"), vars(module))
-    return module
-
-
 def answered(module, q):
     try:
         return vars(module.answered(q))
@@ -422,7 +405,7 @@ def main():
     right = [answered(model, q) for q in asked]
     lost = 0
     for what, old, new in WRONG:
-        module = reading(old, new)
+        module = asking.reading(old, new)
         found = sum(answered(module, q) != want for q, want in zip(asked, right))
         lost += not found
         print(f"{found:6} rows find: {what}", flush=True)
