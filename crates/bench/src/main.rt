@@ -1,13 +1,15 @@
 // Scans a note from standard input, of at most 1,024 bytes, against the book of the rules' marked cases, and writes its licence, its
 // ranges and the count of scorings as that document prints them for text 2. A refusal is one line `refusal N`.
 // The recorded input is text 2, and the recorded output the rules' three lines. Assumes nothing but the C library's read and write.
-ghost use Prim.Native.Nat.{_≤_};
+ghost use Prim.Native.Nat.{_*_, _≤_};
 ghost use lib.ListN.{length};
+ghost use Rattle.rules.specs.Sizes.{recordWidth};
 use detection_check::check_book;
 use detection_texts::texts::stored_at;
 use libc::STDIN_FILENO;
 use rules::Limits;
 use rules::Mode;
+use rules::RECORD_WIDTH;
 use rules::Scanned;
 use scan_job::scan;
 use telling::print;
@@ -89,9 +91,9 @@ fn tell_text(book: &[u8], number: u32) {
     tell_kind(text.kind as u32);
 }
 
-// One record, of four numbers.
+// One record: its lines, its text and its score, as the three lines have them.
 fn tell_range(book: &[u8], numbers: &[u32])
-    requires { ⌜ 4 ≤ length (now numbers) ⌝ }
+    requires { ⌜ recordWidth ≤ length (now numbers) ⌝ }
 {
     print(b"range ");
     print_number(numbers[1]);
@@ -104,14 +106,14 @@ fn tell_range(book: &[u8], numbers: &[u32])
 
 // So many records. There are no more than ten, so the test of the room never fails.
 fn tell_ranges(book: &[u8], results: &[u32], records: u32)
-    requires { ⌜ 40 ≤ length (now results) ⌝ }
+    requires { ⌜ 10 * recordWidth ≤ length (now results) ⌝ }
 {
     let mut i: usize = 0;
     while i < 10 {
         if records as usize <= i {
             return;
         }
-        let at = 4 * i;
+        let at = RECORD_WIDTH * i;
         tell_range(book, &results[at..]);
         i += 1;
     }
@@ -127,7 +129,7 @@ fn tell_count(count: u64) {
 fn tell_scan(note: &[u8], book: &[u8]) {
     let mut area = byte_area();
     let mut words = word_area();
-    let mut results: [u32; 40] = [0; 40];
+    let mut results: [u32; 10 * RECORD_WIDTH] = [0; 10 * RECORD_WIDTH];
     let limits = Limits {
         threshold: 0.9,
         shallow: 0.99,

@@ -4,12 +4,13 @@
 use mathlib.Core.Path.{_≡_, refl}
 use mathlib.Core.Bool.{true}
 use mathlib.Core.List.{List, [], _∷_, _++_}
-use Prim.Native.Nat.{ℕ, zero, suc}
+use Prim.Native.Nat.{ℕ, zero, suc, _*_}
 use lib.Ieee.{ofBits, binary32}
 use lib.ListN.{drop, getD, replicate}
 use Rattle.rules.specs.declared.Limits.{Limits}
 use Rattle.rules.specs.declared.Mode.{Mode}
 use Rattle.rules.specs.declared.Mode.the-variants.{Elimination, TopDown}
+use Rattle.rules.specs.Sizes.{recordWidth}
 use Rattle.rules.specs.Bytes.{text}
 use Rattle.rules.specs.Book.{written, compiled}
 use Rattle.rules.specs.Refusal.{Areas}
@@ -33,13 +34,13 @@ recordsOf : ℕ → List ℕ → List ℕ
 recordsOf zero r = []
 recordsOf (suc n) r =
     text " ; " ++ decimal (getD r 0 0) ++ text " " ++ decimal (getD r 1 0) ++ text " " ++ decimal (getD r 2 0) ++ text " " ++
-    hexPairs (fourBytes (getD r 3 0)) ++ recordsOf n (drop 4 r)
+    hexPairs (fourBytes (getD r 3 0)) ++ text " " ++ decimal (getD r 4 0) ++ text " " ++ decimal (getD r 5 0) ++ recordsOf n (drop recordWidth r)
 
 line : List ℕ → Limits → Mode → ℕ → List ℕ
 line t lim mode budget =
-    let a = scan t (book ∷ []) lim mode budget areas 80 in
+    let a = scan t (book ∷ []) lim mode budget areas (20 * recordWidth) in
     decimal (a .refusal) ++ text " " ++ decimal (a .count) ++ text " " ++ decimal (a .records) ++
-    recordsOf (a .records) (resultsAfter t (book ∷ []) lim mode budget areas (replicate 80 0)) ++ 10 ∷ []
+    recordsOf (a .records) (resultsAfter t (book ∷ []) lim mode budget areas (replicate (20 * recordWidth) 0)) ++ 10 ∷ []
 
 pub second : ℕ → List ℕ
 second budget =
@@ -52,6 +53,6 @@ copies step budget =
 pub lines-hold :
     second 0 ++ second 1 ++ second 8 ++ second 9 ++ second 19 ++ second 20 ++ second 18446744073709551615 ++
     copies 1 18446744073709551615 ++ copies 1 19 ++ copies 18446744073709551615 18446744073709551615 ≡
-    text "12 0 0\n12 1 0\n12 8 0\n12 9 1 ; 0 1 2 3f800000\n12 19 1 ; 0 1 2 3f800000\n0 20 1 ; 0 1 2 3f800000\n0 20 1 ; 0 1 2 3f800000\n0 20 3 ; 0 0 1 3f800000 ; 0 2 3 3f800000 ; 0 4 5 3f800000\n12 19 2 ; 0 0 1 3f800000 ; 0 2 3 3f800000\n0 1 0\n"
+    text "12 0 0\n12 1 0\n12 8 0\n12 9 1 ; 0 1 2 3f800000 22 41\n12 19 1 ; 0 1 2 3f800000 22 41\n0 20 1 ; 0 1 2 3f800000 22 41\n0 20 1 ; 0 1 2 3f800000 22 41\n0 20 3 ; 0 0 1 3f800000 0 16 ; 0 2 3 3f800000 21 37 ; 0 4 5 3f800000 42 58\n12 19 2 ; 0 0 1 3f800000 0 16 ; 0 2 3 3f800000 21 37\n0 1 0\n"
 unfolding second copies line recordsOf limits areas book digits decimal fourBytes hexPairs hexGlyph opened
 lines-hold = refl

@@ -1,11 +1,12 @@
 // Runs the scan of the rules' marked case 10 on text 2 with each budget that matters, and top-down over three copies of a licence with
 // lines between, with the smallest and the largest step. It writes a line for each answer: refusal, count, number of records, and the
-// records: ` ; NUMBER FIRST AFTER BITS`.
+// records: ` ; NUMBER FIRST AFTER BITS START END`.
 //
 // The expected lines, in stdout, are not this code's: antt computes them from the definitions `scan` and `resultsAfter` of the crate rules
 // (proofs/Expected.antt, `lines-hold`, one equation by `refl`). Assumes nothing but the C library's write.
 use rules::Limits;
 use rules::Mode;
+use rules::RECORD_WIDTH;
 use scan_job::scan;
 use telling::print;
 use telling::print_count;
@@ -21,8 +22,8 @@ fn word_area() -> [u32; 1600] {
     [0; 1600]
 }
 
-fn results_area() -> [u32; 80] {
-    [0; 80]
+fn results_area() -> [u32; 20 * RECORD_WIDTH] {
+    [0; 20 * RECORD_WIDTH]
 }
 
 // The answer to a scan, in one line.

@@ -11,7 +11,7 @@ use lib.ListN.{length, drop, take, getD, length-drop}
 use lib.Seq.{drop-drop}
 use Rattle.rules.specs.Bytes.{lead}
 use Rattle.lists.proofs.SliceLaws.{drop-next, drop-done}
-use Rattle.slices.proofs.EndLaws.{lead-most}
+use Rattle.rules.proofs.PlaceLaws.{lead-most}
 use Rattle.expression.specs.Reading.{idByte}
 use Rattle.expression_bytes.specs.Front.{headIs, headId, spelt}
 

@@ -11,7 +11,7 @@ use lib.Dec.{eqb, ltb, eqb·suc-suc, eqb·suc-zero}
 use lib.ListN.{length, take, drop, length-drop}
 use lib.Seq.{drop-drop}
 use Rattle.rules.specs.Bytes.{lead, starts}
-use Rattle.slices.proofs.EndLaws.{lead-most}
+use Rattle.rules.proofs.PlaceLaws.{lead-most}
 use Rattle.expression.specs.Reading.{idByte, licenseRef, Kind, bare, license, reference, document, kindOf, Part}
 use Rattle.expression_bytes.specs.Front.{headIs, spelt}
 use Rattle.expression_bytes.proofs.FrontLaws.{head-within, spelt-inside, drop-one}

@@ -13,7 +13,7 @@ use lib.Seq.{drop-drop}
 use lib.Arith.{lt-of-le-ne}
 use Rattle.rules.specs.Bytes.{lead}
 use Rattle.expression.specs.Reading.{idByte, Kind, bare, license, reference, document, kindOf, Level, Ctl, to, Verdict, refused, next, stop, run, licenseRef}
-use Rattle.slices.proofs.EndLaws.{lead-most}
+use Rattle.rules.proofs.PlaceLaws.{lead-most}
 use Rattle.expression_bytes.specs.Front.{headIs, headId, spelt}
 use Rattle.expression.proofs.WordLaws.{id-not}
 use Rattle.expression_bytes.proofs.FrontLaws.{false-true, id-stop, spelt-most, spelt-inside, head-within}

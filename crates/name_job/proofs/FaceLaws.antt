@@ -27,17 +27,16 @@ use Rattle.rules.specs.Sizes.{nameMost}
 use Rattle.rules.specs.Search.{Stored, noText, noBest}
 use Rattle.rules.specs.Scan.{names, records, verdict}
 use Rattle.rules.specs.Book.{allSound, shelved, differ, noPart, nameParts, partIn, Lies, ReadAs}
-use Rattle.rules.specs.Refusal.{refusal, Areas, ofBooks, ofName, beforeScan, ofScan}
+use Rattle.rules.specs.Refusal.{refusal, Areas, ofBooks, ofName, ofScan}
 use Rattle.rules.specs.Jobs.{lent, happened, named, namePart, answered, scan, numbered, nameJob, ScanDone, NameDone}
 use Rattle.rules.proofs.DownLaws.{Each, each-at, each-of}
 use Rattle.rules.proofs.SoundLaws.{StoredSound}
 use Rattle.rules.proofs.ShelfLaws.{shelved-sound, shelved-number, part-lies}
 use Rattle.rules.proofs.NameLaws.{text-named}
 use Rattle.rules.proofs.VerdictLaws.{named-one}
-use Rattle.rules.proofs.RefusalLaws.{scan-zero, scan-only}
+use Rattle.rules.proofs.RecordLaws.{happened-recorded}
 use Rattle.refusals.proofs.AdmitLaws.{row-passes}
-use Rattle.refusals.proofs.PassedLaws.{both-passed}
-use Rattle.name_job.proofs.RecordLaws.{happened-held}
+use Rattle.refusals.proofs.PassedLaws.{scan-begun}
 
 -- ---- 0 exactly where the books are sound, of one edition, and have so many texts
 module _ (bs : List (List ℕ)) (k : ℕ) where
@@ -138,17 +137,6 @@ module _ (t : List ℕ) (bs : List (List ℕ)) (lim : Limits) (mode : Mode) (bud
   abbrev result : ℕ
   result = refusal (ofScan t bs lim mode budget room results)
 
-  -- where anything happens the books are sound, of one edition, and have a text
-  books-read : eqb result 0 || eqb result 12 ≡ true → (allSound bs ≡ true) × (differ bs ≡ false) × (0 < length (shelved 0 bs))
-  unfolding beforeScan
-  books-read h =
-      let p = both-passed t bs _ (begun (eqb result 0) refl h) .0 in
-      (p .sound, p .alike, p .some)
-    where
-      begun : (q : Bool) → eqb result 0 ≡ q → q || eqb result 12 ≡ true → refusal (beforeScan t bs lim mode room results) ≡ 0
-      begun true e k = scan-zero t bs lim mode room results budget (eqb-true result 0 e) .0
-      begun false e k = scan-only t bs lim mode room results budget (eqb-true result 12 k) .0
-
   -- the text that it names: no text where nothing happens
   abbrev pub winner : Stored
   winner = named lim (verdict (happened t bs lim mode budget room results))
@@ -167,8 +155,9 @@ module _ (t : List ℕ) (bs : List (List ℕ)) (lim : Limits) (mode : Mode) (bud
     where
       at : (e : Bool) → eqb result 0 || eqb result 12 ≡ e → Answered bs winner
       at true e =
+          let p = scan-begun t bs lim mode room results budget e .0 in
           named-one (λ s. (s .kind ≡ 0 → ⊥) → Answered bs s) (λ k. absurd (k (no-kind true))) t bs lim mode budget room results
-          (each-of (λ s. (s .kind ≡ 0 → ⊥) → Answered bs s) (shelved 0 bs) noText (λ k l _. answered-at bs (books-read e .0) (books-read e .1) k l)) q
+          (each-of (λ s. (s .kind ≡ 0 → ⊥) → Answered bs s) (shelved 0 bs) noText (λ k l _. answered-at bs (p .sound) (p .alike) k l)) q
       at false e = absurd (q (still e))
 
 module _ {t : List ℕ} {bs : List (List ℕ)} {lim : Limits} {mode : Mode} {budget : ℕ} {b₀ b w₀ w r₀ r : List ℕ} {a : Scanned}
@@ -184,5 +173,5 @@ module _ {t : List ℕ} {bs : List (List ℕ)} {lim : Limits} {mode : Mode} {bud
   -- the numbers of these records are those in the results (`ScanDone`)
   pub records-named : Each (λ x. Answered bs (x .text)) (records (happened t bs lim mode budget (lent b₀ w₀) (length r₀)))
   records-named =
-      happened-held (Answered bs) t bs lim mode budget (lent b₀ w₀) (length r₀)
-      (λ e. let o = books-read t bs lim mode budget (lent b₀ w₀) (length r₀) e in (o .2, answered-each bs (o .0) (o .1)))
+      happened-recorded t bs lim mode budget (lent b₀ w₀) (length r₀) (Answered bs) (λ x. Answered bs (x .text)) (λ ls v s e i k. k)
+      (λ e. let o = scan-begun t bs lim mode (lent b₀ w₀) (length r₀) budget e in (o .0 .some, answered-each bs (o .0 .sound) (o .0 .alike), o .1))

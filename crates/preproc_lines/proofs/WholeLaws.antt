@@ -22,7 +22,7 @@ use Rattle.rules.specs.Bytes.{newline, lead, lineLen, split, onFirst}
 use Rattle.rules.specs.Lines.{lineBy, linesBy}
 use Rattle.rules.proofs.RefusalLaws.{linesBy-count}
 use Rattle.slices.specs.declared.ends.ByteSpan.{ByteSpan}
-use Rattle.slices.proofs.EndLaws.{lead-most}
+use Rattle.rules.proofs.PlaceLaws.{lead-most}
 use Rattle.preproc_lines.specs.Placed.{Placed}
 use Rattle.preproc_table.specs.Entries.{startAt, endAt, lineAt, linesFrom, linesAt, entrySet, Apart}
 use Rattle.preproc_lines.specs.Normalised.{Normalised}

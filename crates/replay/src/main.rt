@@ -7,6 +7,7 @@ mod areas;
 mod named;
 mod scans;
 
+use crate::areas::RESULTS;
 use crate::areas::body_area;
 use crate::areas::book_area;
 use crate::areas::byte_area;
@@ -72,7 +73,7 @@ fn answer(
     area: &mut [u8; 16448],
     words: &mut [u32; 24640],
     body: &mut [u8; 49152],
-    results: &mut [u32; 8196],
+    results: &mut [u32; RESULTS],
     edition: u32,
 ) -> usize
     requires { ⌜ end ≤ 65536 ⌝ }

@@ -3,6 +3,7 @@
 ghost use mathlib.Core.Path.{_≡_};
 ghost use Prim.Native.Nat.{_≤_};
 ghost use lib.ListN.{length};
+use crate::areas::RESULTS;
 use crate::named::tell_named;
 use bounds_job::bounds_of;
 use questions::fields::number_at;
@@ -196,7 +197,7 @@ fn ask(
     end: usize,
     area: &mut [u8; 16448],
     words: &mut [u32; 24640],
-    results: &mut [u32; 8196],
+    results: &mut [u32; RESULTS],
     edition: u32,
 )
     requires { ⌜ (end ≤ length (now book)) × (length (now book) ≤ 65536) ⌝ }
@@ -223,7 +224,7 @@ pub fn answer_scans(
     end: usize,
     area: &mut [u8; 16448],
     words: &mut [u32; 24640],
-    results: &mut [u32; 8196],
+    results: &mut [u32; RESULTS],
     edition: u32,
 ) -> usize
     requires { ⌜ end ≤ 65536 ⌝ }

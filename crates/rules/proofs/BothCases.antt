@@ -5,7 +5,7 @@ use Prim.Native.String.{String}
 use mathlib.Core.Path.{_≡_, refl}
 use mathlib.Core.Bool.{Bool, false, cond}
 use mathlib.Core.List.{List, [], _∷_, _++_}
-use lib.ListN.{length, take}
+use lib.ListN.{length, take, replicate}
 use lib.Ieee.{toBits, ofBits, binary32}
 use Rattle.rules.specs.declared.Limits.{Limits}
 use Rattle.rules.specs.declared.Mode.the-variants.{Elimination, TopDown}
@@ -54,11 +54,11 @@ above threshold t bs budget =
 shown : List ℕ → List (List ℕ) → ℕ → List ℕ
 shown t bs budget = above 0x3f000000 t bs budget
 
--- top-down with its record: refusal, count, stored number, first line, line after last, score bits, then the part
+-- top-down with its record: refusal, count, the six numbers, then the part
 down : List ℕ → List (List ℕ) → List ℕ
 down t bs =
-    let r = scan t bs (limits 0x3f000000) (TopDown 1) 99 room 4 in
-    r .refusal ∷ r .count ∷ resultsAfter t bs (limits 0x3f000000) (TopDown 1) 99 room (7 ∷ 7 ∷ 7 ∷ 7 ∷ []) ++ bit (r .part .second) ∷ r .part .at ∷ r .part .len ∷ []
+    let r = scan t bs (limits 0x3f000000) (TopDown 1) 99 room 6 in
+    r .refusal ∷ r .count ∷ resultsAfter t bs (limits 0x3f000000) (TopDown 1) 99 room (replicate 6 7) ++ bit (r .part .second) ∷ r .part .at ∷ r .part .len ∷ []
 
 -- the bounds of stored text k in the whole note of one line: refusal, first line, line after last, score bits, m and t, count
 found : List (List ℕ) → ℕ → List ℕ
@@ -129,7 +129,7 @@ pub both-hold :
     (0 ∷ 1 ∷ 1 ∷ 0 ∷ 0 ∷ 1 ∷ 4 ∷ []) ∷
     (0 ∷ 0 ∷ 1 ∷ 0x3f800000 ∷ 1 ∷ 2 ∷ 4 ∷ []) ∷
     (9 ∷ 0 ∷ 0 ∷ 0 ∷ 0 ∷ 0 ∷ 0 ∷ []) ∷
-    (0 ∷ 8 ∷ 1 ∷ 0 ∷ 1 ∷ 0x3f800000 ∷ 0 ∷ 0 ∷ 0 ∷ []) ∷
+    (0 ∷ 8 ∷ 1 ∷ 0 ∷ 1 ∷ 0x3f800000 ∷ 0 ∷ 3 ∷ 0 ∷ 0 ∷ 0 ∷ []) ∷
     (0 ∷ 2 ∷ 0x3f800000 ∷ 1 ∷ 2 ∷ 2 ∷ 1 ∷ 1 ∷ 6 ∷ 1 ∷ []) ∷
     (4 ∷ 0 ∷ 0 ∷ 0 ∷ 0 ∷ 0 ∷ 0 ∷ 0 ∷ 0 ∷ 0 ∷ []) ∷
     (0 ∷ 1 ∷ 0x3f800000 ∷ 1 ∷ 2 ∷ 2 ∷ 1 ∷ 0 ∷ 6 ∷ 1 ∷ []) ∷

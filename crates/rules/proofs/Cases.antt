@@ -26,7 +26,7 @@ pub record Case : Type 0 where
   pub want : List ℕ
 
 -- ---- the marked book, 58 bytes written out: licence A, whose text is `My First License`
-bodyA : List ℕ
+unfoldable pub bodyA : List ℕ
 bodyA =
     0x02 ∷ 0x00 ∷ 0x00 ∷ 0x00 ∷ 0x02 ∷ 0x00 ∷ 0x00 ∷ 0x00 ∷
     0x01 ∷ 0x00 ∷ 0x00 ∷ 0x00 ∷ 0x0D ∷ 0x00 ∷ 0x00 ∷ 0x00 ∷
@@ -34,18 +34,18 @@ bodyA =
     0x01 ∷ 0x00 ∷ 0x00 ∷ 0x00 ∷ 0x08 ∷ 0x00 ∷ 0x00 ∷ 0x00 ∷
     0x6D ∷ 0x79 ∷ 0x20 ∷ 0x66 ∷ 0x69 ∷ 0x72 ∷ 0x73 ∷ 0x74 ∷ []
 
-bookA : List ℕ
+unfoldable pub bookA : List ℕ
 bookA = 0x01 ∷ 0x00 ∷ 0x00 ∷ 0x00 ∷ 0x01 ∷ 0x00 ∷ 0x41 ∷ 0x2D ∷ 0x00 ∷ 0x00 ∷ 0x00 ∷ 0x02 ∷ 0x00 ∷ bodyA
 
 -- text 2 of the marked cases
-second : List ℕ
+unfoldable pub second : List ℕ
 second = text "copyright 20xx me irl\n// My First License\nfn hello() {\n ..."
 
 -- ---- what a row computes
-room : Areas
+unfoldable pub room : Areas
 room = record { bytes = 100_000; words = 100_000 }
 
-limits : ℕ → ℕ → Limits
+unfoldable pub limits : ℕ → ℕ → Limits
 limits threshold shallow = record { threshold = ofBits binary32 threshold; shallow = ofBits binary32 shallow }
 
 wholeView : List ℕ → View
@@ -102,7 +102,7 @@ noName = replicate 64 0
 
 -- ---- the marked cases
 budgetCase : ℕ → List ℕ → Case
-budgetCase b w = scanCase second bookA (limits 0x3f666666 0x3f7d70a4) (Elimination true 10) b room 40 w
+budgetCase b w = scanCase second bookA (limits 0x3f666666 0x3f7d70a4) (Elimination true 10) b room 60 w
 
 pub marked : List Case
 marked =
@@ -116,9 +116,9 @@ marked =
     viewCase "dnl one\ndnl two\ndnl tri" "dnl one wo ri" ∷
     viewCase "a b\ncopyright c\n1999 d\nkeep me" "a b keep me" ∷
     viewCase "x\ncopyright holder" "x copyright holder" ∷
-    budgetCase 9 ((12 ∷ 9 ∷ 0x3f2aaaab ∷ 2 ∷ 6 ∷ 0 ∷ 0 ∷ 1 ∷ []) ++ noName ++ (0 ∷ 1 ∷ 2 ∷ 0x3f800000 ∷ []) ++ replicate 36 7) ∷
-    budgetCase 8 ((12 ∷ 8 ∷ 0x3f2aaaab ∷ 2 ∷ 6 ∷ 0 ∷ 0 ∷ 0 ∷ []) ++ noName ++ replicate 40 7) ∷
-    budgetCase 20 ((0 ∷ 20 ∷ 0x3f2aaaab ∷ 2 ∷ 6 ∷ 0 ∷ 0 ∷ 1 ∷ []) ++ noName ++ (0 ∷ 1 ∷ 2 ∷ 0x3f800000 ∷ []) ++ replicate 36 7) ∷
+    budgetCase 9 ((12 ∷ 9 ∷ 0x3f2aaaab ∷ 2 ∷ 6 ∷ 0 ∷ 0 ∷ 1 ∷ []) ++ noName ++ (0 ∷ 1 ∷ 2 ∷ 0x3f800000 ∷ 22 ∷ 41 ∷ []) ++ replicate 54 7) ∷
+    budgetCase 8 ((12 ∷ 8 ∷ 0x3f2aaaab ∷ 2 ∷ 6 ∷ 0 ∷ 0 ∷ 0 ∷ []) ++ noName ++ replicate 60 7) ∷
+    budgetCase 20 ((0 ∷ 20 ∷ 0x3f2aaaab ∷ 2 ∷ 6 ∷ 0 ∷ 0 ∷ 1 ∷ []) ++ noName ++ (0 ∷ 1 ∷ 2 ∷ 0x3f800000 ∷ 22 ∷ 41 ∷ []) ++ replicate 54 7) ∷
     bytesCase (length bookA ∷ []) (58 ∷ []) ∷
     bytesCase (compiled 1 (text "My First License")) bodyA ∷
     bookCase bookA (0 ∷ 1 ∷ []) ∷
@@ -131,20 +131,20 @@ marked-hold = refl
 
 -- ---- books by hand
 -- one record
-rec : ℕ → List ℕ → List ℕ
+unfoldable pub rec : ℕ → List ℕ → List ℕ
 rec kind body = written 4 (length body) ++ written 2 kind ++ body
 
-entry : ℕ → List ℕ → List ℕ
+unfoldable pub entry : ℕ → List ℕ → List ℕ
 entry n b = written 4 n ++ written 4 (length b) ++ b
 
-body : ℕ → ℕ → List ℕ → List ℕ
+unfoldable pub body : ℕ → ℕ → List ℕ → List ℕ
 body total distinct es = written 4 total ++ written 4 distinct ++ es
 
 -- a licence whose original is an empty table, and one with this original
 bare : String → List ℕ
 bare n = rec 1 (text n) ++ rec 2 (body 0 0 [])
 
-with : List ℕ → List ℕ
+unfoldable pub with : List ℕ → List ℕ
 with b = rec 1 (text "A") ++ rec 2 b
 
 -- a book that is refused
@@ -186,11 +186,11 @@ unity = 0x3f800000
 half : ℕ
 half = 0x3f000000
 
-note : List ℕ
+unfoldable pub note : List ℕ
 note = text "My First License"
 
 -- a book whose one text is `a b`, for the rows that score often: their scores are exact, and cheap to compute
-slim : List ℕ
+unfoldable pub slim : List ℕ
 slim = with (body 1 1 (entry 1 (text "a b")))
 
 tiny : Areas
@@ -236,8 +236,8 @@ others =
     boundsCase (text "my first license\n\n") bookA (view 0 3) (0 ∷ 0 ∷ 2 ∷ unity ∷ 2 ∷ 4 ∷ 7 ∷ []) ∷
     viewCase "x\n\ncopyright a\ncopyright b\n\ny" "x copyright a copyright b y" ∷
     viewCase "x\n\ncopyright a\n\ncopyright b\n\ny" "x copyright b y" ∷
-    scanCase (text "a b\na b\na b") slim (limits 0x3f666666 unity) (TopDown 1) 100 room 12
-    ((0 ∷ 13 ∷ 0 ∷ 0 ∷ 0 ∷ 0 ∷ 0 ∷ 2 ∷ []) ++ noName ++ (0 ∷ 0 ∷ 1 ∷ unity ∷ 0 ∷ 2 ∷ 3 ∷ unity ∷ []) ++ replicate 4 7) ∷
+    scanCase (text "a b\na b\na b") slim (limits 0x3f666666 unity) (TopDown 1) 100 room 18
+    ((0 ∷ 13 ∷ 0 ∷ 0 ∷ 0 ∷ 0 ∷ 0 ∷ 2 ∷ []) ++ noName ++ (0 ∷ 0 ∷ 1 ∷ unity ∷ 0 ∷ 3 ∷ 0 ∷ 2 ∷ 3 ∷ unity ∷ 8 ∷ 11 ∷ []) ++ replicate 6 7) ∷
     -- the passes
     viewCase "abcd xabcd\nabcd e\nx\nabcd e\nabcd e" "xabcd e x e e" ∷
     viewCase "\ncopyright x\n\nb c" "b c" ∷
@@ -260,36 +260,36 @@ others =
     sharedCase (full "A" ++ sharing "B" 3 ++ sharing "C" 4) 5 2 "A" ∷
     sharedCase (sharing "A" 4 ++ bare "B") 3 4 "A" ∷
     -- so it goes for the text of each pass, the second too, and for top-down's; a tie at 0.0 stays with text 0
-    scanCase second headerFirst (limits 0x3f666666 0x3f7d70a4) (Elimination true 10) 100 room 40
-    ((0 ∷ 24 ∷ 0x3f2aaaab ∷ 2 ∷ 6 ∷ 0 ∷ 0 ∷ 1 ∷ []) ++ noName ++ (2 ∷ 1 ∷ 2 ∷ unity ∷ []) ++ replicate 36 7) ∷
-    scanCase (text "a b\nc d") (slim ++ laterTie) (limits half unity) (Elimination true 2) 100 room 8
-    ((0 ∷ 23 ∷ half ∷ 1 ∷ 4 ∷ 0 ∷ 0 ∷ 2 ∷ []) ++ noName ++ 0 ∷ 0 ∷ 1 ∷ unity ∷ 3 ∷ 1 ∷ 2 ∷ unity ∷ []) ∷
-    scanCase second headerFirst (limits 0x3f666666 unity) (TopDown 1) 100 room 16
-    ((0 ∷ 24 ∷ 0 ∷ 0 ∷ 0 ∷ 0 ∷ 0 ∷ 1 ∷ []) ++ noName ++ (2 ∷ 1 ∷ 2 ∷ unity ∷ []) ++ replicate 12 7) ∷
-    scanCase (text "x y") headerFirst (limits 0 half) (Elimination true 1) 100 room 4 ((0 ∷ 10 ∷ 0 ∷ 0 ∷ 1 ∷ 0 ∷ 0 ∷ 1 ∷ []) ++ noName ++ 0 ∷ 1 ∷ 1 ∷ 0 ∷ []) ∷
+    scanCase second headerFirst (limits 0x3f666666 0x3f7d70a4) (Elimination true 10) 100 room 60
+    ((0 ∷ 24 ∷ 0x3f2aaaab ∷ 2 ∷ 6 ∷ 0 ∷ 0 ∷ 1 ∷ []) ++ noName ++ (2 ∷ 1 ∷ 2 ∷ unity ∷ 22 ∷ 41 ∷ []) ++ replicate 54 7) ∷
+    scanCase (text "a b\nc d") (slim ++ laterTie) (limits half unity) (Elimination true 2) 100 room 12
+    ((0 ∷ 23 ∷ half ∷ 1 ∷ 4 ∷ 0 ∷ 0 ∷ 2 ∷ []) ++ noName ++ 0 ∷ 0 ∷ 1 ∷ unity ∷ 0 ∷ 3 ∷ 3 ∷ 1 ∷ 2 ∷ unity ∷ 4 ∷ 7 ∷ []) ∷
+    scanCase second headerFirst (limits 0x3f666666 unity) (TopDown 1) 100 room 24
+    ((0 ∷ 24 ∷ 0 ∷ 0 ∷ 0 ∷ 0 ∷ 0 ∷ 1 ∷ []) ++ noName ++ (2 ∷ 1 ∷ 2 ∷ unity ∷ 22 ∷ 41 ∷ []) ++ replicate 18 7) ∷
+    scanCase (text "x y") headerFirst (limits 0 half) (Elimination true 1) 100 room 6 ((0 ∷ 10 ∷ 0 ∷ 0 ∷ 1 ∷ 0 ∷ 0 ∷ 1 ∷ []) ++ noName ++ 0 ∷ 1 ∷ 1 ∷ 0 ∷ 3 ∷ 3 ∷ []) ∷
     -- a text of kind 3 and of kind 4 named
     scanCase note (bare "A" ++ bare "B-1" ++ rec 3 bodyA) (limits half half) (Elimination false 0) 100 room 0
     ((0 ∷ 3 ∷ unity ∷ 2 ∷ 4 ∷ 3 ∷ 3 ∷ 0 ∷ []) ++ name (text "B-1") 61) ∷
     scanCase note (bare "A" ++ rec 4 bodyA) (limits half half) (Elimination false 0) 100 room 0
     ((0 ∷ 2 ∷ unity ∷ 2 ∷ 4 ∷ 4 ∷ 1 ∷ 0 ∷ []) ++ name (text "A") 63) ∷
     -- the shallow limit at equality goes on; after the last pass the best is taken again
-    scanCase note bookA (limits half unity) (Elimination true 1) 100 room 4
-    ((0 ∷ 6 ∷ unity ∷ 2 ∷ 4 ∷ 2 ∷ 1 ∷ 1 ∷ []) ++ name (text "A") 63 ++ 0 ∷ 0 ∷ 1 ∷ unity ∷ []) ∷
-    scanCase note bookA (limits half unity) (Elimination true 1) 5 room 4
-    ((12 ∷ 5 ∷ unity ∷ 2 ∷ 4 ∷ 2 ∷ 1 ∷ 1 ∷ []) ++ name (text "A") 63 ++ 0 ∷ 0 ∷ 1 ∷ unity ∷ []) ∷
-    scanCase note bookA (limits half 0x3f7fffff) (Elimination true 1) 100 room 4 ((0 ∷ 1 ∷ unity ∷ 2 ∷ 4 ∷ 2 ∷ 1 ∷ 0 ∷ []) ++ name (text "A") 63 ++ replicate 4 7) ∷
+    scanCase note bookA (limits half unity) (Elimination true 1) 100 room 6
+    ((0 ∷ 6 ∷ unity ∷ 2 ∷ 4 ∷ 2 ∷ 1 ∷ 1 ∷ []) ++ name (text "A") 63 ++ 0 ∷ 0 ∷ 1 ∷ unity ∷ 0 ∷ 16 ∷ []) ∷
+    scanCase note bookA (limits half unity) (Elimination true 1) 5 room 6
+    ((12 ∷ 5 ∷ unity ∷ 2 ∷ 4 ∷ 2 ∷ 1 ∷ 1 ∷ []) ++ name (text "A") 63 ++ 0 ∷ 0 ∷ 1 ∷ unity ∷ 0 ∷ 16 ∷ []) ∷
+    scanCase note bookA (limits half 0x3f7fffff) (Elimination true 1) 100 room 6 ((0 ∷ 1 ∷ unity ∷ 2 ∷ 4 ∷ 2 ∷ 1 ∷ 0 ∷ []) ++ name (text "A") 63 ++ replicate 6 7) ∷
     -- above the shallow limit alone goes on; no line but the range is blanked; of the pairs the latest, whose bounds take a scoring more
-    scanCase (text "a b\nx y") slim (limits 0x3f666666 0) (Elimination true 1) 100 room 4
-    ((0 ∷ 7 ∷ half ∷ 1 ∷ 4 ∷ 0 ∷ 0 ∷ 1 ∷ []) ++ noName ++ 0 ∷ 0 ∷ 1 ∷ unity ∷ []) ∷
-    scanCase (text "a b\na b") slim (limits half unity) (Elimination true 2) 100 room 8
-    ((0 ∷ 14 ∷ half ∷ 1 ∷ 4 ∷ 0 ∷ 0 ∷ 2 ∷ []) ++ noName ++ 0 ∷ 0 ∷ 1 ∷ unity ∷ 0 ∷ 1 ∷ 2 ∷ unity ∷ []) ∷
-    scanCase (text "a b\nx y") slim (limits half unity) (TopDown 1) 100 room 8
-    ((0 ∷ 9 ∷ 0 ∷ 0 ∷ 0 ∷ 0 ∷ 0 ∷ 1 ∷ []) ++ noName ++ (0 ∷ 0 ∷ 1 ∷ unity ∷ []) ++ replicate 4 7) ∷
+    scanCase (text "a b\nx y") slim (limits 0x3f666666 0) (Elimination true 1) 100 room 6
+    ((0 ∷ 7 ∷ half ∷ 1 ∷ 4 ∷ 0 ∷ 0 ∷ 1 ∷ []) ++ noName ++ 0 ∷ 0 ∷ 1 ∷ unity ∷ 0 ∷ 3 ∷ []) ∷
+    scanCase (text "a b\na b") slim (limits half unity) (Elimination true 2) 100 room 12
+    ((0 ∷ 14 ∷ half ∷ 1 ∷ 4 ∷ 0 ∷ 0 ∷ 2 ∷ []) ++ noName ++ 0 ∷ 0 ∷ 1 ∷ unity ∷ 0 ∷ 3 ∷ 0 ∷ 1 ∷ 2 ∷ unity ∷ 4 ∷ 7 ∷ []) ∷
+    scanCase (text "a b\nx y") slim (limits half unity) (TopDown 1) 100 room 12
+    ((0 ∷ 9 ∷ 0 ∷ 0 ∷ 0 ∷ 0 ∷ 0 ∷ 1 ∷ []) ++ noName ++ (0 ∷ 0 ∷ 1 ∷ unity ∷ 0 ∷ 3 ∷ []) ++ replicate 6 7) ∷
     -- no results without optimize; a budget of none; the largest step; -0.0 is from 0.0
     scanCase note bookA (limits half half) (Elimination false 2) 100 room 0 ((0 ∷ 1 ∷ unity ∷ 2 ∷ 4 ∷ 2 ∷ 1 ∷ 0 ∷ []) ++ name (text "A") 63) ∷
     scanCase note bookA (limits half half) (Elimination false 2) 0 room 0 ((12 ∷ 0 ∷ 0 ∷ 0 ∷ 0 ∷ 0 ∷ 0 ∷ 0 ∷ []) ++ noName) ∷
-    scanCase (text "my first license\nx") bookA (limits 0x80000000 0) (TopDown 0xFFFFFFFFFFFFFFFF) 100 room 8
-    ((0 ∷ 6 ∷ 0 ∷ 0 ∷ 0 ∷ 0 ∷ 0 ∷ 2 ∷ []) ++ noName ++ 0 ∷ 0 ∷ 0 ∷ 0 ∷ 0 ∷ 1 ∷ 1 ∷ 0 ∷ []) ∷
+    scanCase (text "my first license\nx") bookA (limits 0x80000000 0) (TopDown 0xFFFFFFFFFFFFFFFF) 100 room 12
+    ((0 ∷ 6 ∷ 0 ∷ 0 ∷ 0 ∷ 0 ∷ 0 ∷ 2 ∷ []) ++ noName ++ 0 ∷ 0 ∷ 0 ∷ 0 ∷ 0 ∷ 0 ∷ 0 ∷ 1 ∷ 1 ∷ 0 ∷ 17 ∷ 17 ∷ []) ∷
     -- m and t: of all lines, of an empty table, of two, of none shared; with 8 nothing of the range; with 12 none before all are scored
     scoreCase note bookA (view 0 1) 0 room (0 ∷ unity ∷ 2 ∷ 4 ∷ []) ∷
     scoreCase second bookA (view 0 4) 0 room (0 ∷ 0x3f2aaaab ∷ 2 ∷ 6 ∷ []) ∷
@@ -297,11 +297,11 @@ others =
     scoreCase [] (bare "A") (view 0 1) 0 room (0 ∷ 0 ∷ 0 ∷ 0 ∷ []) ∷
     scoreCase (text "x y") bookA (view 0 1) 0 room (0 ∷ 0 ∷ 0 ∷ 3 ∷ []) ∷
     boundsCase second bookA (view 0 5) (8 ∷ 0 ∷ 0 ∷ 0 ∷ 0 ∷ 0 ∷ 0 ∷ []) ∷
-    budgetCase 0 ((12 ∷ 0 ∷ 0 ∷ 0 ∷ 0 ∷ 0 ∷ 0 ∷ 0 ∷ []) ++ noName ++ replicate 40 7) ∷
-    budgetCase 1 ((12 ∷ 1 ∷ 0x3f2aaaab ∷ 2 ∷ 6 ∷ 0 ∷ 0 ∷ 0 ∷ []) ++ noName ++ replicate 40 7) ∷
+    budgetCase 0 ((12 ∷ 0 ∷ 0 ∷ 0 ∷ 0 ∷ 0 ∷ 0 ∷ 0 ∷ []) ++ noName ++ replicate 60 7) ∷
+    budgetCase 1 ((12 ∷ 1 ∷ 0x3f2aaaab ∷ 2 ∷ 6 ∷ 0 ∷ 0 ∷ 0 ∷ []) ++ noName ++ replicate 60 7) ∷
     scanCase (text "x y") bookA (limits half half) (Elimination false 0) 1 room 0 ((0 ∷ 1 ∷ 0 ∷ 0 ∷ 3 ∷ 0 ∷ 0 ∷ 0 ∷ []) ++ noName) ∷
-    scanCase second bookA (limits 0x3f666666 unity) (TopDown 1) 100 room 16
-    ((0 ∷ 12 ∷ 0 ∷ 0 ∷ 0 ∷ 0 ∷ 0 ∷ 1 ∷ []) ++ noName ++ (0 ∷ 1 ∷ 2 ∷ unity ∷ []) ++ replicate 12 7) ∷
+    scanCase second bookA (limits 0x3f666666 unity) (TopDown 1) 100 room 24
+    ((0 ∷ 12 ∷ 0 ∷ 0 ∷ 0 ∷ 0 ∷ 0 ∷ 1 ∷ []) ++ noName ++ (0 ∷ 1 ∷ 2 ∷ unity ∷ 22 ∷ 41 ∷ []) ++ replicate 18 7) ∷
     -- two fractions that are one float: the earlier text, unless the later one's kind goes before; its own m and t, whichever is the larger
     tieCase 2 4_095 2 4_097 (0 ∷ 0x3f7ff800 ∷ 4_095 ∷ 8_191 ∷ []) ∷
     tieCase 2 4_097 2 4_095 (0 ∷ 0x3f7ff800 ∷ 4_096 ∷ 8_193 ∷ []) ∷

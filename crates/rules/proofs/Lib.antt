@@ -3,9 +3,11 @@ pub mod Cases
 pub mod BothCases
 pub mod EditionCases
 pub mod AccentCases
+pub mod PlaceCases
 pub mod ClassLaws
 pub mod BoolLaws
 pub mod PointLaws
+pub mod PlaceLaws
 pub mod Steps
 pub mod HitLaws
 pub mod DownLaws
@@ -31,3 +33,4 @@ pub mod RankLaws
 pub mod VerdictLaws
 pub mod PairLaws
 pub mod NameLaws
+pub mod RecordLaws

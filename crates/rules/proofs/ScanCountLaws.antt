@@ -17,7 +17,7 @@ use Rattle.rules.specs.declared.Mode.{Mode}
 use Rattle.rules.specs.declared.Mode.the-variants.{Elimination, TopDown}
 use Rattle.rules.specs.Sizes.{storedMost, linesMost, recordWidth}
 use Rattle.rules.specs.Search.{View, view, whole, blank, Stored, Scoring, done, Best, best, bounds}
-use Rattle.rules.specs.Scan.{Event, overall, found, Recorded, after, stops, below, eachPass, elimination, steps, viewsOf, Pair, latest, settled, contained, andOn, downOn, downFrom, topDown, events, afford, scorings, records, numbers}
+use Rattle.rules.specs.Scan.{Event, overall, found, Recorded, after, stops, below, eachPass, elimination, steps, viewsOf, Pair, latest, settled, contained, andOn, downOn, downFrom, topDown, events, afford, scorings, records, six, numbers}
 use Rattle.rules.specs.Count.{mostFor, mostElimination, mostTopDown}
 use Rattle.rules.specs.Refusal.{stepZero, resultsNeed}
 use Rattle.rules.proofs.BoolLaws.{cond-of}
@@ -46,7 +46,7 @@ unfolding scorings records
 found-within r es n m w = (w .0, omega arith)
 
 -- ---- elimination
-blank-length : (a e : ℕ) (ls : List (List ℕ)) → length (blank a e ls) ≡ length ls
+pub blank-length : (a e : ℕ) (ls : List (List ℕ)) → length (blank a e ls) ≡ length ls
 unfolding blank
 blank-length a e [] = refl
 blank-length a zero (l ∷ ls) = refl
@@ -232,10 +232,10 @@ topDown-fits N s L h l =
     omega (arith, mul-le-mul l r)
 
 -- ---- what a budget leaves of the records fits the results area
-pub numbers-length : (rs : List Recorded) → length (numbers rs) ≡ recordWidth * length rs
-unfolding numbers
-numbers-length [] = refl
-numbers-length (r ∷ rs) = omega (arith, numbers-length rs)
+pub numbers-length : (t : List ℕ) (rs : List Recorded) → length (numbers t rs) ≡ recordWidth * length rs
+unfolding numbers six
+numbers-length t [] = refl
+numbers-length t (r ∷ rs) = omega (arith, numbers-length t rs)
 
 -- a budget adds no record
 afford-records : (b : ℕ) (es : List Event) → length (records (afford b es)) ≤ length (records es)
@@ -248,12 +248,12 @@ afford-records b es =
 all-fit : (lim : Limits) (mode : Mode) (ss : List Stored) (ls : List (List ℕ)) → stepZero mode ≡ false →
     recordWidth * length (records (events lim mode ss ls)) ≤ resultsNeed (length ls) mode
 unfolding events stepZero resultsNeed
-all-fit lim (Elimination true p) ss ls h = mul-le-mul-left 4 (elimination-records lim true p ss ls)
-all-fit lim (Elimination false p) ss ls h = mul-le-mul-left 4 (elimination-records lim false p ss ls)
-all-fit lim (TopDown s) ss ls h = mul-le-mul-left 4 (topDown-records lim s ss ls (omega (arith, eqb-false s 0 h)))
+all-fit lim (Elimination true p) ss ls h = mul-le-mul-left recordWidth (elimination-records lim true p ss ls)
+all-fit lim (Elimination false p) ss ls h = mul-le-mul-left recordWidth (elimination-records lim false p ss ls)
+all-fit lim (TopDown s) ss ls h = mul-le-mul-left recordWidth (topDown-records lim s ss ls (omega (arith, eqb-false s 0 h)))
 
-pub results-fit : (lim : Limits) (mode : Mode) (ss : List Stored) (ls : List (List ℕ)) (b : ℕ) → stepZero mode ≡ false →
-    length (numbers (records (afford b (events lim mode ss ls)))) ≤ resultsNeed (length ls) mode
-results-fit lim mode ss ls b h =
+pub results-fit : (t : List ℕ) (lim : Limits) (mode : Mode) (ss : List Stored) (ls : List (List ℕ)) (b : ℕ) → stepZero mode ≡ false →
+    length (numbers t (records (afford b (events lim mode ss ls)))) ≤ resultsNeed (length ls) mode
+results-fit t lim mode ss ls b h =
     let es = events lim mode ss ls in
-    omega (arith, numbers-length (records (afford b es)), afford-records b es, all-fit lim mode ss ls h)
+    omega (arith, numbers-length t (records (afford b es)), afford-records b es, all-fit lim mode ss ls h)

@@ -116,7 +116,7 @@ scan t bs lim mode b a results =
     answered (refusal (ofScan t bs lim mode b a results)) lim (nameParts false bs) (happened t bs lim mode b a results)
 
 unfoldable pub resultsAfter : List ℕ → List (List ℕ) → Limits → Mode → ℕ → Areas → List ℕ → List ℕ
-resultsAfter t bs lim mode b a old = over (numbers (records (happened t bs lim mode b a (length old)))) old
+resultsAfter t bs lim mode b a old = over (numbers t (records (happened t bs lim mode b a (length old)))) old
 
 -- ---- name a stored text (gives its kind, and where its licence's name stands)
 -- the stored text k under the refusal n: no text where n is one

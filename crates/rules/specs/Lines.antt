@@ -1,11 +1,11 @@
--- Line passes, on each piece between newline bytes: its code points.
+-- Line passes, on each piece between newline bytes: its code points. How many lines there are, and where they stand in the text, in bytes.
 -- Assumes nothing.
-use Prim.Native.Nat.{ℕ, suc, _+_}
+use Prim.Native.Nat.{ℕ, suc, _+_, _-_}
 use mathlib.Core.Bool.{Bool, false, not, _&&_, _||_, cond}
 use mathlib.Core.List.{List, [], _∷_, _++_, map}
 use lib.Dec.{eqb}
 use lib.ListN.{length, drop}
-use Rattle.rules.specs.Bytes.{text, space, quote, dropped, among, solid, starts, keep, runs, trim, split}
+use Rattle.rules.specs.Bytes.{text, newline, space, quote, dropped, among, lineLen, solid, starts, keep, runs, trim, split}
 use Rattle.rules.specs.Points.{points, encoded}
 
 -- 3. `http://` or `https://`, in lower case, with its following run of one or more non-spaces
@@ -59,6 +59,20 @@ lines e t = linesBy (gap e) t
 -- L
 unfoldable pub lineCount : List ℕ → ℕ
 lineCount t = length (split 10 t)
+
+-- ---- where lines stand in the text, in bytes
+-- where line k starts; the text's length from L on
+unfoldable pub lineStart : ℕ → List ℕ → ℕ
+lineStart k [] = 0
+lineStart k (x ∷ xs) = let more = suc (lineStart (cond (newline x) (k - 1) k) xs) in cond (eqb k 0) 0 more
+
+-- where it ends: its newline is not counted, any other byte is
+unfoldable pub lineEnd : ℕ → List ℕ → ℕ
+lineEnd k t = let start = lineStart k t in start + lineLen (drop start t)
+
+-- where the lines from `first` up to `after` end: an empty range where it starts
+unfoldable pub rangeEnd : ℕ → ℕ → List ℕ → ℕ
+rangeEnd first after t = cond (eqb first after) (lineStart first t) (lineEnd (after - 1) t)
 
 -- how many bytes lines take as UTF-8, with a newline each
 unfoldable pub size : List (List ℕ) → ℕ

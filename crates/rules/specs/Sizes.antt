@@ -35,4 +35,4 @@ wordArea n = 12 * n + 64
 
 -- a record of a scan: its numbers in the results area
 abbrev pub recordWidth : ℕ
-recordWidth = 4
+recordWidth = 6

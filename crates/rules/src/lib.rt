@@ -32,7 +32,7 @@ pub const WORDS_EACH: usize = 12;
 pub const AREA_SPARE: usize = 64;
 
 // A record of a scan: its numbers in the results area.
-pub const RECORD_WIDTH: usize = 4;
+pub const RECORD_WIDTH: usize = 6;
 
 // The two limits of a scan. They travel together, by value.
 pub struct Limits {

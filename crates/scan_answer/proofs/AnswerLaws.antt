@@ -97,12 +97,12 @@ module _ (t : List ℕ) (books : Shelf) (lim : Limits) (mode : Mode) (budget : �
   count = length (scorings all)
 
   pub scan-room : (left : Scorings) → left ≡ record { count = budget } → (ls : List (List ℕ)) → ls ≡ lines (edition (books .first)) t →
-      length (paidNumbers (left .count) (events lim mode (texts books) ls)) ≤ length r₀
+      length (paidNumbers t (left .count) (events lim mode (texts books) ls)) ≤ length r₀
   unfolding paidNumbers
   scan-room left made ls e =
-      rw (made, e) (omega (arith, results-fit lim mode (texts books) (lines (edition (books .first)) t) budget (passed .step), passed .room, ap (λ (n : ℕ). resultsNeed n mode) (lines-count (edition (books .first)) t)))
+      rw (made, e) (omega (arith, results-fit t lim mode (texts books) (lines (edition (books .first)) t) budget (passed .step), passed .room, ap (λ (n : ℕ). resultsNeed n mode) (lines-count (edition (books .first)) t)))
 
-module _ (t : List ℕ) (books : Shelf) (lim : Limits) (mode : Mode) (budget : ℕ) (r₀ r : List ℕ) (x : Outcome) (h : Eliminated (full t books lim mode) budget books r₀ r x) where
+module _ (t : List ℕ) (books : Shelf) (lim : Limits) (mode : Mode) (budget : ℕ) (r₀ r : List ℕ) (x : Outcome) (h : Eliminated t (full t books lim mode) budget books r₀ r x) where
   abbrev es : List Event
   es = afford budget (full t books lim mode)
 
@@ -143,7 +143,7 @@ module _ (t : List ℕ) (books : Shelf) (lim : Limits) (mode : Mode) (budget : �
 
   recorded : x .run .records ≡ length (records es)
   unfolding paidNumbers
-  recorded = omega (arith, h .ran .wrote .count, numbers-length (records es))
+  recorded = omega (arith, h .ran .wrote .count, numbers-length t (records es))
 
   pub answer-fits : x .run .left ≤ budget
   answer-fits = ends .within
@@ -177,9 +177,9 @@ module _ (t : List ℕ) (books : Shelf) (lim : Limits) (mode : Mode) (budget : �
         part = part i;
       }
 
-  pub results-are : r ≡ over (numbers (records es)) r₀
+  pub results-are : r ≡ over (numbers t (records es)) r₀
   unfolding over paidNumbers
-  results-are = h .ran .wrote .bytes ∙ ap (λ (n : ℕ). numbers (records es) ++ drop n r₀) (h .ran .wrote .count)
+  results-are = h .ran .wrote .bytes ∙ ap (λ (n : ℕ). numbers t (records es) ++ drop n r₀) (h .ran .wrote .count)
 
 -- ---- the two ends of the job
 module _ (t : List ℕ) (bs : List (List ℕ)) (lim : Limits) (mode : Mode) (budget : ℕ) (b₀ w₀ r₀ : List ℕ) where
@@ -214,7 +214,7 @@ module _ (t : List ℕ) (bs : List (List ℕ)) (lim : Limits) (mode : Mode) (bud
       let none : [] ≡ happened t bs lim mode budget (lent b₀ w₀) (length r₀) = sym (rw (k, ne-eqb n 0 q, ne-eqb n 12 (not-early 12 n refl h))) in
       rw r (record {
         answer = refused-is n ∙ ap₂ (λ (m : ℕ) (l : List Event). answered m lim (nameParts false bs) l) (sym k) none;
-        results = ap (λ (l : List Event). over (numbers (records l)) r₀) none;
+        results = ap (λ (l : List Event). over (numbers t (records l)) r₀) none;
         bytes = kept n b₀ h;
         words = kept n w₀ h;
       })
@@ -259,7 +259,7 @@ module _ (t : List ℕ) (bs : List (List ℕ)) (lim : Limits) (mode : Mode) (bud
         let said-so : x .refusal ≡ number = ap (λ (y : Scanned). y .refusal) answer in
         record {
           answer = answer;
-          results = s .results ∙ ap (λ (l : List Event). over (numbers (records l)) r₀) happens;
+          results = s .results ∙ ap (λ (l : List Event). over (numbers t (records l)) r₀) happens;
           bytes = zero-after z m b₀ b l p ∙ ap (λ (i : ℕ). areaAfter i b₀) (sym said-so);
           words = zero-after z n w₀ w k q ∙ ap (λ (i : ℕ). areaAfter i w₀) (sym said-so);
         }

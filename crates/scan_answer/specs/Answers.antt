@@ -62,4 +62,4 @@ overNumber budget es = cond (ltb budget (length (scorings es))) 12 0
 
 pub record Scans (t : List ℕ) (books : Shelf) (lim : Limits) (mode : Mode) (budget : ℕ) (r₀ r : List ℕ) (a : Scanned) : Type 0 where
   pub answer : a ≡ answered (overNumber budget (full t books lim mode)) lim (partsOf books) (afford budget (full t books lim mode))
-  pub results : r ≡ over (numbers (records (afford budget (full t books lim mode)))) r₀
+  pub results : r ≡ over (numbers t (records (afford budget (full t books lim mode)))) r₀

@@ -78,8 +78,8 @@ unfolding namePart textIn
 none-name books = record { order = omega arith; high = omega arith; most = omega arith; stands = refl }
 
 -- ---- the whole
-module _ {scope : Scope} {class area₀ words₀ : List ℕ} {books : Shelf} (s : Scanning scope class area₀ words₀ books) (optimize : Bool) (p budget : ℕ) (r₀ : List ℕ)
-    (room : length (paidNumbers budget (elimination (scope .limits) optimize p (texts books) (linesAt area₀ words₀ (scope .lines)))) ≤ length r₀) where
+module _ (note : List ℕ) {scope : Scope} {class area₀ words₀ : List ℕ} {books : Shelf} (s : Scanning scope class area₀ words₀ books) (optimize : Bool) (p budget : ℕ) (r₀ : List ℕ)
+    (room : length (paidNumbers note budget (elimination (scope .limits) optimize p (texts books) (linesAt area₀ words₀ (scope .lines)))) ≤ length r₀) where
   abbrev lim : Limits
   lim = scope .limits
 
@@ -106,14 +106,14 @@ module _ {scope : Scope} {class area₀ words₀ : List ℕ} {books : Shelf} (s 
 
   module _ {area words : List ℕ} (v : View) (e : v ≡ view 0 (scope .lines)) where
     pub whole-out : (x : Outcome) → BestDone (scope .n) (scope .lines) area₀ words₀ area words v books budget chosen.Out → x .best ≡ noBestYet → x .run ≡ runOf 0 none →
-        Eliminated all budget books r₀ r₀ x
+        Eliminated note all budget books r₀ r₀ x
     unfolding chosenIn
     whole-out x d b q =
         let out : pay made budget ≡ none = ap (λ (m : Made rules.Best). pay m budget) (sym (asked v e)) ∙ sym (d .is) in
         record {
           best = ap (bestIn books) b ∙ none-is books ∙ sym (ap (λ (es : List Event). verdict (afford budget es)) split ∙ verdict-out made budget _ out);
           name = subst (λ (y : Best). NameFits books (y .text)) (sym b) (none-name books);
-          ran = going-out made (overall (made .value) ∷ more (made .value)) (x .run) out q (going-as split (going-first all budget r₀ room));
+          ran = going-out made (overall (made .value) ∷ more (made .value)) (x .run) out q (going-as split (going-first note all budget r₀ room));
         }
 
     module _ (best : Best) (left : Scorings) (d : BestDone (scope .n) (scope .lines) area₀ words₀ area words v books budget (chosen.Found best left)) where
@@ -132,10 +132,10 @@ module _ {scope : Scope} {class area₀ words₀ : List ℕ} {books : Shelf} (s 
       then : all ≡ after (made .list) (overall (bestIn books best) ∷ more (bestIn books best))
       then = split ∙ ap (λ (b : rules.Best). after (made .list) (overall b ∷ more b)) is
 
-      writes : paidNumbers budget all ≡ paidNumbers (left .count) (more (bestIn books best))
+      writes : paidNumbers note budget all ≡ paidNumbers note (left .count) (more (bestIn books best))
       writes =
-          ap (paidNumbers budget) then ∙ paid-written made budget (overall (bestIn books best) ∷ more (bestIn books best)) (record { value = bestIn books best; left = left .count }) paid ∙
-          overall-written (left .count) (bestIn books best) (more (bestIn books best))
+          ap (paidNumbers note budget) then ∙ paid-written made budget (overall (bestIn books best) ∷ more (bestIn books best)) note (record { value = bestIn books best; left = left .count }) paid ∙
+          overall-written note (left .count) (bestIn books best) (more (bestIn books best))
 
       leaves : leftOver budget all ≡ leftOver (left .count) (more (bestIn books best))
       leaves =
@@ -143,7 +143,7 @@ module _ {scope : Scope} {class area₀ words₀ : List ℕ} {books : Shelf} (s 
           overall-left (left .count) (bestIn books best) (more (bestIn books best))
 
       -- a run of what follows is a run of the whole
-      ended-as : {r : List ℕ} (x : Outcome) → x .best ≡ best → Ran (more (bestIn books best)) (left .count) r₀ r (x .run) → Eliminated all budget books r₀ r x
+      ended-as : {r : List ℕ} (x : Outcome) → x .best ≡ best → Ran note (more (bestIn books best)) (left .count) r₀ r (x .run) → Eliminated note all budget books r₀ r x
       ended-as {r} x b a = record {
         best = ap (bestIn books) b ∙ sym (ap (λ (es : List Event). verdict (afford budget es)) then ∙
             verdict-paid made budget (record { value = bestIn books best; left = left .count }) (bestIn books best) (more (bestIn books best)) paid);
@@ -154,9 +154,9 @@ module _ {scope : Scope} {class area₀ words₀ : List ℕ} {books : Shelf} (s 
         };
       }
 
-      pub whole-stop : (x : Outcome) → stops lim (bestIn books best) || not optimize ≡ true → x .best ≡ best → x .run ≡ runOf 0 (some (left .count)) → Eliminated all budget books r₀ r₀ x
+      pub whole-stop : (x : Outcome) → stops lim (bestIn books best) || not optimize ≡ true → x .best ≡ best → x .run ≡ runOf 0 (some (left .count)) → Eliminated note all budget books r₀ r₀ x
       whole-stop x t b q =
-          ended-as x b (going-end (x .run) q (going-as (none-more t) (going-first (more (bestIn books best)) (left .count) r₀ (subst (λ (l : List ℕ). length l ≤ length r₀) writes room))))
+          ended-as x b (going-end (x .run) q (going-as (none-more t) (going-first note (more (bestIn books best)) (left .count) r₀ (subst (λ (l : List ℕ). length l ≤ length r₀) writes room))))
         where
           none-more : stops lim (bestIn books best) || not optimize ≡ true → more (bestIn books best) ≡ []
           none-more t = rw t
@@ -166,12 +166,12 @@ module _ {scope : Scope} {class area₀ words₀ : List ℕ} {books : Shelf} (s 
         passes : more (bestIn books best) ≡ eachPass lim (texts books) p (linesAt area words (scope .lines)) (bestIn books best)
         passes = rw t (ap (λ (ms : List (List ℕ)). eachPass lim (texts books) p ms (bestIn books best)) (sym (d .held .same)))
 
-        pub whole-room : length (paidNumbers (left .count) (eachPass lim (texts books) p (linesAt area words (scope .lines)) (bestIn books best))) ≤ length r₀
-        whole-room = subst (λ (l : List ℕ). length l ≤ length r₀) (writes ∙ ap (paidNumbers (left .count)) passes) room
+        pub whole-room : length (paidNumbers note (left .count) (eachPass lim (texts books) p (linesAt area words (scope .lines)) (bestIn books best))) ≤ length r₀
+        whole-room = subst (λ (l : List ℕ). length l ≤ length r₀) (writes ∙ ap (paidNumbers note (left .count)) passes) room
 
-        pub whole-on : {r : List ℕ} (x : Outcome) → x .best ≡ best → Ran (eachPass lim (texts books) p (linesAt area words (scope .lines)) (bestIn books best)) (left .count) r₀ r (x .run) →
-            Eliminated all budget books r₀ r x
-        whole-on {r} x b a = ended-as x b (subst (λ (es : List Event). Ran es (left .count) r₀ r (x .run)) (sym passes) a)
+        pub whole-on : {r : List ℕ} (x : Outcome) → x .best ≡ best → Ran note (eachPass lim (texts books) p (linesAt area words (scope .lines)) (bestIn books best)) (left .count) r₀ r (x .run) →
+            Eliminated note all budget books r₀ r x
+        whole-on {r} x b a = ended-as x b (subst (λ (es : List Event). Ran note es (left .count) r₀ r (x .run)) (sym passes) a)
 
 -- ---- whether passes follow
 pub stop-by-best : (a b : Bool) → a ≡ true → a || b ≡ true

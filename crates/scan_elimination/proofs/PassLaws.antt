@@ -38,7 +38,7 @@ use Rattle.scan_ranges.specs.declared.Scope.{Scope}
 use Rattle.scan_ranges.specs.Run.{paidNumbers, runOf, Scanning, BestWithout, RangeFits, Ran}
 use Rattle.scan_ranges.proofs.RunLaws.{paid-is}
 use Rattle.scan_ranges.proofs.HeldLaws.{range-out, range-found, fits-of}
-use Rattle.scan_ranges.proofs.GoingLaws.{Going, going-first, going-as, going-paid, going-out, going-room, going-found, going-end, four}
+use Rattle.scan_ranges.proofs.GoingLaws.{Going, going-first, going-as, going-paid, going-out, going-room, going-found, going-end, sixOf}
 
 -- ---- the best of what white-out leaves, of areas that still hold the same lines
 pub without-held : {scope : Scope} {class area₀ words₀ area₁ words₁ area words : List ℕ} {books : Shelf} {range : Bounds} {budget : ℕ} {r : Chosen} →
@@ -82,30 +82,30 @@ best-without {scope} {class} {area₀} {words₀} {words₁} {area} {words} {boo
     }
 
 -- ---- the passes
-pub record Passing (scope : Scope) (class area₀ words₀ : List ℕ) (books : Shelf) (r₀ : List ℕ) (p budget : ℕ) (first : Best) (area words r : List ℕ) (best : Best) (left k : ℕ) : Type 0 where
+pub record Passing (note : List ℕ) (scope : Scope) (class area₀ words₀ : List ℕ) (books : Shelf) (r₀ : List ℕ) (p budget : ℕ) (first : Best) (area words r : List ℕ) (best : Best) (left k : ℕ) : Type 0 where
   pub ready : Scanning scope class area words books
   pub area-long : length area ≡ length area₀
   pub words-long : length words ≡ length words₀
   pub stands : Stands books (best .text)
   pub within : k ≤ p
   pub going :
-      Going (eachPass (scope .limits) (texts books) p (linesAt area₀ words₀ (scope .lines)) (bestIn books first)) budget r₀ r k left
+      Going note (eachPass (scope .limits) (texts books) p (linesAt area₀ words₀ (scope .lines)) (bestIn books first)) budget r₀ r k left
       (eachPass (scope .limits) (texts books) (p - k) (linesAt area words (scope .lines)) (bestIn books best))
 
-pub pass-first : (scope : Scope) (class area words : List ℕ) (books : Shelf) (r : List ℕ) (p budget : ℕ) (first : Best) → Scanning scope class area words books → Stands books (first .text) →
-    length (paidNumbers budget (eachPass (scope .limits) (texts books) p (linesAt area words (scope .lines)) (bestIn books first))) ≤ length r →
-    Passing scope class area words books r p budget first area words r first budget 0
-pass-first scope class area words books r p budget first s t h = record {
+pub pass-first : (note : List ℕ) (scope : Scope) (class area words : List ℕ) (books : Shelf) (r : List ℕ) (p budget : ℕ) (first : Best) → Scanning scope class area words books → Stands books (first .text) →
+    length (paidNumbers note budget (eachPass (scope .limits) (texts books) p (linesAt area words (scope .lines)) (bestIn books first))) ≤ length r →
+    Passing note scope class area words books r p budget first area words r first budget 0
+pass-first note scope class area words books r p budget first s t h = record {
   ready = s;
   area-long = refl;
   words-long = refl;
   stands = t;
   within = omega arith;
-  going = going-as (ap (λ (n : ℕ). eachPass (scope .limits) (texts books) n (linesAt area words (scope .lines)) (bestIn books first)) (sym (sub-zero p))) (going-first _ budget r h);
+  going = going-as (ap (λ (n : ℕ). eachPass (scope .limits) (texts books) n (linesAt area words (scope .lines)) (bestIn books first)) (sym (sub-zero p))) (going-first note _ budget r h);
 }
 
-module _ {scope : Scope} {class area₀ words₀ : List ℕ} {books : Shelf} {r₀ : List ℕ} {p budget : ℕ} {first : Best} {area words r : List ℕ} {best : Best} {left k : ℕ}
-    (i : Passing scope class area₀ words₀ books r₀ p budget first area words r best left k) where
+module _ {note : List ℕ} {scope : Scope} {class area₀ words₀ : List ℕ} {books : Shelf} {r₀ : List ℕ} {p budget : ℕ} {first : Best} {area words r : List ℕ} {best : Best} {left k : ℕ}
+    (i : Passing note scope class area₀ words₀ books r₀ p budget first area words r best left k) where
   abbrev pub lim : Limits
   lim = scope .limits
 
@@ -148,7 +148,7 @@ module _ {scope : Scope} {class area₀ words₀ : List ℕ} {books : Shelf} {r�
 
   -- where the budget is out
   pub pass-out : (v : View) (x : Run) → k < p → v ≡ view 0 (scope .lines) → ranged.Out ≡ rangedOf (pay (bounds ls v text) left) → x ≡ runOf k none →
-      Ran all budget r₀ r x
+      Ran note all budget r₀ r x
   pass-out v x l e o q =
       going-out made (told (made .value)) x (ap (λ (m : Made Bounds). pay m left) (sym (asked v e)) ∙ range-out (pay (bounds ls v text) left) o) q
       (going-as (split l) (i .going))
@@ -161,7 +161,7 @@ module _ {scope : Scope} {class area₀ words₀ : List ℕ} {books : Shelf} {r�
     is : made .value ≡ range
     is = sym (paid-is made left (record { value = range; left = rest .count }) paid .0)
 
-    past : Going all budget r₀ r k (rest .count) (told range)
+    past : Going note all budget r₀ r k (rest .count) (told range)
     past =
         going-paid made (told range) (record { value = range; left = rest .count }) paid
         (going-as (split l ∙ ap (λ (x : Bounds). after (made .list) (told x)) is) (i .going))
@@ -170,7 +170,7 @@ module _ {scope : Scope} {class area₀ words₀ : List ℕ} {books : Shelf} {r�
     unfolding whole linesAt
     pass-fits = fits-of (i .ready) (whole ls) (best .text) (omega arith) (omega (arith, lines-length area words 0 (scope .lines))) (i .stands) range is
 
-    pub pass-below : (x : Run) → below lim range ≡ true → x ≡ runOf k (some (rest .count)) → Ran all budget r₀ r x
+    pub pass-below : (x : Run) → below lim range ≡ true → x ≡ runOf k (some (rest .count)) → Ran note all budget r₀ r x
     pass-below x b q = going-end x q (going-as (low b) past)
       where
         low : below lim range ≡ true → told range ≡ []
@@ -187,18 +187,18 @@ module _ {scope : Scope} {class area₀ words₀ : List ℕ} {books : Shelf} {r�
       pass-room = going-room recorded (more range) (going-as high past)
 
       -- past the record
-      module _ (r′ : List ℕ) (q : r′ ≡ take (recordWidth * k) r ++ four recorded ++ drop (recordWidth * k + recordWidth) r) where
-        on : Going all budget r₀ r′ (k + 1) (rest .count) (more range)
+      module _ (r′ : List ℕ) (q : r′ ≡ take (recordWidth * k) r ++ sixOf note recorded ++ drop (recordWidth * k + recordWidth) r) where
+        on : Going note all budget r₀ r′ (k + 1) (rest .count) (more range)
         on = going-found recorded (more range) (going-as high past) r′ q
 
         pub pass-out-again : {area′ words′ : List ℕ} (x : Run) → BestWithout scope class area words area′ words′ books range (rest .count) chosen.Out → x ≡ runOf (k + 1) none →
-            Ran all budget r₀ r′ x
+            Ran note all budget r₀ r′ x
         unfolding chosenIn
         pass-out-again x w e′ =
             going-out (next range) (eachPass lim (texts books) (p - (k + 1)) (without range) (next range .value)) x (sym (w .is)) e′ on
 
         pub pass-again : {area′ words′ : List ℕ} (best′ : Best) (left′ : Scorings) → BestWithout scope class area words area′ words′ books range (rest .count) (chosen.Found best′ left′) →
-            Passing scope class area₀ words₀ books r₀ p budget first area′ words′ r′ best′ (left′ .count) (k + 1)
+            Passing note scope class area₀ words₀ books r₀ p budget first area′ words′ r′ best′ (left′ .count) (k + 1)
         unfolding chosenIn ChosenStands
         pass-again {area′} {words′} best′ left′ w =
             let paid-best : Paid rules.Best = record { value = bestIn books best′; left = left′ .count } in
@@ -215,7 +215,7 @@ module _ {scope : Scope} {class area₀ words₀ : List ℕ} {books : Shelf} {r�
               going = going-as same (going-paid (next range) es paid-best (sym (w .is)) on);
             }
 
-  pub pass-end : (x : Run) → p ≤ k → x ≡ runOf k (some left) → Ran all budget r₀ r x
+  pub pass-end : (x : Run) → p ≤ k → x ≡ runOf k (some left) → Ran note all budget r₀ r x
   unfolding eachPass
   pass-end x l q = going-end x q (going-as none-left (i .going))
     where

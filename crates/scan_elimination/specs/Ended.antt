@@ -20,7 +20,8 @@ pub record NameFits (books : Shelf) (t : Shelved) : Type 0 where
   pub most : t .text .past - t .text .name ≤ nameMost
   pub stands : namePart (partsOf books) (textIn books t) ≡ partHeld t
 
-pub record Eliminated (es : List Event) (budget : ℕ) (books : Shelf) (r₀ r : List ℕ) (x : Outcome) : Type 0 where
+-- over the bytes of the note
+pub record Eliminated (note : List ℕ) (es : List Event) (budget : ℕ) (books : Shelf) (r₀ r : List ℕ) (x : Outcome) : Type 0 where
   pub best : bestIn books (x .best) ≡ verdict (afford budget es)
   pub name : NameFits books (x .best .text)
-  pub ran : Ran es budget r₀ r (x .run)
+  pub ran : Ran note es budget r₀ r (x .run)

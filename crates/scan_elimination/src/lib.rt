@@ -3,6 +3,7 @@
 // SPDX-License-Identifier: Apache-2.0), changed: the mode `Elimination`, with every scoring charged. Assumes nothing.
 ghost use Prim.Native.Nat.{_≤_};
 ghost use lib.ListN.{length};
+ghost use Rattle.rules.specs.Sizes.{textMost};
 ghost use Rattle.rules.specs.Scan as rules;
 ghost use Rattle.preproc_table.specs.Entries.{linesAt};
 ghost use Rattle.detect_best.specs.Beats.{bestIn};
@@ -19,11 +20,12 @@ use preproc_table::blank_lines;
 use rules::Bounds;
 use scan_limits::below;
 use scan_limits::stops;
+use scan_places::first_mark;
+use scan_places::put_record;
 use scan_ranges::Run;
 use scan_ranges::Scope;
 use scan_ranges::ended;
 use scan_ranges::out_at;
-use scan_ranges::put_record;
 use scan_ranges::text_bounds;
 use scan_ranges::whole_view;
 
@@ -62,6 +64,7 @@ fn best_without<'a>(
 
 // Up to p passes, from the best text of the note as it stands.
 pub fn each_pass<'a>(
+    note: &[u8],
     class: &[u8; 256],
     area: &mut [u8],
     words: &mut [u32],
@@ -75,8 +78,9 @@ pub fn each_pass<'a>(
 ) -> Run
     requires { ⌜ Scanning scope (now class) (now area) (now words) (shelf (now book) (now second)) ⌝ }
     requires { ⌜ Stands (shelf (now book) (now second)) (first .text) ⌝ }
-    requires { ⌜ length (paidNumbers (budget .count) (rules.eachPass (scope .limits) (texts (shelf (now book) (now second))) p (linesAt (now area) (now words) (scope .lines)) (bestIn (shelf (now book) (now second)) first))) ≤ length (now results) ⌝ }
-    ensures { λ r. ⌜ Ran (rules.eachPass (scope .limits) (texts (shelf (now (book .entry)) (now (second .entry)))) p (linesAt (now (area .entry)) (now (words .entry)) (scope .lines)) (bestIn (shelf (now (book .entry)) (now (second .entry))) first)) (budget .count) (now (results .entry)) (now (results .exit)) r ⌝ }
+    requires { ⌜ length (paidNumbers (now note) (budget .count) (rules.eachPass (scope .limits) (texts (shelf (now book) (now second))) p (linesAt (now area) (now words) (scope .lines)) (bestIn (shelf (now book) (now second)) first))) ≤ length (now results) ⌝ }
+    requires { ⌜ length (now note) ≤ textMost ⌝ }
+    ensures { λ r. ⌜ Ran (now (note .entry)) (rules.eachPass (scope .limits) (texts (shelf (now (book .entry)) (now (second .entry)))) p (linesAt (now (area .entry)) (now (words .entry)) (scope .lines)) (bestIn (shelf (now (book .entry)) (now (second .entry))) first)) (budget .count) (now (results .entry)) (now (results .exit)) r ⌝ }
 {
     let v = whole_view(scope.lines);
     let mut best = first;
@@ -100,7 +104,7 @@ pub fn each_pass<'a>(
         if below(scope.limits, range) {
             return ended(k, paid);
         }
-        put_record(results, k, text.number, range);
+        put_record(note, first_mark(), results, k, text.number, range);
         k += 1;
         let Chosen::Found(next, rest) = best_without(
             class,
@@ -128,6 +132,7 @@ pub struct Outcome {
 
 // With `optimize`, up to p passes follow the best text of the note.
 pub fn elimination<'a>(
+    note: &[u8],
     class: &[u8; 256],
     area: &mut [u8],
     words: &mut [u32],
@@ -140,8 +145,9 @@ pub fn elimination<'a>(
     budget: Scorings,
 ) -> Outcome
     requires { ⌜ Scanning scope (now class) (now area) (now words) (shelf (now book) (now second)) ⌝ }
-    requires { ⌜ length (paidNumbers (budget .count) (rules.elimination (scope .limits) optimize p (texts (shelf (now book) (now second))) (linesAt (now area) (now words) (scope .lines)))) ≤ length (now results) ⌝ }
-    ensures { λ r. ⌜ Eliminated (rules.elimination (scope .limits) optimize p (texts (shelf (now (book .entry)) (now (second .entry)))) (linesAt (now (area .entry)) (now (words .entry)) (scope .lines))) (budget .count) (shelf (now (book .entry)) (now (second .entry))) (now (results .entry)) (now (results .exit)) r ⌝ }
+    requires { ⌜ length (paidNumbers (now note) (budget .count) (rules.elimination (scope .limits) optimize p (texts (shelf (now book) (now second))) (linesAt (now area) (now words) (scope .lines)))) ≤ length (now results) ⌝ }
+    requires { ⌜ length (now note) ≤ textMost ⌝ }
+    ensures { λ r. ⌜ Eliminated (now (note .entry)) (rules.elimination (scope .limits) optimize p (texts (shelf (now (book .entry)) (now (second .entry)))) (linesAt (now (area .entry)) (now (words .entry)) (scope .lines))) (budget .count) (shelf (now (book .entry)) (now (second .entry))) (now (results .entry)) (now (results .exit)) r ⌝ }
 {
     let n = scope.n;
     let lines = scope.lines;
@@ -177,6 +183,7 @@ pub fn elimination<'a>(
         };
     }
     let run = each_pass(
+        note,
         class,
         area,
         words,

@@ -18,7 +18,7 @@
 --     part-handed                       `name_part` of the answer hands back the part that the definition gives
 -- Assumes nothing.
 use mathlib.Core.Path.{_≡_, refl, sym, ap, _∙_, subst}
-use mathlib.Core.Bool.{Bool, true, false, not, _&&_, cond}
+use mathlib.Core.Bool.{Bool, true, false, cond}
 use mathlib.Core.List.{List}
 use Prim.Native.Nat.{ℕ, _+_, _-_, _*_, _^_, _≤_, _<_, min}
 use native.Mathlib.Omega.{arith}
@@ -39,7 +39,7 @@ use Rattle.rules.specs.Search.{noText, whole, viewed, scored, scoreView, Best, 
 use Rattle.rules.specs.Scan.{Event, events, afford, Begins, scorings, records, verdict, numbers, names}
 use Rattle.rules.specs.Book.{shelved, editionOf, nameParts, partIn, Lies, ReadAs}
 use Rattle.rules.specs.Count.{mostElimination, mostTopDown}
-use Rattle.rules.specs.Refusal.{refusal, unit, stepZero, beforeScan, ofScan}
+use Rattle.rules.specs.Refusal.{refusal, stepZero, beforeScan, ofScan}
 use Rattle.rules.specs.Jobs.{lent, over, happened, named, answered, scan, resultsAfter, ScanDone}
 use Rattle.rules.proofs.DownLaws.{each-of}
 use Rattle.rules.proofs.ShelfLaws.{shelved-most}
@@ -51,8 +51,7 @@ use Rattle.rules.proofs.RefusalLaws.{lines-count, scan-over, scan-paid, scan-on
 use Rattle.rules.proofs.ScanCountLaws.{elimination-count, topDown-count, elimination-fits, topDown-fits}
 use Rattle.detection_part.specs.Parts.{fitting}
 use Rattle.detection_part.proofs.PartLaws.{part-fits}
-use Rattle.refusals.proofs.AdmitLaws.{row-passes}
-use Rattle.refusals.proofs.PassedLaws.{BothPassed, both-passed, passed-pair, passed-first}
+use Rattle.refusals.proofs.PassedLaws.{BothPassed, scan-passed, passed-pair, passed-first}
 use Rattle.scan_job.proofs.ModeLaws.{step-above}
 
 module _ {t : List ℕ} {bs : List (List ℕ)} {lim : Limits} {mode : Mode} {budget : ℕ} {b₀ b w₀ w r₀ r : List ℕ} {a : Scanned}
@@ -82,10 +81,10 @@ module _ {t : List ℕ} {bs : List (List ℕ)} {lim : Limits} {mode : Mode} {bud
       let o = only-over e in
       omega (arith, count-exact (o .0), o .1)
 
-  pub recorded-stays : before ≡ 0 → r ≡ over (numbers (records (afford budget full))) r₀
+  pub recorded-stays : before ≡ 0 → r ≡ over (numbers t (records (afford budget full))) r₀
   unfolding resultsAfter
   recorded-stays z =
-      d .results ∙ ap (λ (es : List Event). over (numbers (records es)) r₀) (scan-happened t bs lim mode (lent b₀ w₀) (length r₀) budget z)
+      d .results ∙ ap (λ (es : List Event). over (numbers t (records es)) r₀) (scan-happened t bs lim mode (lent b₀ w₀) (length r₀) budget z)
 
   pub recorded-first : Begins (records (afford budget full)) (records full)
   recorded-first = records-begins budget full
@@ -109,18 +108,14 @@ module _ {t : List ℕ} {bs : List (List ℕ)} {lim : Limits} {mode : Mode} {bud
   unfolding answered
   count-all e = ap (λ (x : Scanned). x .count) (answer-all e)
 
-  pub results-all : a .refusal ≡ 0 → r ≡ over (numbers (records full)) r₀
+  pub results-all : a .refusal ≡ 0 → r ≡ over (numbers t (records full)) r₀
   results-all e =
       let o = only-paid e in
-      recorded-stays (o .0) ∙ ap (λ (es : List Event). over (numbers (records es)) r₀) (afford-all budget full (o .1))
+      recorded-stays (o .0) ∙ ap (λ (es : List Event). over (numbers t (records es)) r₀) (afford-all budget full (o .1))
 
   -- ---- what is not refused before any work
   passed : before ≡ 0 → BothPassed t bs × (stepZero mode ≡ false)
-  unfolding beforeScan
-  passed z =
-      let both = both-passed t bs _ z in
-      let six = row-passes 5 (not (unit (lim .threshold) && unit (lim .shallow))) _ (both .1) in
-      (both .0, row-passes 6 (stepZero mode) _ (six .1) .0)
+  passed z = scan-passed t bs lim mode (lent b₀ w₀) (length r₀) z
 
   -- a limit on the list of what is not refused
   counted-within : (m : ℕ) → (before ≡ 0 → length (scorings full) ≤ m) → a .count ≤ m

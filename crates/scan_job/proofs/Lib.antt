@@ -1,2 +1,3 @@
 pub mod ModeLaws
 pub mod FaceLaws
+pub mod PlaceFaceLaws

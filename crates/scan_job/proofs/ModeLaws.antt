@@ -41,17 +41,17 @@ step-above mode s e h =
     let z = eqb-false s 0 (ap stepZero (sym e) ∙ h) in
     omega arith
 
-pub eliminated-as : {es fs : List Event} {budget : ℕ} {books : Shelf} {r₀ r : List ℕ} {x : Outcome} → es ≡ fs → Eliminated fs budget books r₀ r x → Eliminated es budget books r₀ r x
-eliminated-as {es} {fs} {budget} {books} {r₀} {r} {x} e h = subst (λ (l : List Event). Eliminated l budget books r₀ r x) (sym e) h
+pub eliminated-as : {note : List ℕ} {es fs : List Event} {budget : ℕ} {books : Shelf} {r₀ r : List ℕ} {x : Outcome} → es ≡ fs → Eliminated note fs budget books r₀ r x → Eliminated note es budget books r₀ r x
+eliminated-as {note} {es} {fs} {budget} {books} {r₀} {r} {x} e h = subst (λ (l : List Event). Eliminated note l budget books r₀ r x) (sym e) h
 
 -- of all that a budget pays
-pub eliminated-of : {es : List Event} {left : Scorings} {budget : ℕ} {books : Shelf} {r₀ r : List ℕ} {x : Outcome} → left ≡ record { count = budget } →
-    Eliminated es (left .count) books r₀ r x → Eliminated es budget books r₀ r x
-eliminated-of {es} {left} {budget} {books} {r₀} {r} {x} e h = subst (λ (s : Scorings). Eliminated es (s .count) books r₀ r x) e h
+pub eliminated-of : {note : List ℕ} {es : List Event} {left : Scorings} {budget : ℕ} {books : Shelf} {r₀ r : List ℕ} {x : Outcome} → left ≡ record { count = budget } →
+    Eliminated note es (left .count) books r₀ r x → Eliminated note es budget books r₀ r x
+eliminated-of {note} {es} {left} {budget} {books} {r₀} {r} {x} e h = subst (λ (s : Scorings). Eliminated note es (s .count) books r₀ r x) e h
 
 -- top-down as a whole
-pub down-ended : (lim : Limits) (s : ℕ) (ss : List Stored) (ls : List (List ℕ)) {budget : ℕ} {books : Shelf} {r₀ r : List ℕ} (x : Outcome) → x .best ≡ noBestYet →
-    Ran (topDown lim s ss ls) budget r₀ r (x .run) → Eliminated (topDown lim s ss ls) budget books r₀ r x
+pub down-ended : {note : List ℕ} (lim : Limits) (s : ℕ) (ss : List Stored) (ls : List (List ℕ)) {budget : ℕ} {books : Shelf} {r₀ r : List ℕ} (x : Outcome) → x .best ≡ noBestYet →
+    Ran note (topDown lim s ss ls) budget r₀ r (x .run) → Eliminated note (topDown lim s ss ls) budget books r₀ r x
 down-ended lim s ss ls {budget} {books} {r₀} {r} x b a = record {
   best = ap (bestIn books) b ∙ none-is books ∙ sym (verdict-prefix (λ b. b ≡ noBest) refl budget (topDown lim s ss ls) (down-verdict lim s ss ls));
   name = subst (λ (y : Best). NameFits books (y .text)) (sym b) (none-name books);

@@ -5,6 +5,7 @@ ghost use mathlib.Core.Path.{_≡_};
 ghost use mathlib.Core.Bool.{false};
 ghost use Prim.Native.Nat.{_≤_};
 ghost use lib.ListN.{length};
+ghost use Rattle.rules.specs.Sizes.{textMost};
 ghost use Rattle.rules.specs.Scan.{events};
 ghost use mathlib.Core.List.{[], _∷_};
 ghost use Rattle.detection_shelf.specs.Shelves.{shelf, texts, booksOf, Lends, CountsOf};
@@ -36,6 +37,7 @@ use slices::class::class_table;
 
 // The scan of a note whose lines stand in the areas, by its mode. Top-down has no overall best.
 fn scan_mode<'a>(
+    note: &[u8],
     class: &[u8; 256],
     area: &mut [u8],
     words: &mut [u32],
@@ -48,12 +50,14 @@ fn scan_mode<'a>(
 ) -> Outcome
     requires { ⌜ Scanning scope (now class) (now area) (now words) (shelf (now book) (now second)) ⌝ }
     requires { ⌜ stepZero mode ≡ false ⌝ }
-    requires { ⌜ length (paidNumbers (budget .count) (events (scope .limits) mode (texts (shelf (now book) (now second))) (linesAt (now area) (now words) (scope .lines)))) ≤ length (now results) ⌝ }
-    ensures { λ r. ⌜ Eliminated (events (scope .limits) mode (texts (shelf (now (book .entry)) (now (second .entry)))) (linesAt (now (area .entry)) (now (words .entry)) (scope .lines))) (budget .count) (shelf (now (book .entry)) (now (second .entry))) (now (results .entry)) (now (results .exit)) r ⌝ }
+    requires { ⌜ length (paidNumbers (now note) (budget .count) (events (scope .limits) mode (texts (shelf (now book) (now second))) (linesAt (now area) (now words) (scope .lines)))) ≤ length (now results) ⌝ }
+    requires { ⌜ length (now note) ≤ textMost ⌝ }
+    ensures { λ r. ⌜ Eliminated (now (note .entry)) (events (scope .limits) mode (texts (shelf (now (book .entry)) (now (second .entry)))) (linesAt (now (area .entry)) (now (words .entry)) (scope .lines))) (budget .count) (shelf (now (book .entry)) (now (second .entry))) (now (results .entry)) (now (results .exit)) r ⌝ }
 {
     match mode {
         Mode::Elimination(optimize, p) => {
             elimination(
+                note,
                 class,
                 area,
                 words,
@@ -68,6 +72,7 @@ fn scan_mode<'a>(
         }
         Mode::TopDown(step) => {
             let run = top_down(
+                note,
                 class,
                 area,
                 words,
@@ -113,6 +118,7 @@ pub fn scan_laid<'a>(
         limits,
     };
     let outcome = scan_mode(
+        text,
         &class,
         area,
         words,

@@ -4,16 +4,14 @@ use mathlib.Core.Path.{_≡_, refl, sym, ap, _∙_}
 use mathlib.Core.Bool.{Bool, true, false, cond}
 use mathlib.Core.List.{List, [], _∷_, _++_}
 use mathlib.Core.Option.{Option, none, some}
-use Prim.Native.Nat.{ℕ, suc, _+_, _-_, _≤_, _<_}
+use Prim.Native.Nat.{ℕ, _+_, _-_, _≤_, _<_}
 use native.Mathlib.Nat.{sub-zero}
 use native.Mathlib.Omega.{arith}
 use lib.Dec.{leb, leb·zero}
-use lib.ListN.{length, take, drop, set, length-append}
-use lib.Seq.{sets-eq}
-use lib.Ieee.{toBits, binary32}
+use lib.ListN.{length, length-append}
 use borrow.Author.Tests.{leb-true, leb-false}
 use Rattle.rules.specs.Search.{Made, Best}
-use Rattle.rules.specs.Scan.{Event, found, overall, Recorded, after, afford, scorings, records, numbers}
+use Rattle.rules.specs.Scan.{Event, found, overall, Recorded, after, afford, scorings, records, six, numbers}
 use Rattle.rules.proofs.BudgetLaws.{scorings-after, records-paid, records-unpaid, pays-paid, pays-unpaid}
 use Rattle.license_charge.specs.Pay.{Paid, pay}
 use Rattle.scan_ranges.specs.Run.{paidNumbers, leftOver}
@@ -51,19 +49,19 @@ unpaid-is {A} m b e = at (leb (length (m .list)) b) refl e
 
 -- ---- a run of scorings, then es
 module _ {A : Type 0} (m : Made A) (b : ℕ) (es : List Event) where
-  pub out-written : pay m b ≡ none → paidNumbers b (after (m .list) es) ≡ []
+  pub out-written : (t : List ℕ) → pay m b ≡ none → paidNumbers t b (after (m .list) es) ≡ []
   unfolding paidNumbers numbers
-  out-written h = ap numbers (records-unpaid b (m .list) es (unpaid-is m b h))
+  out-written t h = ap (numbers t) (records-unpaid b (m .list) es (unpaid-is m b h))
 
   pub out-left : pay m b ≡ none → leftOver b (after (m .list) es) ≡ none
   unfolding leftOver
   out-left h = simp (pays-unpaid b (m .list) es (unpaid-is m b h))
 
-  pub paid-written : (p : Paid A) → pay m b ≡ some p → paidNumbers b (after (m .list) es) ≡ paidNumbers (p .left) es
+  pub paid-written : (t : List ℕ) (p : Paid A) → pay m b ≡ some p → paidNumbers t b (after (m .list) es) ≡ paidNumbers t (p .left) es
   unfolding paidNumbers
-  paid-written p h =
+  paid-written t p h =
       let k = paid-is m b p h in
-      ap numbers (records-paid b (m .list) es (k .2)) ∙ ap (λ (n : ℕ). numbers (records (afford n es))) (sym (k .1))
+      ap (numbers t) (records-paid b (m .list) es (k .2)) ∙ ap (λ (n : ℕ). numbers t (records (afford n es))) (sym (k .1))
 
   pub paid-left : (p : Paid A) → pay m b ≡ some p → leftOver b (after (m .list) es) ≡ leftOver (p .left) es
   unfolding leftOver
@@ -76,36 +74,27 @@ module _ {A : Type 0} (m : Made A) (b : ℕ) (es : List Event) where
       simp (q, e)
 
 -- ---- a record, the overall best, the end
-pub found-written : (b : ℕ) (r : Recorded) (es : List Event) →
-    paidNumbers b (found r ∷ es) ≡ r .text .number ∷ r .range .first ∷ r .range .after ∷ toBits binary32 (r .range .value .score) ∷ paidNumbers b es
+pub found-written : (t : List ℕ) (b : ℕ) (r : Recorded) (es : List Event) →
+    paidNumbers t b (found r ∷ es) ≡ six t (r .text .number) (r .range) ++ paidNumbers t b es
 unfolding paidNumbers afford records numbers
-found-written b r es = refl
+found-written t b r es = refl
 
 pub found-left : (b : ℕ) (r : Recorded) (es : List Event) → leftOver b (found r ∷ es) ≡ leftOver b es
 unfolding leftOver scorings
 found-left b r es = refl
 
-pub overall-written : (b : ℕ) (x : Best) (es : List Event) → paidNumbers b (overall x ∷ es) ≡ paidNumbers b es
+pub overall-written : (t : List ℕ) (b : ℕ) (x : Best) (es : List Event) → paidNumbers t b (overall x ∷ es) ≡ paidNumbers t b es
 unfolding paidNumbers afford records
-overall-written b x es = refl
+overall-written t b x es = refl
 
 pub overall-left : (b : ℕ) (x : Best) (es : List Event) → leftOver b (overall x ∷ es) ≡ leftOver b es
 unfolding leftOver scorings
 overall-left b x es = refl
 
-pub end-written : (b : ℕ) → paidNumbers b [] ≡ []
+pub end-written : (t : List ℕ) (b : ℕ) → paidNumbers t b [] ≡ []
 unfolding paidNumbers afford records numbers
-end-written b = refl
+end-written t b = refl
 
 pub end-left : (b : ℕ) → leftOver b [] ≡ some b
 unfolding leftOver scorings
 end-left b = simp (leb·zero, sub-zero)
-
--- ---- four numbers put one behind the other
-pub four-set : (l : List ℕ) (at a b c d : ℕ) → at + 4 ≤ length l →
-    set (set (set (set l at a) (at + 1) b) (at + 2) c) (at + 3) d ≡ take at l ++ (a ∷ b ∷ c ∷ d ∷ []) ++ drop (at + 4) l
-four-set l at a b c d h =
-    let e : at + 1 ≡ suc at = omega arith in
-    let f : at + 2 ≡ suc (suc at) = omega arith in
-    let g : at + 3 ≡ suc (suc (suc at)) = omega arith in
-    rw (e, f, g) (sets-eq (a ∷ b ∷ c ∷ d ∷ []) l at h)

@@ -28,9 +28,9 @@ use Rattle.detection_shelf.specs.Shelves.{Shelf, texts, CountsOf, textIn}
 use Rattle.scan_ranges.specs.declared.Scope.{Scope}
 use Rattle.scan_ranges.specs.declared.Run.{Run}
 
--- the numbers that it writes to the results area
-unfoldable pub paidNumbers : ℕ → List Event → List ℕ
-paidNumbers b es = numbers (records (afford b es))
+-- the numbers that it writes to the results area, of a note with the bytes t
+unfoldable pub paidNumbers : List ℕ → ℕ → List Event → List ℕ
+paidNumbers t b es = numbers t (records (afford b es))
 
 -- the scorings left, or none where the budget is out
 unfoldable pub leftOver : ℕ → List Event → Option ℕ
@@ -71,7 +71,7 @@ unfoldable pub runOf : ℕ → Option ℕ → Run
 runOf k none = record { out = true; records = k; left = 0 }
 runOf k (some l) = record { out = false; records = k; left = l }
 
--- x is how these events end under the budget; the results area holds their records, and is otherwise as it was
-pub record Ran (es : List Event) (budget : ℕ) (r₀ r : List ℕ) (x : Run) : Type 0 where
-  pub wrote : Wrote (paidNumbers budget es) r₀ (recordWidth * x .records) r
+-- x is how these events end under the budget; the results area holds their records, of the note t, and is otherwise as it was
+pub record Ran (t : List ℕ) (es : List Event) (budget : ℕ) (r₀ r : List ℕ) (x : Run) : Type 0 where
+  pub wrote : Wrote (paidNumbers t budget es) r₀ (recordWidth * x .records) r
   pub run : x ≡ runOf (x .records) (leftOver budget es)

@@ -1,16 +1,10 @@
-// What both scans do with a stored text that they have found: its bounds, and a record of them in the results area.
+// What both scans work on, how they end, and what they do with a stored text that they have found: its bounds.
 // From detection/scan.rs of spdx 0.13.6 (Copyright 2018 Amazon.com, Inc. or its affiliates. All Rights Reserved.
-// SPDX-License-Identifier: Apache-2.0), changed: its vector of matches is a lent area of numbers. Assumes nothing.
+// SPDX-License-Identifier: Apache-2.0), changed: its matches are counted. Assumes nothing.
 ghost use mathlib.Core.Path.{_≡_};
 ghost use mathlib.Core.Option.{none, some};
-ghost use mathlib.Core.List.{[], _∷_, _++_};
-ghost use Prim.Native.Nat.{_+_, _*_, _≤_, _<_};
-ghost use lib.Dec.{T};
-ghost use lib.Ieee.{toBits, binary32};
-ghost use lib.ListN.{length, take, drop};
-ghost use Rattle.rules.specs.Refusal.{unit};
+ghost use Prim.Native.Nat.{_≤_};
 ghost use Rattle.rules.specs.Search.{view};
-ghost use Rattle.rules.specs.Sizes.{recordWidth};
 ghost use Rattle.detection_shelf.specs.Shelves.{shelf, Stands};
 ghost use Rattle.scan_ranges.specs.Run.{Scanning, RangeDone, runOf};
 use detection_shelf::Counts;
@@ -20,9 +14,7 @@ use license_bounds::Ranged;
 use license_bounds::find_bounds;
 use license_charge::Scorings;
 use license_charge::count_of;
-use rules::Bounds;
 use rules::Limits;
-use rules::RECORD_WIDTH;
 use rules::View;
 
 // What a scan works on: the note's bytes and lines, how many texts the books store, and the limits.
@@ -92,28 +84,4 @@ pub fn text_bounds<'a>(
     let lines = scope.lines;
     let body = body_of(book, second, text);
     find_bounds(class, area, words, n, lines, v, body, budget)
-}
-
-fn put_four(results: &mut [u32], at: usize, a: u32, b: u32, c: u32, d: u32)
-    requires { ⌜ at + 4 ≤ length (now results) ⌝ }
-    ensures { λ _. ⌜ now (results .exit) ≡ take at (now (results .entry)) ++ (a ∷ b ∷ c ∷ d ∷ []) ++ drop (at + 4) (now (results .entry)) ⌝ }
-{
-    results[at] = a;
-    results[at + 1] = b;
-    results[at + 2] = c;
-    results[at + 3] = d;
-}
-
-// Record k: the stored number, the first line, the line after the last, and the score's bits.
-pub fn put_record(results: &mut [u32], k: u32, number: u32, range: Bounds)
-    requires { ⌜ recordWidth * k + recordWidth ≤ length (now results) ⌝ }
-    requires { ⌜ (range .first < 4294967296) × (range .after < 4294967296) × T (unit (range .value .score)) ⌝ }
-    ensures { λ _. ⌜ now (results .exit) ≡ take (recordWidth * k) (now (results .entry)) ++ (number ∷ range .first ∷ range .after ∷ toBits binary32 (range .value .score) ∷ []) ++ drop (recordWidth * k + recordWidth) (now (results .entry)) ⌝ }
-{
-    let first = range.first as u32;
-    let after = range.after as u32;
-    let score = range.value.score;
-    let bits = f32::to_bits(score);
-    let at = RECORD_WIDTH * k as usize;
-    put_four(results, at, number, first, after, bits);
 }

@@ -15,10 +15,12 @@ use borrow.Author.Tests.{lt-ltb, le-ltb}
 use Rattle.rules.specs.declared.Bounds.{Bounds}
 use Rattle.rules.specs.declared.View.{View}
 use Rattle.rules.specs.Sizes.{recordWidth}
+use Rattle.rules.specs.Lines.{lineStart}
 use Rattle.rules.specs.Search.{Made, Stored, done, _>>=_, bounds}
 use Rattle.rules.specs.Scan as rules
 use Rattle.rules.specs.Scan.{Event, found, Recorded, Pair, after, below, latest, settled, andOn, downOn, downFrom, topDown}
 use Rattle.rules.proofs.DownLaws.{contained-in, down-step}
+use Rattle.rules.proofs.PlaceLaws.{start-none}
 use Rattle.preproc_table.specs.Entries.{linesAt}
 use Rattle.preproc_table.proofs.EntryLaws.{lines-length}
 use Rattle.license_bounds.specs.declared.Ranged.{Ranged}
@@ -42,7 +44,7 @@ use Rattle.scan_view.specs.Down.{latestIn, pairIn, LatestStands, Pairs}
 use Rattle.scan_top_down.specs.Contains.{containedIn, ContainedStands, Contains}
 use Rattle.scan_ranges.proofs.RunLaws.{paid-is}
 use Rattle.scan_ranges.proofs.HeldLaws.{range-out, range-found, fits-of, held-none, held-more, scanning-held}
-use Rattle.scan_ranges.proofs.GoingLaws.{Going, going-first, going-as, going-paid, going-out, going-room, going-found, going-end, four}
+use Rattle.scan_ranges.proofs.GoingLaws.{Going, going-first, going-as, going-paid, going-out, going-room, going-found, going-end, sixOf}
 use Rattle.scan_views.proofs.RoundLaws.{viewsFrom}
 
 -- ---- the pair's bounds
@@ -174,29 +176,31 @@ contains-as {scope} {area₀} {words₀} {area} {words} {books} {run} {budget} {
     subst (λ (y : Contained). Contains scope area₀ words₀ area words books run budget y) e d
 
 -- ---- the rounds
-pub record Downing (scope : Scope) (class area₀ words₀ : List ℕ) (books : Shelf) (r₀ : List ℕ) (step budget : ℕ) (area words r : List ℕ) (left c k : ℕ) : Type 0 where
+pub record Downing (note : List ℕ) (scope : Scope) (class area₀ words₀ : List ℕ) (books : Shelf) (r₀ : List ℕ) (step budget : ℕ) (area words r : List ℕ) (left c at k : ℕ) : Type 0 where
   pub ready : Scanning scope class area words books
   pub held : Held (scope .n) (scope .lines) area₀ words₀ area words
   pub within : k ≤ c
   pub to : c ≤ suc (scope .lines)
+  pub place : at ≡ lineStart c note
   pub going :
-      Going (topDown (scope .limits) step (texts books) (linesAt area₀ words₀ (scope .lines))) budget r₀ r k left
+      Going note (topDown (scope .limits) step (texts books) (linesAt area₀ words₀ (scope .lines))) budget r₀ r k left
       (downFrom (scope .limits) step (texts books) (linesAt area₀ words₀ (scope .lines)) c)
 
-pub rounds-first : {scope : Scope} {class area words : List ℕ} {books : Shelf} (r : List ℕ) (step budget : ℕ) → Scanning scope class area words books →
-    length (paidNumbers budget (topDown (scope .limits) step (texts books) (linesAt area words (scope .lines)))) ≤ length r →
-    Downing scope class area words books r step budget area words r budget 0 0
+pub rounds-first : {note : List ℕ} {scope : Scope} {class area words : List ℕ} {books : Shelf} (r : List ℕ) (step budget : ℕ) → Scanning scope class area words books →
+    length (paidNumbers note budget (topDown (scope .limits) step (texts books) (linesAt area words (scope .lines)))) ≤ length r →
+    Downing note scope class area words books r step budget area words r budget 0 0 0
 unfolding topDown
-rounds-first r step budget s h = record {
+rounds-first {note} r step budget s h = record {
   ready = s;
   held = held-none (s .laid);
   within = omega arith;
   to = omega arith;
-  going = going-first _ budget r h;
+  place = sym (start-none note);
+  going = going-first note _ budget r h;
 }
 
-module _ {scope : Scope} {class area₀ words₀ : List ℕ} {books : Shelf} {r₀ : List ℕ} {step budget : ℕ} {area words r : List ℕ} {left c k : ℕ}
-    (i : Downing scope class area₀ words₀ books r₀ step budget area words r left c k) (p : 0 < step) where
+module _ {note : List ℕ} {scope : Scope} {class area₀ words₀ : List ℕ} {books : Shelf} {r₀ : List ℕ} {step budget : ℕ} {area words r : List ℕ} {left c at k : ℕ}
+    (i : Downing note scope class area₀ words₀ books r₀ step budget area words r left c at k) (p : 0 < step) where
   abbrev all-lines : List (List ℕ)
   all-lines = linesAt area₀ words₀ (scope .lines)
 
@@ -224,18 +228,18 @@ module _ {scope : Scope} {class area₀ words₀ : List ℕ} {books : Shelf} {r�
 
   module _ (h : c < scope .lines) where
     pub rounds-out : {area′ words′ : List ℕ} (x : Run) → Contains scope area words area′ words′ books (λ ss ms. rules.contained (scope .limits) step ss ms c) left round.Out →
-        x ≡ runOf k none → Ran whole budget r₀ r x
+        x ≡ runOf k none → Ran note whole budget r₀ r x
     unfolding containedIn
     rounds-out x d q = going-out made (andOn (λ a. on a) (made .value)) x (sym (round-is d)) q (going-as (down-split h) (i .going))
 
     -- past a round that is paid
-    paid-past : (o : Option Recorded) (rest : ℕ) → pay made left ≡ some (record { value = o; left = rest }) → Going whole budget r₀ r k rest (andOn (λ a. on a) o)
+    paid-past : (o : Option Recorded) (rest : ℕ) → pay made left ≡ some (record { value = o; left = rest }) → Going note whole budget r₀ r k rest (andOn (λ a. on a) o)
     paid-past o rest e =
         going-paid made (andOn (λ a. on a) o) (record { value = o; left = rest }) e
         (going-as (down-split h ∙ ap (λ (q : Option Recorded). after (made .list) (andOn (λ a. on a) q)) (sym (paid-is made left (record { value = o; left = rest }) e .0))) (i .going))
 
     pub rounds-nothing : {area′ words′ : List ℕ} (x : Run) (rest : Scorings) → Contains scope area words area′ words′ books (λ ss ms. rules.contained (scope .limits) step ss ms c) left (round.Nothing rest) →
-        x ≡ runOf k (some (rest .count)) → Ran whole budget r₀ r x
+        x ≡ runOf k (some (rest .count)) → Ran note whole budget r₀ r x
     unfolding containedIn andOn
     rounds-nothing x rest d q = going-end x q (paid-past none (rest .count) (sym (round-is d)))
 
@@ -248,7 +252,7 @@ module _ {scope : Scope} {class area₀ words₀ : List ℕ} {books : Shelf} {r�
       unfolding containedIn
       paid-found = sym (round-is d)
 
-      past : Going whole budget r₀ r k (rest .count) (found recorded ∷ on (range .after + 1))
+      past : Going note whole budget r₀ r k (rest .count) (found recorded ∷ on (range .after + 1))
       unfolding andOn
       past = paid-past (some recorded) (rest .count) paid-found
 
@@ -259,22 +263,25 @@ module _ {scope : Scope} {class area₀ words₀ : List ℕ} {books : Shelf} {r�
       pub rounds-room : recordWidth * k + recordWidth ≤ length r
       rounds-room = going-room recorded (on (range .after + 1)) past
 
-      pub rounds-rise : c ≤ range .after
-      rounds-rise =
-          let inside = contained-in (scope .limits) step (texts books) all-lines p c recorded (sym (paid-is made left (record { value = some recorded; left = rest .count }) paid-found .0)) in
-          omega (arith, inside .0, inside .1)
+      pub rounds-from : c ≤ range .first
+      rounds-from =
+          contained-in (scope .limits) step (texts books) all-lines p c recorded (sym (paid-is made left (record { value = some recorded; left = rest .count }) paid-found .0)) .0
 
-      pub rounds-found : {r′ : List ℕ} → r′ ≡ take (recordWidth * k) r ++ four recorded ++ drop (recordWidth * k + recordWidth) r →
-          Downing scope class area₀ words₀ books r₀ step budget area′ words′ r′ (rest .count) (range .after + 1) (k + 1)
-      rounds-found {r′} e = record {
+      pub rounds-rise : c ≤ range .after
+      rounds-rise = omega (arith, rounds-from, rounds-fits .order)
+
+      pub rounds-found : {r′ : List ℕ} {at′ : ℕ} → r′ ≡ take (recordWidth * k) r ++ sixOf note recorded ++ drop (recordWidth * k + recordWidth) r → at′ ≡ lineStart (range .after + 1) note →
+          Downing note scope class area₀ words₀ books r₀ step budget area′ words′ r′ (rest .count) (range .after + 1) at′ (k + 1)
+      rounds-found {r′} e f = record {
         ready = scanning-held (i .ready) (d .held);
         held = held-more (i .held) (d .held);
         within = omega (arith, i .within, rounds-rise);
         to = omega (arith, rounds-fits .high);
+        place = f;
         going = going-found recorded (on (range .after + 1)) past r′ e;
       }
 
-  pub rounds-end : (x : Run) → scope .lines ≤ c → x ≡ runOf k (some left) → Ran whole budget r₀ r x
+  pub rounds-end : (x : Run) → scope .lines ≤ c → x ≡ runOf k (some left) → Ran note whole budget r₀ r x
   unfolding downOn
   rounds-end x h q =
       going-end x q

@@ -3,6 +3,7 @@
 // SPDX-License-Identifier: Apache-2.0), changed: the mode `TopDown`, with every scoring charged. Assumes nothing.
 ghost use Prim.Native.Nat.{_≤_, _<_};
 ghost use lib.ListN.{length};
+ghost use Rattle.rules.specs.Sizes.{textMost};
 ghost use Rattle.rules.specs.Scan as rules;
 ghost use Rattle.preproc_table.specs.Entries.{linesAt};
 ghost use Rattle.detection_shelf.specs.Shelves.{shelf, texts};
@@ -14,11 +15,13 @@ use license_bounds::Ranged;
 use license_charge::Scorings;
 use rules::Bounds;
 use scan_limits::below;
+use scan_places::Mark;
+use scan_places::past_gap;
+use scan_places::put_record;
 use scan_ranges::Run;
 use scan_ranges::Scope;
 use scan_ranges::ended;
 use scan_ranges::out_at;
-use scan_ranges::put_record;
 use scan_ranges::text_bounds;
 use scan_view::Latest;
 use scan_view::Walked;
@@ -91,8 +94,10 @@ fn find_contained<'a>(
     }
 }
 
-// Round by round: c strictly rises, since a range ends at c or behind it.
+// Round by round: c strictly rises, since a range ends at c or behind it. The byte where line c starts is carried along, so that all records together
+// take one walk over the note.
 pub fn top_down<'a>(
+    note: &[u8],
     class: &[u8; 256],
     area: &mut [u8],
     words: &mut [u32],
@@ -105,19 +110,23 @@ pub fn top_down<'a>(
 ) -> Run
     requires { ⌜ Scanning scope (now class) (now area) (now words) (shelf (now book) (now second)) ⌝ }
     requires { ⌜ 0 < step ⌝ }
-    requires { ⌜ length (paidNumbers (budget .count) (rules.topDown (scope .limits) step (texts (shelf (now book) (now second))) (linesAt (now area) (now words) (scope .lines)))) ≤ length (now results) ⌝ }
-    ensures { λ r. ⌜ Ran (rules.topDown (scope .limits) step (texts (shelf (now (book .entry)) (now (second .entry)))) (linesAt (now (area .entry)) (now (words .entry)) (scope .lines))) (budget .count) (now (results .entry)) (now (results .exit)) r ⌝ }
+    requires { ⌜ length (paidNumbers (now note) (budget .count) (rules.topDown (scope .limits) step (texts (shelf (now book) (now second))) (linesAt (now area) (now words) (scope .lines)))) ≤ length (now results) ⌝ }
+    requires { ⌜ length (now note) ≤ textMost ⌝ }
+    ensures { λ r. ⌜ Ran (now (note .entry)) (rules.topDown (scope .limits) step (texts (shelf (now (book .entry)) (now (second .entry)))) (linesAt (now (area .entry)) (now (words .entry)) (scope .lines))) (budget .count) (now (results .entry)) (now (results .exit)) r ⌝ }
 {
     let lines = scope.lines;
     let mut left = budget;
     let mut c: usize = 0;
+    let mut at: usize = 0;
     let mut k: u32 = 0;
     while c < lines {
         match find_contained(class, area, words, scope, c, step, book, second, left) {
             Contained::Out => return out_at(k),
             Contained::Nothing(rest) => return ended(k, rest),
             Contained::Found(text, range, rest) => {
-                put_record(results, k, text.number, range);
+                let from = Mark { line: c, at };
+                let end = put_record(note, from, results, k, text.number, range);
+                at = past_gap(note, range, end);
                 k += 1;
                 c = range.after + 1;
                 left = rest;

@@ -11,6 +11,7 @@ use lib.ListN.{length, take, drop, getD, length-drop}
 use lib.Seq.{slice, take-suc, length-take-le}
 use Rattle.lists.proofs.SliceLaws.{part-at}
 use Rattle.rules.specs.Bytes.{space, lead, trimStart, addFront, trimEnd, trim}
+use Rattle.rules.proofs.PlaceLaws.{lead-most}
 use Rattle.slices.specs.declared.ends.ByteSpan.{ByteSpan}
 use Rattle.slices.specs.Ends.{keptLen, Bare}
 
@@ -84,15 +85,6 @@ unfolding trim
 trim-part s = rw (trimStart-drop s) (trimEnd-take (drop (lead space s) s))
 
 -- ---- what is bare lies within, and is trimmed where the kind is the space
-pub lead-most : (p : ℕ → Bool) (s : List ℕ) → lead p s ≤ length s
-unfolding lead
-lead-most p [] = omega arith
-lead-most p (x ∷ s) = at (p x) (lead-most p s)
-  where
-    at : (b : Bool) → lead p s ≤ length s → cond b (suc (lead p s)) 0 ≤ suc (length s)
-    at true h = omega arith
-    at false h = omega arith
-
 module _ {p : ℕ → Bool} {s : List ℕ} {r : ByteSpan} (b : Bare p s r) where
   pub bare-within : (r .start ≤ r .end) × (r .end ≤ length s)
   bare-within =

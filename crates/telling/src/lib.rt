@@ -5,8 +5,10 @@ ghost use mathlib.Core.Bool.{cond};
 ghost use Prim.Native.Nat.{_≤_};
 ghost use lib.Ieee.{le, toBits, binary32};
 ghost use lib.ListN.{length};
+ghost use Rattle.rules.specs.Sizes.{recordWidth};
 ghost use Rattle.rules.specs.Table.{nought};
 use libc::STDOUT_FILENO;
+use rules::RECORD_WIDTH;
 
 pub fn print(s: &[u8]) {
     io::write_all(STDOUT_FILENO, s);
@@ -35,9 +37,9 @@ pub fn score_bits(score: f32) -> u32
     0
 }
 
-// A record, of four numbers: ` ; NUMBER FIRST AFTER BITS`.
+// A record: ` ; NUMBER FIRST AFTER BITS START END`.
 fn print_record(numbers: &[u32])
-    requires { ⌜ 4 ≤ length (now numbers) ⌝ }
+    requires { ⌜ recordWidth ≤ length (now numbers) ⌝ }
 {
     print(b" ; ");
     print_number(numbers[0]);
@@ -47,6 +49,10 @@ fn print_record(numbers: &[u32])
     print_number(numbers[2]);
     print(b" ");
     print_bits(numbers[3]);
+    print(b" ");
+    print_number(numbers[4]);
+    print(b" ");
+    print_number(numbers[5]);
 }
 
 // So many records of a results area. A scan records no more than the area holds, so the test of the room never fails.
@@ -54,11 +60,11 @@ pub fn print_records(results: &[u32], records: u32) {
     let mut at: usize = 0;
     let mut left = records;
     while 0 < left {
-        if results.len() - at < 4 {
+        if results.len() - at < RECORD_WIDTH {
             return;
         }
         print_record(&results[at..]);
-        at += 4;
+        at += RECORD_WIDTH;
         left -= 1;
     }
 }

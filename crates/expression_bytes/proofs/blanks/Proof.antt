@@ -3,7 +3,7 @@
 use native.Mathlib.Omega.{arith}
 use lib.Dec.{eqb}
 use lib.ListN.{drop, length-drop}
-use Rattle.slices.proofs.EndLaws.{lead-most}
+use Rattle.rules.proofs.PlaceLaws.{lead-most}
 use borrow.Author.Needs.{needs}
 use Rattle.expression_bytes.proofs.blanks.Statement.{statement}
 use Rattle.expression_bytes.proofs.blanks.Tie as tie

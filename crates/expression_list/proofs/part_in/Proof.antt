@@ -7,7 +7,7 @@ use Prim.Native.Nat.{ℕ, _+_, _-_, _≤_}
 use native.Mathlib.Omega.{arith}
 use lib.ListN.{length, drop, length-drop}
 use Rattle.rules.specs.Bytes.{newline, lineLen, split}
-use Rattle.slices.proofs.EndLaws.{lead-most}
+use Rattle.rules.proofs.PlaceLaws.{lead-most}
 use Rattle.expression.specs.Reading.{Part}
 use Rattle.expression.specs.Writing.{metIn}
 use Rattle.expression_parts.specs.Parts.{partOf}

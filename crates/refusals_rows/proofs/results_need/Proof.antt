@@ -6,11 +6,12 @@ use Prim.Native.Nat.{ℕ, _*_}
 use borrow.Author.Needs.{needs}
 use Rattle.rules.specs.declared.Mode.{Mode}
 use Rattle.rules.specs.declared.Mode.the-variants.{Elimination}
+use Rattle.rules.specs.Sizes.{recordWidth}
 use Rattle.rules.specs.Refusal.{resultsNeed}
 use Rattle.refusals_rows.proofs.results_need.Statement.{statement}
 use Rattle.refusals_rows.proofs.results_need.Tie as tie
 
-optimized : (lines : ℕ) (mode : Mode) (o : Bool) (p r : ℕ) → mode ≡ Elimination o p → o ≡ true → r ≡ p → 4 * r ≡ resultsNeed lines mode
+optimized : (lines : ℕ) (mode : Mode) (o : Bool) (p r : ℕ) → mode ≡ Elimination o p → o ≡ true → r ≡ p → recordWidth * r ≡ resultsNeed lines mode
 unfolding resultsNeed
 optimized lines mode o p r e t q = rw (e, t, q)
 

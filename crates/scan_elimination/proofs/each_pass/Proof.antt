@@ -7,17 +7,18 @@ use native.Mathlib.Omega.{arith}
 use borrow.Author.Needs.{needs}
 use Rattle.rules.specs.declared.View.{View}
 use Rattle.detection_shelf.specs.Shelves.{shelf, textIn}
+use Rattle.scan_places.proofs.WalkLaws.{mark-first}
 use Rattle.scan_ranges.proofs.HeldLaws.{scanning-held}
 use Rattle.scan_elimination.proofs.PassLaws.{Passing, pass-first, pass-out, pass-fits, pass-below, pass-room, pass-out-again, pass-again, pass-end, without-held, without-out}
 use Rattle.scan_elimination.proofs.each_pass.Statement.{statement}
 use Rattle.scan_elimination.proofs.each_pass.Tie as tie
 
 abbrev Inv-loop : tie.InvT-loop
-Inv-loop class area₀ words₀ scope book second p results₀ v best₀ left₀ k₀ area words results best left k =
-    Passing scope class area₀ words₀ (shelf book second) results₀ p (left₀ .count) best₀ area words results best (left .count) k
+Inv-loop note class area₀ words₀ scope book second p results₀ v best₀ left₀ k₀ area words results best left k =
+    Passing note scope class area₀ words₀ (shelf book second) results₀ p (left₀ .count) best₀ area words results best (left .count) k
 
 abbrev μ-loop : tie.MeasureT-loop
-μ-loop class area₀ words₀ scope book second p results₀ v best₀ left₀ k₀ area words results best left k = p - k
+μ-loop note class area₀ words₀ scope book second p results₀ v best₀ left₀ k₀ area words results best left k = p - k
 
 -- the places that the answers speak of, each found by its type: one statement more in the code moves none
 module _ (x : tie.At-loop Inv-loop μ-loop) where
@@ -56,7 +57,7 @@ loop-holds : tie.Need-loop-holds Inv-loop μ-loop
 loop-holds c =
     let begin : tie.Start Inv-loop μ-loop = search in
     let pre = begin .pre in
-    pass-first _ _ _ _ _ _ _ _ _ (pre .0) (pre .1 .0) (pre .1 .1)
+    pass-first _ _ _ _ _ _ _ _ _ _ (pre .0) (pre .1 .0) (pre .1 .1 .0)
 
 text-bounds-requires : tie.Need-text-bounds-requires Inv-loop μ-loop
 text-bounds-requires c κs =
@@ -135,17 +136,22 @@ returns-2 c =
     pass-below (top b .loop .inv) _ _ _ (omega (arith, turn b .loop-test .taken)) (seen (top b) .whole-view .ensures)
     (sym (r .range .given .1) ∙ b .text-bounds .ensures .is) _ (sym (low .before .below .ensures) ∙ low .if1 .taken) (c .ended .ensures)
 
+first-mark-requires : tie.Need-first-mark-requires Inv-loop μ-loop
+first-mark-requires c κs = search needs
+
 put-record-requires : tie.Need-put-record-requires Inv-loop μ-loop
 put-record-requires c κs =
+    let m : tie.After-first-mark Inv-loop μ-loop = search in
     let h : tie.Else1 Inv-loop μ-loop = search in
     let b = bounded h in
     let i = top b .loop .inv in
     let l = turn b .loop-test .taken in
     let e = seen (top b) .whole-view .ensures in
     let o = sym (ranged h .range .given .1) ∙ b .text-bounds .ensures .is in
-    let fits = pass-fits i _ _ _ (omega (arith, l)) e o in (
-      pass-room i _ _ _ (omega (arith, l)) e o (sym (h .before .below .ensures) ∙ h .if1 .left),
-      (omega (arith, fits .order, fits .high, i .ready .few), omega (arith, fits .high, i .ready .few), fits .unit),
+    let fits = pass-fits i _ _ _ (omega (arith, l)) e o in
+    let room = pass-room i _ _ _ (omega (arith, l)) e o (sym (h .before .below .ensures) ∙ h .if1 .left) in (
+      start (top b) .pre .1 .1 .1,
+      (mark-first _ (m .first-mark .ensures), ((omega (arith, m .first-mark .ensures .0), fits .order), ((omega (arith, fits .high, i .ready .few), fits .unit), room))),
     )
 
 add-k : tie.Need-add-k Inv-loop μ-loop
@@ -192,7 +198,7 @@ same-length-9 : tie.Need-same-length-9 Inv-loop μ-loop
 same-length-9 c =
     let out : tie.After-enum-told2 Inv-loop μ-loop = search in
     let w : tie.After-best-without Inv-loop μ-loop = search in
-    put w .put-record .kept .0 ∙ top (bounded (high w)) .loop .inv .going .part .long
+    put w .put-record .kept .1 .1 .0 ∙ top (bounded (high w)) .loop .inv .going .part .long
 
 returns-3 : tie.Need-returns-3 Inv-loop μ-loop
 unfolding textIn
@@ -202,7 +208,7 @@ returns-3 c =
     let h = high w in
     let b = bounded h in
     pass-out-again (top b .loop .inv) _ _ _ (omega (arith, turn b .loop-test .taken)) (seen (top b) .whole-view .ensures)
-    (sym (ranged h .range .given .1) ∙ b .text-bounds .ensures .is) (sym (h .before .below .ensures) ∙ h .if1 .left) _ (put w .put-record .ensures) _
+    (sym (ranged h .range .given .1) ∙ b .text-bounds .ensures .is) (sym (h .before .below .ensures) ∙ h .if1 .left) _ (put w .put-record .ensures .1) _
     (without-out (out .enum-told2 .given .1) (without-held (b .text-bounds .ensures .held) (w .best-without .ensures))) (c .out-at2 .ensures)
 
 loop-less : tie.Need-loop-less Inv-loop μ-loop
@@ -220,7 +226,7 @@ loop-again c =
     let h = high w in
     let b = bounded h in
     pass-again (top b .loop .inv) _ _ _ (omega (arith, turn b .loop-test .taken)) (seen (top b) .whole-view .ensures)
-    (sym (ranged h .range .given .1) ∙ b .text-bounds .ensures .is) (sym (h .before .below .ensures) ∙ h .if1 .left) _ (put w .put-record .ensures) _ _
+    (sym (ranged h .range .given .1) ∙ b .text-bounds .ensures .is) (sym (h .before .below .ensures) ∙ h .if1 .left) _ (put w .put-record .ensures .1) _ _
     (without-out (next .next .given .1) (without-held (b .text-bounds .ensures .held) (w .best-without .ensures)))
 
 ended-requires-2 : tie.Need-ended-requires-2 Inv-loop μ-loop
@@ -260,6 +266,7 @@ each-pass-spec =
     same-length-5
     same-length-6
     returns-2
+    first-mark-requires
     put-record-requires
     add-k
     best-without-requires

@@ -73,7 +73,7 @@ returns c =
     let out : tie.After-enum-told = search in
     let t : tie.After-best-text = search in
     let pre = start t .pre in
-    whole-out (pre .0) _ _ _ _ (pre .1) _ (seen t .whole-view .ensures) _ (done-as (out .enum-told .given .1) (t .best-text .ensures)) (c .before .no-best .ensures) (c .out-at .ensures)
+    whole-out _ (pre .0) _ _ _ _ (pre .1 .0) _ (seen t .whole-view .ensures) _ (done-as (out .enum-told .given .1) (t .best-text .ensures)) (c .before .no-best .ensures) (c .out-at .ensures)
 
 stops-requires : tie.Need-stops-requires
 stops-requires c κs = search needs
@@ -94,7 +94,7 @@ returns-2 c =
     let b : tie.After-best = search in
     let t = sought b in
     let pre = start t .pre in
-    whole-stop (pre .0) _ _ _ _ (pre .1) _ (seen t .whole-view .ensures) _ _ (done-as (b .best .given .1) (t .best-text .ensures)) _
+    whole-stop _ (pre .0) _ _ _ _ (pre .1 .0) _ (seen t .whole-view .ensures) _ _ (done-as (b .best .given .1) (t .best-text .ensures)) _
     (stop-by-best _ _ (sym (stop .before .stops .ensures) ∙ stop .if1 .taken)) refl (c .ended .ensures)
 
 ended-requires-2 : tie.Need-ended-requires-2
@@ -112,7 +112,7 @@ returns-3 c =
     let b : tie.After-best = search in
     let t = sought b in
     let s = start t in
-    whole-stop (s .pre .0) _ _ _ _ (s .pre .1) _ (seen t .whole-view .ensures) _ _ (done-as (b .best .given .1) (t .best-text .ensures)) _
+    whole-stop _ (s .pre .0) _ _ _ _ (s .pre .1 .0) _ (seen t .whole-view .ensures) _ _ (done-as (b .best .given .1) (t .best-text .ensures)) _
     (stop-by-setting (stops (s .args .scope .limits) (bestIn (shelf (now (s .args .book)) (now (s .args .second))) (b .best .given .0 .0))) _ (stop .if2 .taken)) refl (c .ended2 .ensures)
 
 each-pass-requires : tie.Need-each-pass-requires
@@ -125,7 +125,7 @@ each-pass-requires c κs =
     let d = done-as (paid on .best .given .1) (t .best-text .ensures) in
     let go = no-stop _ _ (sym (unstopped on .before .stops .ensures) ∙ unstopped on .if1 .left) (on .if2 .left) in (
       scanning-held (s .pre .0) (d .held),
-      (best-stands (s .pre .0) _ _ _ (now (s .args .results)) (s .pre .1) _ e _ _ d, whole-room (s .pre .0) _ _ _ (now (s .args .results)) (s .pre .1) _ e _ _ d go),
+      (best-stands (now (s .args .note)) (s .pre .0) _ _ _ (now (s .args .results)) (s .pre .1 .0) _ e _ _ d, (whole-room (now (s .args .note)) (s .pre .0) _ _ _ (now (s .args .results)) (s .pre .1 .0) _ e _ _ d go, s .pre .1 .1)),
     )
 
 same-length-7 : tie.Need-same-length-7
@@ -146,7 +146,7 @@ returns-4 c =
     let pre = start t .pre in
     let d = done-as (paid on .best .given .1) (t .best-text .ensures) in
     let go = no-stop _ _ (sym (unstopped on .before .stops .ensures) ∙ unstopped on .if1 .left) (on .if2 .left) in
-    whole-on (pre .0) _ _ _ _ (pre .1) _ (seen t .whole-view .ensures) _ _ d go _ refl (ran .each-pass .ensures)
+    whole-on _ (pre .0) _ _ _ _ (pre .1 .0) _ (seen t .whole-view .ensures) _ _ d go _ refl (ran .each-pass .ensures)
 
 pub elimination-spec : {M : Type 1} → statement M
 elimination-spec =

@@ -68,7 +68,7 @@ scan-mode-requires c κs =
         counted = s .pre .1;
         some-text = p .both .some;
       },
-      (p .step, scan-room (now (a .text)) (shelf (now (a .book)) (now (a .second))) (a .limits) (a .mode) (a .budget) _ (now (a .results)) (s .pre .0) _ (all .scorings-of .ensures) _ (noted-lines _ _ _ _ _ (asked (made done) .edition-of .ensures) (made done .class-table .ensures) (l .1 .0))),
+      (p .step, (scan-room (now (a .text)) (shelf (now (a .book)) (now (a .second))) (a .limits) (a .mode) (a .budget) _ (now (a .results)) (s .pre .0) _ (all .scorings-of .ensures) _ (noted-lines _ _ _ _ _ (asked (made done) .edition-of .ensures) (made done .class-table .ensures) (l .1 .0)), p .both .text .short)),
     )
 
 answer-requires : tie.Need-answer-requires

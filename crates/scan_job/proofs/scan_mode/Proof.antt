@@ -30,7 +30,7 @@ elimination-requires c κs =
     let s = start by in
     let a = s .args in
     let e = by-elimination (a .scope .limits) (a .mode) _ _ _ _ (by .mode .given .1) in
-    (s .pre .0, subst (λ (es : List Event). length (paidNumbers (a .budget .count) es) ≤ length (now (a .results))) e (s .pre .1 .1))
+    (s .pre .0, (subst (λ (es : List Event). length (paidNumbers (now (a .note)) (a .budget .count) es) ≤ length (now (a .results))) e (s .pre .1 .1 .0), s .pre .1 .1 .1))
 
 enum-known-mode-2 : tie.Need-enum-known-mode-2
 enum-known-mode-2 c = search needs
@@ -43,7 +43,7 @@ top-down-requires c κs =
     let m = by .mode2 .given .1 in
     let e = by-top-down (a .scope .limits) (a .mode) _ _ _ m in (
       s .pre .0,
-      (step-above (a .mode) _ m (s .pre .1 .0), subst (λ (es : List Event). length (paidNumbers (a .budget .count) es) ≤ length (now (a .results))) e (s .pre .1 .1)),
+      (step-above (a .mode) _ m (s .pre .1 .0), (subst (λ (es : List Event). length (paidNumbers (now (a .note)) (a .budget .count) es) ≤ length (now (a .results))) e (s .pre .1 .1 .0), s .pre .1 .1 .1)),
     )
 
 no-best-requires : tie.Need-no-best-requires

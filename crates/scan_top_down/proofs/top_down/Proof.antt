@@ -6,16 +6,16 @@ use Prim.Native.Nat.{_+_, _-_}
 use native.Mathlib.Omega.{arith}
 use borrow.Author.Needs.{needs}
 use Rattle.detection_shelf.specs.Shelves.{shelf, textIn}
-use Rattle.scan_top_down.proofs.DownRunLaws.{Downing, contains-as, rounds-first, rounds-out, rounds-nothing, rounds-fits, rounds-room, rounds-rise, rounds-found, rounds-end}
+use Rattle.scan_top_down.proofs.DownRunLaws.{Downing, contains-as, rounds-first, rounds-out, rounds-nothing, rounds-fits, rounds-room, rounds-from, rounds-rise, rounds-found, rounds-end}
 use Rattle.scan_top_down.proofs.top_down.Statement.{statement}
 use Rattle.scan_top_down.proofs.top_down.Tie as tie
 
 abbrev Inv-loop : tie.InvT-loop
-Inv-loop class area₀ words₀ scope step book second results₀ lines left₀ c₀ k₀ area words results left c k =
-    Downing scope class area₀ words₀ (shelf book second) results₀ step (left₀ .count) area words results (left .count) c k
+Inv-loop note class area₀ words₀ scope step book second results₀ lines left₀ c₀ at₀ k₀ area words results left c at k =
+    Downing note scope class area₀ words₀ (shelf book second) results₀ step (left₀ .count) area words results (left .count) c at k
 
 abbrev μ-loop : tie.MeasureT-loop
-μ-loop class area₀ words₀ scope step book second results₀ lines left₀ c₀ k₀ area words results left c k = lines + 1 - c
+μ-loop note class area₀ words₀ scope step book second results₀ lines left₀ c₀ at₀ k₀ area words results left c at k = lines + 1 - c
 
 -- the places that the answers speak of, each found by its type: one statement more in the code moves none
 module _ (x : tie.At-loop Inv-loop μ-loop) where
@@ -37,7 +37,7 @@ module _ (x : tie.After-text Inv-loop μ-loop) where
 loop-holds : tie.Need-loop-holds Inv-loop μ-loop
 loop-holds c =
     let begin : tie.Start Inv-loop μ-loop = search in
-    rounds-first _ _ _ (begin .pre .0) (begin .pre .1 .1)
+    rounds-first _ _ _ (begin .pre .0) (begin .pre .1 .1 .0)
 
 find-contained-requires : tie.Need-find-contained-requires Inv-loop μ-loop
 find-contained-requires c κs =
@@ -117,9 +117,17 @@ put-record-requires c κs =
     let l = turn f .loop-test .taken in
     let d = contains-as (t .text .given .1) (f .find-contained .ensures) in
     let fits = rounds-fits i p l _ _ _ d in (
-      rounds-room i p l _ _ _ d,
-      (omega (arith, fits .order, fits .high, i .ready .few), omega (arith, fits .high, i .ready .few), fits .unit),
+      start (top f) .pre .1 .1 .1,
+      (i .place, ((rounds-from i p l _ _ _ d, fits .order), ((omega (arith, fits .high, i .ready .few), fits .unit), rounds-room i p l _ _ _ d))),
     )
+
+past-gap-requires : tie.Need-past-gap-requires Inv-loop μ-loop
+past-gap-requires c κs =
+    let put : tie.After-put-record Inv-loop μ-loop = search in
+    let t : tie.After-text Inv-loop μ-loop = search in
+    let f = sought t in
+    let d = contains-as (t .text .given .1) (f .find-contained .ensures) in
+    (rounds-fits (top f .loop .inv) (start (top f) .pre .1 .0) (turn f .loop-test .taken) _ _ _ d .order, put .put-record .ensures .0)
 
 add-k : tie.Need-add-k Inv-loop μ-loop
 add-k c =
@@ -148,11 +156,12 @@ loop-less c =
 loop-again : tie.Need-loop-again Inv-loop μ-loop
 unfolding textIn
 loop-again c =
+    let gap : tie.After-past-gap Inv-loop μ-loop = search in
     let put : tie.After-put-record Inv-loop μ-loop = search in
     let t : tie.After-text Inv-loop μ-loop = search in
     let f = sought t in
     let d = contains-as (t .text .given .1) (f .find-contained .ensures) in
-    rounds-found (top f .loop .inv) (start (top f) .pre .1 .0) (turn f .loop-test .taken) _ _ _ d (put .put-record .ensures)
+    rounds-found (top f .loop .inv) (start (top f) .pre .1 .0) (turn f .loop-test .taken) _ _ _ d (put .put-record .ensures .1) (gap .past-gap .ensures)
 
 ended-requires-2 : tie.Need-ended-requires-2 Inv-loop μ-loop
 ended-requires-2 c κs = search needs
@@ -193,6 +202,7 @@ top-down-spec =
     returns-2
     enum-known-text
     put-record-requires
+    past-gap-requires
     add-k
     add-c
     loop-less

@@ -8,7 +8,8 @@ use Rattle.lists.proofs.SliceLaws.{part-rest}
 use Rattle.rules.specs.Bytes.{lead}
 use Rattle.slices.specs.Classes.{inClass}
 use Rattle.slices.specs.Ends.{keptLen}
-use Rattle.slices.proofs.EndLaws.{lead-most, kept-most}
+use Rattle.rules.proofs.PlaceLaws.{lead-most}
+use Rattle.slices.proofs.EndLaws.{kept-most}
 use borrow.Author.Needs.{needs}
 use Rattle.slices.proofs.ends.bare.Statement.{statement}
 use Rattle.slices.proofs.ends.bare.Tie as tie
