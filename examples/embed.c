@@ -1,4 +1,4 @@
-/* A whole program over libchultarvi, to copy from: which licence does a note hold, and in which lines?
+/* A whole program over libchultarvi, to copy from: which licence does a note hold, in which lines, and how do they read?
 
      embed BOOK NOTE [MILLISECONDS]
 
@@ -12,7 +12,7 @@
 #include <stdlib.h>
 #include <string.h>
 
-enum { PASSES = 10, MILLISECONDS_MOST = 1000000 };
+enum { PASSES = 10, SHOWN = 60, MILLISECONDS_MOST = 1000000 };
 
 typedef struct { uint8_t *bytes; size_t len; } held;
 typedef struct { uint8_t *area; uint32_t *words, *results; size_t area_len, words_len, results_len; } lent;
@@ -46,21 +46,31 @@ static int take_areas(size_t note_len, lent *to) {
     return to->area && to->words && to->results ? 0 : trouble("the areas", "no memory");
 }
 
-/* Lines count from 0 in the library, and from 1 for people. A record's number is never refused over the same book. */
-static void print_range(const held *book, const uint32_t *record) {
-    chultarvi_text_named named = chultarvi_name_stored(book->bytes, book->len, record[0]);
-    const char *name = (const char *)chultarvi_stored_name(book->bytes, 0, &named);
-    float score;
-    memcpy(&score, &record[3], sizeof score);
-    printf("  lines %" PRIu32 " to %" PRIu32 ": %.*s, score %.4f\n", record[1] + 1, record[2], (int)named.len, name, (double)score);
+/* The range's own bytes, as they stand in the note: of its first line up to SHOWN, and a dot for each that is no visible ASCII. */
+static void print_bytes(const held *note, uint32_t start, uint32_t end) {
+    printf("    bytes %" PRIu32 " to %" PRIu32 ": ", start, end);
+    for (uint32_t at = start; at < end && at - start < SHOWN && note->bytes[at] != '\n'; at++)
+        putchar(note->bytes[at] >= ' ' && note->bytes[at] <= '~' ? note->bytes[at] : '.');
+    putchar('\n');
 }
 
-static void print_answer(const held *book, const chultarvi_note_scanned *answer, const uint32_t *results) {
+/* Lines count from 0 in the library, and from 1 for people. A record's number is never refused over the same book. */
+static void print_range(const held *book, const held *note, const uint32_t *record) {
+    chultarvi_text_named named = chultarvi_name_stored(book->bytes, book->len, record[CHULTARVI_RECORD_NUMBER]);
+    const char *name = (const char *)chultarvi_stored_name(book->bytes, 0, &named);
+    float score;
+    memcpy(&score, &record[CHULTARVI_RECORD_SCORE], sizeof score);
+    printf("  lines %" PRIu32 " to %" PRIu32 ": %.*s, score %.4f\n", record[CHULTARVI_RECORD_FIRST] + 1, record[CHULTARVI_RECORD_AFTER], (int)named.len,
+           name, (double)score);
+    print_bytes(note, record[CHULTARVI_RECORD_START], record[CHULTARVI_RECORD_END]);
+}
+
+static void print_answer(const held *book, const held *note, const chultarvi_note_scanned *answer, const uint32_t *results) {
     const char *name = (const char *)chultarvi_name(book->bytes, 0, answer);
     if (answer->kind == CHULTARVI_NONE) printf("no licence as a whole");
     else printf("%.*s", (int)answer->len, name);
     printf(", score %.4f, %" PRIu32 " word pairs shared, %" PRIu32 " of both together\n", (double)answer->score, answer->m, answer->t);
-    for (size_t k = 0; k < answer->records; k++) print_range(book, results + CHULTARVI_RECORD_WIDTH * k);
+    for (size_t k = 0; k < answer->records; k++) print_range(book, note, results + CHULTARVI_RECORD_WIDTH * k);
     printf("  %" PRIu64 " scorings\n", answer->count);
 }
 
@@ -75,7 +85,7 @@ static int scan(const held *book, const held *note, uint64_t budget, const lent 
                                                         l->area_len, l->words, l->words_len, l->results, l->results_len);
     bool stopped = answer.refusal == CHULTARVI_STOPPED_BY_BUDGET;
     if (answer.refusal) fprintf(stderr, "embed: refused (%" PRIu32 "): %s\n", answer.refusal, chultarvi_refusal_text(answer.refusal));
-    if (!answer.refusal || stopped) print_answer(book, &answer, l->results);
+    if (!answer.refusal || stopped) print_answer(book, note, &answer, l->results);
     return answer.refusal ? 1 : 0;
 }
 

@@ -62,11 +62,12 @@
 extern "C" {
 #endif
 
-/* 0.6.0: three answers have grown by m and t, so callers compile anew. 0.6.1: on equal scores a text's kind decides before its place. */
-#define CHULTARVI_VERSION "0.6.1"
+/* 0.6.0: three answers have grown by m and t, so callers compile anew. 0.6.1: on equal scores a text's kind decides before its place. 0.7.0: a record has
+   six numbers, so results grow; callers compile anew. */
+#define CHULTARVI_VERSION "0.7.0"
 #define CHULTARVI_VERSION_MAJOR 0
-#define CHULTARVI_VERSION_MINOR 6
-#define CHULTARVI_VERSION_PATCH 1
+#define CHULTARVI_VERSION_MINOR 7
+#define CHULTARVI_VERSION_PATCH 0
 
 #define CHULTARVI_TEXT_MOST 1048576u   /* bytes of a text */
 #define CHULTARVI_LINES_MOST 65536u    /* lines of a text */
@@ -74,7 +75,7 @@ extern "C" {
 #define CHULTARVI_STORED_MOST 1024u    /* stored texts of a book */
 #define CHULTARVI_NAME_MOST 64u        /* bytes of a name */
 #define CHULTARVI_EDITION_MOST 3u      /* the last edition; the first is 1 */
-#define CHULTARVI_RECORD_WIDTH 4u      /* numbers of a record in the results */
+#define CHULTARVI_RECORD_WIDTH 6u      /* numbers of a record in the results */
 #define CHULTARVI_RECORD_HEAD 6u       /* bytes of a book's record before its body */
 #define CHULTARVI_DEPTH_MOST 32u       /* parentheses of a licence expression that are open at once */
 
@@ -87,6 +88,16 @@ enum {
     CHULTARVI_HEADER = 4,
     CHULTARVI_ALIAS = 5,
     CHULTARVI_EDITION = 6
+};
+
+/* Which number of a record in the results is what; the answer of a scan, below, says each. */
+enum {
+    CHULTARVI_RECORD_NUMBER, /* of the stored text */
+    CHULTARVI_RECORD_FIRST,  /* line */
+    CHULTARVI_RECORD_AFTER,  /* the line after the last */
+    CHULTARVI_RECORD_SCORE,  /* its bits */
+    CHULTARVI_RECORD_START,  /* byte of the text */
+    CHULTARVI_RECORD_END     /* the byte after the last */
 };
 
 /* In the order in which they are tested. 13 and 14 are of licence expressions and come before 11: of the two the one at the earlier byte, 13 on a tie. */
@@ -188,11 +199,17 @@ chultarvi_text_named chultarvi_name_stored(const uint8_t *book, size_t book_len,
      len, name  the licence's name. It is zero-filled, so no zero ends it where len is 64
      second, name_at  where the same bytes stand: in the second book where `second` is true, else in the first, from byte name_at on, and all of
                 them lie in that book (proved: part-lies, part-named, crates/scan_job/proofs). No name: false and 0. See chultarvi_name
-     records    how many ranges were found. Each is four numbers at the front of results: the stored text's number, first line, line after
-                last, and the bits of the score (memcpy them into a float). The rest of results is as it was
+     records    how many ranges were found. Each is a record of six numbers (CHULTARVI_RECORD_WIDTH) at the front of results: the stored text's number,
+                first line, line after last, the bits of the score (memcpy them into a float), start and end. The rest of results is as it was
+                start, end: the range's bytes in the text as it was lent, counted from 0. start is where its first line starts, end the byte after its last
+                line, whose newline is not counted. Only byte 10 ends a line, so a carriage return belongs to its line. An empty range has the start of
+                its line twice, and behind the last line the text's length twice. A text that ends with a newline has an empty last line, which starts
+                and ends at the text's length. They are bytes in edition 3 too, and lines that earlier records blanked stand where they were lent.
+                So of a range that is not empty the bytes from start up to end, split at newlines, are the text's lines from first up to after, as a
+                viewer shows them (proved: places-cut, crates/rules/proofs; at the face: records-placed, crates/scan_job/proofs)
      count      how many scorings were made
-   A scan stops, with refusal 12, at the first scoring that `budget` does not pay. Then count is the budget, finished records stay, and elimination
-   has score, m, t, kind and name once each stored text has been scored once. UINT64_MAX is a budget that no scan reaches.
+   A scan stops, with refusal 12, at the first scoring that `budget` does not pay. Then count is the budget, finished records stay, each with all six
+   numbers, and elimination has score, m, t, kind and name once each stored text has been scored once. UINT64_MAX is a budget that no scan reaches.
    Both limits are from 0.0 to 1.0. Refusals 1 to 6, 10, 12, and 7 of top-down. */
 typedef struct {
     uint32_t refusal, records;

@@ -60,9 +60,14 @@ finding *add_finding(findings *to, finding f) {
 void add_records(const worker *w, const chultarvi_note_scanned *a, uint32_t first, const uint32_t *numbers, findings *to) {
     for (uint32_t k = 0; k < a->records; k++) {
         const uint32_t *record = w->results + CHULTARVI_RECORD_WIDTH * (size_t)k;
-        uint32_t number = numbers ? numbers[record[0]] : record[0];
-        finding f = {.text = w->from->stored[number], .number = number, .first = first + record[1], .after = first + record[2]};
-        memcpy(&f.of.score, record + 3, sizeof f.of.score);
+        uint32_t number = record[CHULTARVI_RECORD_NUMBER], shift = w->starts[first];
+        if (numbers) number = numbers[number];
+        finding f = {.text = w->from->stored[number], .number = number};
+        f.first = first + record[CHULTARVI_RECORD_FIRST], f.after = first + record[CHULTARVI_RECORD_AFTER];
+        f.start = shift + record[CHULTARVI_RECORD_START], f.end = shift + record[CHULTARVI_RECORD_END];
+        memcpy(&f.of.score, record + CHULTARVI_RECORD_SCORE, sizeof f.of.score);
+        /* at a part's end an empty range is told the part's length, and the note's next line starts behind it */
+        if (f.first == f.after) place_lines(w, &f);
         add_finding(to, f);
     }
 }
@@ -117,4 +122,22 @@ void find_lines(worker *w, part text) {
 part lines_part(const worker *w, part text, uint32_t first, uint32_t after) {
     if (first >= after) return (part){text.bytes, 0};
     return (part){text.bytes + w->starts[first], w->starts[after] - 1 - w->starts[first]};
+}
+
+/* No line starts at the text's end plus one, where a range behind the last line would. */
+void place_lines(const worker *w, finding *f) {
+    bool behind = f->first == w->lines, none = f->first == f->after;
+    f->start = w->starts[f->first] - behind;
+    f->end = none ? f->start : w->starts[f->after] - 1;
+}
+
+static void place_all(const worker *w, findings *all) {
+    for (size_t i = 0; i < all->count; i++) place_lines(w, all->at + i);
+}
+
+void place_in_file(worker *w, report *r) {
+    if (r->changed == 0) return;
+    find_lines(w, r->raw);
+    place_all(w, &r->ranges);
+    place_all(w, &r->further);
 }

@@ -36,12 +36,24 @@ const char *read_file(const char *path, uint8_t *to, size_t most, size_t *len) {
     return why;
 }
 
-static bool write_open(int file, const uint8_t *bytes, size_t len) {
-    while (len > 0) {
-        ssize_t n = write(file, bytes, len);
+bool write_bytes(int file, part bytes) {
+    while (bytes.len > 0) {
+        ssize_t n = write(file, bytes.bytes, bytes.len);
         if (n < 0 && errno == EINTR) continue;
         if (n < 0) return false;
-        bytes += n;
+        bytes = (part){bytes.bytes + n, bytes.len - (size_t)n};
+    }
+    return true;
+}
+
+bool copy_bytes(int to, int from, off_t at, size_t len) {
+    uint8_t room[65536];
+    if (lseek(from, at, SEEK_SET) < 0) return false;
+    while (len > 0) {
+        ssize_t n = read(from, room, len < sizeof room ? len : sizeof room);
+        if (n < 0 && errno == EINTR) continue;
+        if (n == 0) errno = EIO;
+        if (n <= 0 || !write_bytes(to, (part){room, (size_t)n})) return false;
         len -= (size_t)n;
     }
     return true;
@@ -65,23 +77,32 @@ static bool flush_folder(const char *path) {
     return flushed;
 }
 
-/* The bytes into the file `beside`, on disk, under the path's name. False with errno; the path is then as it was. */
-static bool write_beside(int file, const char *beside, const char *path, mode_t mode, const uint8_t *bytes, size_t len) {
-    bool written = fchmod(file, mode) == 0 && write_open(file, bytes, len) && fsync(file) == 0;
+/* What a file is to hold, and its mode. */
+typedef struct { mode_t mode; filling *fill; void *with; } content;
+
+/* The content into the file `beside`, on disk, under the path's name. False with errno; the path is then as it was. */
+static bool write_beside(int file, const char *beside, const char *path, content c) {
+    bool written = fchmod(file, c.mode) == 0 && c.fill(file, c.with) && fsync(file) == 0;
     int why = errno;
     bool closed = close(file) == 0;
     if (!written) errno = why;
     return written && closed && rename(beside, path) == 0;
 }
 
-static bool replace(const char *path, mode_t mode, const uint8_t *bytes, size_t len) {
+/* A new file in the path's folder; its name is the caller's to free. */
+static int open_beside(const char *path, char **name) {
     static const char pattern[] = ".chultarvi.XXXXXX";
     size_t folder = folder_len(path);
-    char *beside = take(folder + sizeof pattern);
-    memcpy(beside, path, folder);
-    memcpy(beside + folder, pattern, sizeof pattern);
-    int file = mkstemp(beside);
-    bool done = file >= 0 && write_beside(file, beside, path, mode, bytes, len);
+    *name = take(folder + sizeof pattern);
+    memcpy(*name, path, folder);
+    memcpy(*name + folder, pattern, sizeof pattern);
+    return mkostemp(*name, O_CLOEXEC);
+}
+
+static bool replace(const char *path, content c) {
+    char *beside;
+    int file = open_beside(path, &beside);
+    bool done = file >= 0 && write_beside(file, beside, path, c);
     if (!done) {
         say_of(path, "not written: %s; what was there is unchanged", strerror(errno));
         if (file >= 0) unlink(beside);
@@ -94,12 +115,12 @@ static bool replace(const char *path, mode_t mode, const uint8_t *bytes, size_t 
 }
 
 /* Through a link to the file that it names; a device or a pipe must not be renamed away. */
-static bool write_through(const char *path, const uint8_t *bytes, size_t len) {
+static bool write_through(const char *path, filling *fill, void *with) {
     struct stat old;
     if (lstat(path, &old) != 0) {
         mode_t mask = umask(0);
         umask(mask);
-        return replace(path, 0666 & ~mask, bytes, len);
+        return replace(path, (content){0666 & ~mask, fill, with});
     }
     char *full = realpath(path, 0);
     if (!full || stat(full, &old) != 0 || !S_ISREG(old.st_mode)) {
@@ -107,22 +128,43 @@ static bool write_through(const char *path, const uint8_t *bytes, size_t len) {
         free(full);
         return false;
     }
-    bool done = replace(full, old.st_mode & 0777, bytes, len);
+    bool done = replace(full, (content){old.st_mode & 0777, fill, with});
     free(full);
     return done;
 }
 
-bool write_file(const char *path, const uint8_t *bytes, size_t len) {
-    /* an interrupt waits until the file stands or its beginning is removed */
-    sigset_t waiting, before;
+/* An interrupt waits until a file stands or its beginning is removed. */
+static void hold_signals(sigset_t *before) {
+    sigset_t waiting;
     sigemptyset(&waiting);
     sigaddset(&waiting, SIGINT);
     sigaddset(&waiting, SIGTERM);
     sigaddset(&waiting, SIGHUP);
-    sigprocmask(SIG_BLOCK, &waiting, &before);
-    bool done = write_through(path, bytes, len);
+    sigprocmask(SIG_BLOCK, &waiting, before);
+}
+
+bool write_by(const char *path, filling *fill, void *with) {
+    sigset_t before;
+    hold_signals(&before);
+    bool done = write_through(path, fill, with);
     sigprocmask(SIG_SETMASK, &before, 0);
     return done;
+}
+
+static bool fill_bytes(int file, void *bytes) { return write_bytes(file, *(const part *)bytes); }
+
+bool write_file(const char *path, const uint8_t *bytes, size_t len) { return write_by(path, fill_bytes, &(part){bytes, len}); }
+
+int open_unnamed(const char *path) {
+    sigset_t before;
+    char *name;
+    hold_signals(&before);
+    int file = open_beside(path, &name), why = errno;
+    if (file >= 0) unlink(name);
+    sigprocmask(SIG_SETMASK, &before, 0);
+    free(name);
+    errno = why;
+    return file;
 }
 
 int flush_output(void) {

@@ -69,6 +69,7 @@ static void take_answer(worker *w, report *r, const chultarvi_note_scanned *a, u
     findings found = {0};
     add_records(w, a, first, w->chosen, &found);
     count_pairs(w, r, first, after, &found);
+    place_lines(w, &whole);
     if (whole.text.kind && found.count == 0) add_finding(&found, whole);
     for (size_t i = 0; i < found.count; i++) {
         hold(w, found.at + i);

@@ -43,6 +43,9 @@ static const char scan_help[] =
     "  --budget N        stop before scoring number N + 1 (no limit)\n"
     "  --ascii           map to ASCII or drop what BOOK's edition does not take, and say how many characters that were: in editions 1 and 2\n"
     "                    what is not ASCII, in edition 3 what lies above U+00FF; bytes that are no UTF-8 are read as Latin-1\n"
+    "  --show            print the lines of each range, as they stand in the note\n"
+    "  --html FILE       write a page too, for a browser: all notes, their ranges marked. FILE is none of the notes, no book,\n"
+    "                    and not where the answers go\n"
     "  -r, --recursive   walk folders; .git, links to folders, large files and what is no file are skipped and counted\n"
     "  -j, --jobs N      scan with N threads, up to 256 (1)\n"
     "  --json            one line of JSON for each note\n"
@@ -50,7 +53,10 @@ static const char scan_help[] =
     "A score is 2m/t: m word pairs shared, t word pairs of both together, of the lines and of the stored text. '2m/t = 2*214/440' is\n"
     "214 pairs shared; JSON has m and t. Of a range they take one scoring more, and are missing where the budget does not pay it.\n"
     "For people lines count from 1. JSON counts lines from 0 and gives the line after the last; its number of a stored text counts\n"
-    "from 0 through BOOK and on into BOOK2.\n"
+    "from 0 through BOOK and on into BOOK2. Its start and end are bytes of the file, also with --ascii: where the range's first line\n"
+    "starts, and the byte behind its last one, the newline not counted.\n"
+    "A shown line stands behind '    | '; there and on a page a control but tab, what turns a line's order round, and a byte that is no\n"
+    "UTF-8 are written \\xHH, and of a shown line a backslash twice. --show is for people, and --json says where to cut instead.\n"
     "\n" ENDING;
 
 static const char list_help[] =

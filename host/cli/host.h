@@ -6,6 +6,7 @@
 #include "../../include/chultarvi.h"
 #include <stdarg.h>
 #include <stdio.h>
+#include <sys/types.h>
 
 #define VERSION CHULTARVI_VERSION
 
@@ -26,6 +27,15 @@ const char *read_file(const char *path, uint8_t *to, size_t most, size_t *len);
 const char *read_note(const char *path, uint8_t *to, size_t most, size_t *len);
 /* Writes beside, flushes, renames. Either the file is new and whole, or what stood there still stands and the reason has been said. */
 bool write_file(const char *path, const uint8_t *bytes, size_t len);
+/* The same of what `fill` writes into a file that is open; it gives false, with errno, where it cannot. */
+typedef bool filling(int file, void *with);
+bool write_by(const char *path, filling *fill, void *with);
+bool write_bytes(int file, part bytes);
+/* A file without a name in the folder of a path, to write and to read again: once it is open nothing of it is left, whatever ends the program. -1 with
+   errno. */
+int open_unnamed(const char *path);
+/* `len` bytes from byte `at` on of such a file into another. False with errno. */
+bool copy_bytes(int to, int from, off_t at, size_t len);
 /* Writes out what standard output holds. Gives 0, or errno's number of the first failure: it stays, since errno is each thread's own and what was not
    written is not tried again. One thread at a time. */
 int flush_output(void);
@@ -38,6 +48,8 @@ char *read_list(const char *file, size_t *len);
 /* Cuts the line at p off the next one, whose beginning it gives; null behind the last. A zero byte stands at `end` and, then, behind the line of `len`
    bytes. A line may end with CR LF. */
 char *cut_line(char *p, char *end, size_t *len);
+/* Takes the first line off a text, and the newline behind it. */
+part take_line(part *text);
 /* An empty line and one that begins with `# ` say nothing. (`#` alone begins no comment: `#1` is a name.) */
 bool is_comment(const char *line);
 
@@ -52,7 +64,12 @@ const char *plural(size_t count);
 /* A file name as a person may see it: controls and bytes that are no UTF-8 are written \n, \t, \xHH, a backslash twice. Or any bytes, so. */
 void put_plain(FILE *to, const char *name);
 void put_plain_bytes(FILE *to, part bytes);
-/* The same of at most so many bytes; what is left out is said by two dots. */
+/* How many bytes the character at p has, where a reader of a text sees it as it is; else 0: a control but tab and newline, what turns the order of a
+   line round or ends it (U+061C, U+200E, U+200F, U+2028 to U+202E, U+2066 to U+2069), a byte order mark, a byte that is no UTF-8. */
+size_t seen_len(const uint8_t *p, size_t left);
+/* A line of a text as a person may see it: what is not seen as it is is written \xHH, byte by byte, a backslash twice. */
+void put_line(FILE *to, part line);
+/* The same as put_plain_bytes, of at most so many bytes; what is left out is said by two dots. */
 void put_short(FILE *to, part bytes, size_t most);
 /* A JSON string with its quotes. A byte that is no UTF-8 is written as \udcHH, which says which byte it was. */
 void put_json(FILE *to, const char *bytes, size_t len);

@@ -1,4 +1,4 @@
-/* Lists of lines: read whole, and cut line by line. */
+/* Lists of lines, read whole and cut line by line; and the lines of a text. */
 #include "host.h"
 #include <stdlib.h>
 #include <string.h>
@@ -23,6 +23,14 @@ char *cut_line(char *p, char *end, size_t *len) {
     *behind = 0;
     *len = (size_t)(behind - p);
     return newline ? newline + 1 : 0;
+}
+
+part take_line(part *text) {
+    const uint8_t *newline = text->len ? memchr(text->bytes, '\n', text->len) : 0;
+    part line = {text->bytes, newline ? (size_t)(newline - text->bytes) : text->len};
+    size_t gone = line.len + (newline != 0);
+    *text = (part){text->bytes + gone, text->len - gone};
+    return line;
 }
 
 bool is_comment(const char *line) { return *line == 0 || strcmp(line, "#") == 0 || strncmp(line, "# ", 2) == 0; }

@@ -1,12 +1,11 @@
 /* What is said of a scanned note: lines for a person, which count from 1 and name the last line of a range, or one line of JSON, whose numbers
-   are the library's own (lines from 0, and the line after the last). host/scan.schema.json says each field of the JSON. */
+   are the library's own (lines from 0, and the line after the last; bytes of the file). host/scan.schema.json says each field of the JSON. */
 #include "scan.h"
 #include <inttypes.h>
 #include <stdlib.h>
 #include <string.h>
 
-/* Top-down has no overall score, and a scan stopped before each stored text was scored once knows none yet. */
-static bool overall_known(const report *r) {
+bool overall_known(const report *r) {
     return !r->from->with.down && (r->answer.refusal == 0 || r->answer.count >= r->from->stored_count);
 }
 
@@ -53,7 +52,7 @@ static void json_finding(FILE *to, const report *r, const finding *f, bool numbe
     fputc('{', to);
     json_licence(to, r, &f->text);
     if (numbered) fprintf(to, ",\"number\":%" PRIu32, f->number);
-    fprintf(to, ",\"first\":%" PRIu32 ",\"after\":%" PRIu32, f->first, f->after);
+    fprintf(to, ",\"first\":%" PRIu32 ",\"after\":%" PRIu32 ",\"start\":%" PRIu32 ",\"end\":%" PRIu32, f->first, f->after, f->start, f->end);
     json_value(to, &f->of);
     json_doubt(to, r, f);
     fputc('}', to);
@@ -139,8 +138,7 @@ static const next_steps steps = {
     "--ascii scans it with such bytes read as Latin-1",
 };
 
-/* What to say of the note's refusal; the caller frees it. */
-static char *message_of(const report *r) {
+char *message_of(const report *r) {
     uint32_t refusal = r->answer.refusal;
     char *message = 0;
     size_t len;
@@ -175,36 +173,63 @@ static void plain_value(FILE *to, const value *v) {
     if (v->counted) fprintf(to, ", 2m/t = 2*%" PRIu32 "/%" PRIu32, v->m, v->t);
 }
 
-static void plain_text(FILE *to, const report *r, const stored_text *s, const value *v) {
-    fprintf(to, "%.*s, %s, ", (int)s->len, s->name, kind_words(s->kind));
+void plain_name(FILE *to, const stored_text *s) { fprintf(to, "%.*s", (int)s->len, s->name); }
+
+void plain_kind(FILE *to, const report *r, const stored_text *s, const value *v) {
+    fprintf(to, "%s, ", kind_words(s->kind));
     plain_value(to, v);
     if (!r->from->with.beside) return;
     fputs(", from ", to);
     put_plain(to, s->book);
 }
 
+void plain_text(FILE *to, const report *r, const stored_text *s, const value *v) {
+    plain_name(to, s);
+    fputs(", ", to);
+    plain_kind(to, r, s, v);
+}
+
+const char *doubt_of(const report *r, const finding *f) {
+    if (has_rival(f)) return f->other_of.score > f->of.score ? "but higher on these lines: " : "but as high: ";
+    if (r->from->with.second && f->looked && f->other.kind) return f->text.kind ? "next: " : "nearest: ";
+    return 0;
+}
+
 static void plain_doubt(FILE *to, const report *r, const finding *f) {
-    const char *lead = 0;
-    if (has_rival(f)) lead = f->other_of.score > f->of.score ? "but higher on these lines: " : "but as high: ";
-    else if (r->from->with.second && f->looked && f->other.kind) lead = f->text.kind ? "next: " : "nearest: ";
+    const char *lead = doubt_of(r, f);
     if (!lead) return;
     fprintf(to, "    %s", lead);
     plain_text(to, r, &f->other, &f->other_of);
     fputc('\n', to);
 }
 
+void plain_place(FILE *to, const finding *f) {
+    if (f->first == f->after) fprintf(to, "no line, after line %" PRIu32, f->first);
+    else if (f->first + 1 == f->after) fprintf(to, "line %" PRIu32, f->after);
+    else fprintf(to, "lines %" PRIu32 " to %" PRIu32, f->first + 1, f->after);
+}
+
+/* The lines as they stand in the file; of no line there is nothing. */
+static void plain_lines(FILE *to, const report *r, const finding *f) {
+    part rest = {r->raw.bytes + f->start, f->end - f->start};
+    for (uint32_t line = f->first; line < f->after; line++) {
+        fputs("    | ", to);
+        put_line(to, take_line(&rest));
+        fputc('\n', to);
+    }
+}
+
 static void plain_finding(FILE *to, const report *r, const finding *f, const char *lead) {
     fprintf(to, "  %s", lead);
-    if (f->first == f->after) fprintf(to, "no line, after line %" PRIu32 ": ", f->first);
-    else if (f->first + 1 == f->after) fprintf(to, "line %" PRIu32 ": ", f->after);
-    else fprintf(to, "lines %" PRIu32 " to %" PRIu32 ": ", f->first + 1, f->after);
+    plain_place(to, f);
+    fputs(": ", to);
     plain_text(to, r, &f->text, &f->of);
     fputc('\n', to);
     plain_doubt(to, r, f);
+    if (r->from->with.show) plain_lines(to, r, f);
 }
 
-/* What nobody has read, and what it cost. */
-static void plain_rest(FILE *to, const report *r) {
+void plain_rest(FILE *to, const report *r) {
     const settings *s = &r->from->with;
     if (r->changed) fprintf(to, "  --ascii changed %zu character%s\n", r->changed, r->changed == 1 ? "" : "s");
     if (r->stopped) fputs("  the further scans were stopped by the budget\n", to);
@@ -223,6 +248,18 @@ static void put_message(FILE *err, const char *file, const char *lead, const cha
     fprintf(err, ": %s%s\n", lead, message);
 }
 
+void plain_whole(FILE *to, const report *r) {
+    const chultarvi_note_scanned *a = &r->answer;
+    if (r->whole.text.kind) plain_text(to, r, &r->whole.text, &r->whole.of);
+    else if (overall_known(r)) {
+        fputs("no licence as a whole (best ", to);
+        plain_value(to, &r->whole.of);
+        fputc(')', to);
+    } else if (!r->from->with.down) fputs("not known as a whole", to);
+    else fputs(a->records ? "ranges" : "no range", to);
+    if (a->refusal) fputs("; stopped by the budget", to);
+}
+
 static void report_plain(const report *r, FILE *to, FILE *err) {
     const chultarvi_note_scanned *a = &r->answer;
     if (a->refusal) {
@@ -233,14 +270,8 @@ static void report_plain(const report *r, FILE *to, FILE *err) {
     }
     put_plain(to, r->file);
     fputs(": ", to);
-    if (r->whole.text.kind) plain_text(to, r, &r->whole.text, &r->whole.of);
-    else if (overall_known(r)) {
-        fputs("no licence as a whole (best ", to);
-        plain_value(to, &r->whole.of);
-        fputc(')', to);
-    } else if (!r->from->with.down) fputs("not known as a whole", to);
-    else fputs(a->records ? "ranges" : "no range", to);
-    fprintf(to, "%s\n", a->refusal ? "; stopped by the budget" : "");
+    plain_whole(to, r);
+    fputc('\n', to);
     plain_doubt(to, r, &r->whole);
     for (size_t k = 0; k < r->ranges.count; k++) plain_finding(to, r, r->ranges.at + k, "");
     for (size_t k = 0; k < r->further.count; k++) plain_finding(to, r, r->further.at + k, "further, ");
@@ -269,21 +300,26 @@ static const struct { const char *json, *plain; } skipped_words[SKIPPED_KINDS] =
     [SKIPPED_GIT] = {"git", ".git"},
 };
 
-void report_folder(const walked *f, bool json) {
-    if (json) {
-        json_word(stdout, "{\"folder\":", f->folder);
-        printf(",\"notes\":%zu,\"skipped\":{", f->notes);
-        for (int i = 0; i < SKIPPED_KINDS; i++) printf("%s\"%s\":%zu", i ? "," : "", skipped_words[i].json, f->skipped[i]);
-        fputs("}}\n", stdout);
-        return;
-    }
-    put_plain(stdout, f->folder);
-    printf(": %zu note%s", f->notes, f->notes == 1 ? "" : "s");
+static void json_folder(FILE *to, const walked *f) {
+    json_word(to, "{\"folder\":", f->folder);
+    fprintf(to, ",\"notes\":%zu,\"skipped\":{", f->notes);
+    for (int i = 0; i < SKIPPED_KINDS; i++) fprintf(to, "%s\"%s\":%zu", i ? "," : "", skipped_words[i].json, f->skipped[i]);
+    fputs("}}\n", to);
+}
+
+void plain_folder(FILE *to, const walked *f) {
+    put_plain(to, f->folder);
+    fprintf(to, ": %zu note%s", f->notes, f->notes == 1 ? "" : "s");
     const char *lead = "; skipped: ";
     for (int i = 0; i < SKIPPED_KINDS; i++) {
         if (!f->skipped[i]) continue;
-        printf("%s%zu %s", lead, f->skipped[i], skipped_words[i].plain);
+        fprintf(to, "%s%zu %s", lead, f->skipped[i], skipped_words[i].plain);
         lead = ", ";
     }
-    fputc('\n', stdout);
+    fputc('\n', to);
+}
+
+void report_folder(const walked *f, bool json) {
+    if (json) json_folder(stdout, f);
+    else plain_folder(stdout, f);
 }

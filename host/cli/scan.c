@@ -9,14 +9,15 @@
 #include <unistd.h>
 
 /* OPERAND is getopt's number for a word that is no option. The options' own lie above every byte: a letter that is none comes back as its byte. */
-enum { OPERAND = 1, BESIDE = 256, THRESHOLD, SHALLOW, PASSES, NO_OPTIMIZE, TOP_DOWN, BUDGET, JSON, THOROUGH, SECOND, ASCII, OPTIONS };
+enum { OPERAND = 1, BESIDE = 256, THRESHOLD, SHALLOW, PASSES, NO_OPTIMIZE, TOP_DOWN, BUDGET, JSON, THOROUGH, SECOND, ASCII, SHOW, HTML, OPTIONS };
 static const struct option options[] = {
     {"beside", required_argument, 0, BESIDE},       {"threshold", required_argument, 0, THRESHOLD},
     {"shallow", required_argument, 0, SHALLOW},     {"passes", required_argument, 0, PASSES},
     {"no-optimize", no_argument, 0, NO_OPTIMIZE},   {"top-down", required_argument, 0, TOP_DOWN},
     {"budget", required_argument, 0, BUDGET},       {"json", no_argument, 0, JSON},
     {"thorough", no_argument, 0, THOROUGH},         {"second", no_argument, 0, SECOND},
-    {"ascii", no_argument, 0, ASCII},               {"recursive", no_argument, 0, 'r'},
+    {"ascii", no_argument, 0, ASCII},               {"show", no_argument, 0, SHOW},
+    {"html", required_argument, 0, HTML},           {"recursive", no_argument, 0, 'r'},
     {"jobs", required_argument, 0, 'j'},            {"help", no_argument, 0, 'h'},
     {0, 0, 0, 0},
 };
@@ -55,6 +56,16 @@ static bool read_beside(settings *s) {
     return true;
 }
 
+static bool read_page(settings *s) {
+    const char *wrong = 0;
+    if (*optarg == 0) return wrong_value(HTML, "a file");
+    if (strcmp(optarg, "-") == 0) wrong = "wants a file, since standard output has the answers; ./- is one of that name";
+    else if (s->html) wrong = "stands twice; one page has all notes";
+    if (wrong) say("--html %s", wrong);
+    s->html = optarg;
+    return !wrong;
+}
+
 /* Said here once, and not of each note by the library's refusal 6. */
 static bool read_share(int which, float *limit) {
     bool good = read_limit(optarg, limit) && *limit >= 0.0f && *limit <= 1.0f;
@@ -84,6 +95,8 @@ static bool read_option(int which, settings *s) {
     case THOROUGH: return s->thorough = true;
     case SECOND: return s->second = true;
     case ASCII: return s->ascii = true;
+    case SHOW: return s->show = true;
+    case HTML: return read_page(s);
     case 'r': return s->recursive = true;
     case 'j':
         good = read_count(which, 1, JOBS_MOST, &n, "a number of threads from 1 to 256");
@@ -98,6 +111,8 @@ static bool have_effect(const settings *s, const bool seen[OPTIONS]) {
     const char *wrong = 0;
     if (s->down && (seen[PASSES] || seen[NO_OPTIMIZE])) wrong = "--passes and --no-optimize have no meaning with --top-down";
     else if (!s->optimize && seen[PASSES]) wrong = "--passes has no meaning with --no-optimize";
+    else if (s->show && s->json) wrong = "--show has no meaning with --json; cut the lines from the note by `start` and `end` of each range";
+    else if (s->show && !s->optimize && !s->thorough) wrong = "--show has no meaning with --no-optimize, which looks for no ranges; --thorough does";
     if (wrong) say("%s", wrong);
     return !wrong;
 }
@@ -149,13 +164,16 @@ static void scan_text(worker *w, report *r) {
     if (w->from->with.thorough) look_further(w, r);
     look_for_others(w, r);
     count_unheld(w, r);
+    place_in_file(w, r);
     if (r->further.count) qsort(r->further.at, r->further.count, sizeof *r->further.at, by_line);
 }
 
 /* The note into the text that is lent; with --ascii by way of `raw`. The first book's edition is the one that the text is refused by. */
 static const char *read_text(worker *w, const char *file, report *r) {
     bool ascii = w->from->with.ascii;
-    const char *why = read_note(file, ascii ? w->raw : w->lent.text, CHULTARVI_TEXT_MOST, &r->len);
+    uint8_t *to = ascii ? w->raw : w->lent.text;
+    const char *why = read_note(file, to, CHULTARVI_TEXT_MOST, &r->len);
+    r->raw = (part){to, r->len};
     if (!why && ascii) r->changed = to_taken(w->raw, r->len, w->from->books[0].edition, w->lent.text, &r->len);
     return why;
 }
@@ -166,10 +184,12 @@ static int scan_note(worker *w, size_t index, FILE *out, FILE *err) {
     const char *why = read_text(w, file, &r);
     if (why) {
         report_trouble(file, why, w->from->with.json, out, err);
+        if (w->from->page) add_unread(w->from->page, index, file, why);
         return TROUBLE;
     }
     scan_text(w, &r);
     report_note(&r, out, err);
+    if (w->from->page) add_to_page(w->from->page, index, &r);
     free(r.ranges.at);
     free(r.further.at);
     return r.answer.refusal || r.stopped ? REFUSED : DONE;
@@ -234,7 +254,7 @@ static void open_worker(worker *w, const shelf *s) {
     *w = (worker){.from = s, .lent = take_memory()};
     if (s->with.ascii) w->raw = take(CHULTARVI_TEXT_MOST + 1);
     w->blanked = take(CHULTARVI_TEXT_MOST);
-    /* top-down at most 4 for each line; elimination at most 4 * 65,535, which is less */
+    /* top-down at most a record for each line; elimination at most 65,535 records, which is less */
     w->results = take(chultarvi_top_down_results(CHULTARVI_LINES_MOST) * sizeof *w->results);
     w->starts = take((CHULTARVI_LINES_MOST + 1) * sizeof *w->starts);
     w->held = take(CHULTARVI_LINES_MOST * sizeof *w->held);
@@ -269,11 +289,21 @@ static int scan_all(const shelf *s) {
     return status;
 }
 
+/* The notes scanned, and their page. One that cannot be written keeps nothing from being scanned. */
+static int scan_to_page(shelf *s) {
+    const char *html = s->with.html;
+    if (html && !is_page_free(&s->with, &all_notes)) return TROUBLE;
+    if (html) s->page = open_page(html, all_notes.count);
+    int status = scan_all(s);
+    for (size_t i = 0; i < all_notes.folder_count; i++) report_folder(all_notes.folders + i, s->with.json);
+    bool paged = !html || (s->page && close_page(s->page, s, &all_notes));
+    return paged ? status : TROUBLE;
+}
+
 static int scan_names(shelf *s, char **names, size_t count) {
     if (!open_shelf(s)) return TROUBLE;
     for (size_t i = 0; i < count; i++) add_word(&all_notes, names[i], &s->with);
-    int status = scan_all(s);
-    for (size_t i = 0; i < all_notes.folder_count; i++) report_folder(all_notes.folders + i, s->with.json);
+    int status = scan_to_page(s);
     if (all_notes.status > status) status = all_notes.status;
     free_notes(&all_notes);
     return status;

@@ -1,16 +1,16 @@
 /* What the files of the subcommand scan share: its settings, its books, a note with all that was found in it, and the memory of one worker.
    scan.c reads the words and goes through the notes, walk.c finds them in folders, row.c keeps their answers in order, calls.c calls the library,
-   further.c looks for licences that the scan left unread, doubt.c for a licence that scores as high, report.c says it all. */
+   further.c looks for licences that the scan left unread, doubt.c for a licence that scores as high, report.c says it all, page.c writes it as a page. */
 #ifndef SCAN_H
 #define SCAN_H
 
 #include "host.h"
 
-/* beside: the file of the second book; null where the scan has one. */
+/* beside: the file of the second book; null where the scan has one. html: the page's; null where none is wanted. */
 typedef struct {
-    const char *book, *beside;
+    const char *book, *beside, *html;
     float threshold, shallow;
-    bool optimize, down, json, thorough, second, ascii, recursive;
+    bool optimize, down, json, thorough, second, ascii, recursive, show;
     uint16_t passes;
     uint64_t step, budget;
     size_t jobs;
@@ -19,9 +19,14 @@ typedef struct {
 /* The pairs of words of a stored text: of each a hash and its count, one after the other; how many distinct ones, and how many in all. */
 typedef struct { const uint32_t *at; uint32_t count, total; } pair_list;
 
-/* The books of a scan with their stored texts, by number, and these texts' pairs. Nothing here changes while notes are scanned, so all workers read it at once. */
+/* The page of --html, while it is made (page.c). */
+typedef struct page page;
+
+/* The books of a scan with their stored texts, by number, and these texts' pairs. Nothing here changes while notes are scanned, so all workers read it at once;
+   the page, null where there is none, locks itself. */
 typedef struct {
     settings with;
+    page *page;
     lent_book books[2];
     stored_text *stored;
     size_t stored_count;
@@ -34,10 +39,11 @@ typedef struct {
 typedef struct { float score; uint32_t m, t; bool counted; } value;
 
 /* A licence that was found, in the whole note or in the lines from `first` up to, and without, `after`. No name: none was found.
+   start, end: the bytes of the file that these lines are, their last newline not counted; of the whole note neither is told.
    other: the best of the other licences on the same lines, with its value; `looked` is false where the budget did not pay for the look. */
 typedef struct {
     stored_text text;
-    uint32_t number, first, after;
+    uint32_t number, first, after, start, end;
     value of;
     stored_text other;
     value other_of;
@@ -46,12 +52,14 @@ typedef struct {
 typedef struct { finding *at; size_t count, room; } findings;
 finding *add_finding(findings *to, finding f);
 
-/* All that there is to say of one note. Behind its own scan `more` scorings were made; `stopped` says that the budget ended the further scans.
+/* All that there is to say of one note. `text` is what was lent; `raw`, which places count in, is the file, and another only where --ascii changed it.
+   Behind its own scan `more` scorings were made; `stopped` says that the budget ended the further scans.
    unheld: lines with words that neither a range nor a further finding holds. */
 typedef struct {
     const char *file;
     const uint8_t *text;
     size_t len, changed;
+    part raw;
     const shelf *from;
     chultarvi_note_scanned answer;
     finding whole;
@@ -88,8 +96,8 @@ bool is_answered(const chultarvi_note_scanned *a);
 stored_text named_by(const shelf *s, const chultarvi_note_scanned *a);
 /* The overall value of an answer. */
 value overall_of(const chultarvi_note_scanned *a);
-/* Adds what the answer recorded, its lines counted on from `first`. `numbers` says which stored text each number of the answer means; null where
-   the numbers are the shelf's own. */
+/* Adds what the answer recorded, its lines counted on from `first`, and its bytes from where that line starts. `numbers` says which stored text each
+   number of the answer means; null where the numbers are the shelf's own. */
 void add_records(const worker *w, const chultarvi_note_scanned *a, uint32_t first, const uint32_t *numbers, findings *to);
 /* Looks at findings of a scan of the note's lines from `first` up to, and without, `after`, in the order in which they were made, each with its lines as
    they were then: elimination blanks what it has recorded, and a later range may reach over it; top-down's ranges lie apart. */
@@ -102,6 +110,10 @@ typedef struct { float threshold, shallow; bool optimize; uint64_t budget; } way
 chultarvi_note_scanned scan_more(const worker *w, report *r, part text, const part books[2], way by);
 /* Where each line starts, and one past the end of the last; the text is no longer than a text may be. */
 void find_lines(worker *w, part text);
+/* The places of a finding by its lines: where it is a part as a whole, and no record, and where it is empty. */
+void place_lines(const worker *w, finding *f);
+/* The places of all findings in the file, where the text that was lent is another: --ascii leaves lines as they are, so by these. */
+void place_in_file(worker *w, report *r);
 part lines_part(const worker *w, part text, uint32_t first, uint32_t after);
 
 /* choice.c */
@@ -152,5 +164,32 @@ int do_in_row(worker *workers, size_t jobs, size_t count, task *do_one, void (*p
 void report_note(const report *r, FILE *out, FILE *err);
 void report_trouble(const char *file, const char *why, bool json, FILE *out, FILE *err);
 void report_folder(const walked *f, bool json);
+/* The words of a report, which a page has too: of the note as a whole; of a licence its name, its kind and value, or all of them; which lines; what nobody
+   has read, and what it cost; what a folder had. Without the lead and the newline of the report, but for the last two. */
+void plain_whole(FILE *to, const report *r);
+void plain_name(FILE *to, const stored_text *s);
+void plain_kind(FILE *to, const report *r, const stored_text *s, const value *v);
+void plain_text(FILE *to, const report *r, const stored_text *s, const value *v);
+void plain_place(FILE *to, const finding *f);
+void plain_rest(FILE *to, const report *r);
+void plain_folder(FILE *to, const walked *f);
+/* What leads to the other licence of a finding; null where nothing is to say of one. */
+const char *doubt_of(const report *r, const finding *f);
+/* What to say of the note's refusal; the caller frees it. */
+char *message_of(const report *r);
+/* Top-down has no overall score, and a scan stopped before each stored text was scored once knows none yet. */
+bool overall_known(const report *r);
+
+/* page.c */
+
+/* Would the page of --html write over nothing that this scan reads, nor over its answers? What it would write over is said. */
+bool is_page_free(const settings *s, const notes *n);
+/* The page of so many notes; null where it cannot be, which is said. */
+page *open_page(const char *path, size_t count);
+/* What is on it of the note of this number: what was found, or why it could not be read. Several threads may add at once. */
+void add_to_page(page *p, size_t index, const report *r);
+void add_unread(page *p, size_t index, const char *file, const char *why);
+/* Writes it, where all notes are there. False where it is not written, which is said. */
+bool close_page(page *p, const shelf *s, const notes *n);
 
 #endif

@@ -34,6 +34,15 @@ static size_t shown_len(const uint8_t *p, size_t left) {
 
 static bool control(uint8_t byte) { return byte < 32 || byte == 127; }
 
+size_t seen_len(const uint8_t *p, size_t left) {
+    static const struct { uint32_t from, to; } unseen[] = {{0x61c, 0x61c}, {0x200e, 0x200f}, {0x2028, 0x202e}, {0x2066, 0x2069}, {0xfeff, 0xfeff}};
+    size_t bytes;
+    uint32_t code = read_character(p, left, &bytes);
+    if (*p == '\t' || *p == '\n') return 1;
+    for (size_t i = 0; i < sizeof unseen / sizeof *unseen; i++) if (code >= unseen[i].from && code <= unseen[i].to) return 0;
+    return control(*p) ? 0 : shown_len(p, left);
+}
+
 void put_plain(FILE *to, const char *name) { put_plain_bytes(to, (part){(const uint8_t *)name, strlen(name)}); }
 
 void put_plain_bytes(FILE *to, part bytes) {
@@ -44,6 +53,17 @@ void put_plain_bytes(FILE *to, part bytes) {
         else if (*p == '\n') fputs("\\n", to);
         else if (*p == '\t') fputs("\\t", to);
         else if (n == 0 || control(*p)) fprintf(to, "\\x%02x", *p);
+        else fwrite(p, 1, n, to);
+        if (n == 0) n = 1;
+    }
+}
+
+void put_line(FILE *to, part line) {
+    const uint8_t *p = line.bytes;
+    for (size_t left = line.len, n; left > 0; p += n, left -= n) {
+        n = seen_len(p, left);
+        if (*p == '\\') fputs("\\\\", to);
+        else if (n == 0) fprintf(to, "\\x%02x", *p);
         else fwrite(p, 1, n, to);
         if (n == 0) n = 1;
     }

@@ -1,5 +1,6 @@
 /* Answers the oracle's questions (oracle/README.md) by the archive: table, score, countbounds, clear, add, counteliminate, countdown; behind
-   `border K` by the calls that take two books. The edition is the argument, and 1 without it: texts are compiled under it, and every book has it.
+   `border K` by the calls that take two books, behind `placed` with the bytes of each range. The edition is the
+   argument, and 1 without it: texts are compiled under it, and every book has it.
    Every area is filled with garbage before a call and looked at after it, and so is the name's part.
    A question that cannot be held or read stops the program with a message and status 2. Build and run: host/drivers/answers.sh. Nothing here is part
    of the gate. */
@@ -10,7 +11,7 @@
 #include <stdio.h>
 #include <stdlib.h>
 
-enum { SPARE = 3, WORDS = 10, LINE_MOST = 16 << 20 };
+enum { SPARE = 3, WORDS = 11, LINE_MOST = 16 << 20 };
 static uint32_t edition = 1;
 static uint8_t book[CHULTARVI_BOOK_MOST];
 static size_t book_len;
@@ -246,7 +247,12 @@ static chultarvi_note_scanned scan(scan_t q, text_t t, books_t b, areas_t a) {
     return b.two ? chultarvi_eliminate_both(TEXT_AND_BOTH, q.threshold, q.shallow, q.optimize, q.passes, q.budget, WORK_AND_RESULTS)
                  : chultarvi_eliminate(TEXT_AND_BOOK, q.threshold, q.shallow, q.optimize, q.passes, q.budget, WORK_AND_RESULTS);
 }
-static void answer_scan(char **w, const char *border, bool down) {
+static void print_record(const uint32_t *r, bool placed) {
+    printf(" ; %" PRIu32 " %" PRIu32 " %" PRIu32 " %08" PRIx32, r[CHULTARVI_RECORD_NUMBER], r[CHULTARVI_RECORD_FIRST], r[CHULTARVI_RECORD_AFTER],
+           r[CHULTARVI_RECORD_SCORE]);
+    if (placed) printf(" %" PRIu32 " %" PRIu32, r[CHULTARVI_RECORD_START], r[CHULTARVI_RECORD_END]);
+}
+static void answer_scan(char **w, const char *border, bool placed, bool down) {
     scan_t q = scan_asked(w, down);
     text_t t = unhex(w[down ? 5 : 6]);
     books_t b = parted(border);
@@ -256,26 +262,33 @@ static void answer_scan(char **w, const char *border, bool down) {
     look_at_pairs(s.score, s.m, s.t, !down && q.budget >= chultarvi_check_book(book, book_len).texts);
     printf("%" PRIu32 " %" PRIu64 " %08" PRIx32 " ", s.refusal, s.count, bits(s.score));
     print_named(&s, t, b);
-    for (size_t k = 0; k < s.records; k++) {
-        const uint32_t *r = a.results + CHULTARVI_RECORD_WIDTH * k;
-        printf(" ; %" PRIu32 " %" PRIu32 " %" PRIu32 " %08" PRIx32, r[0], r[1], r[2], r[3]);
-    }
+    for (size_t k = 0; k < s.records; k++) print_record(a.results + CHULTARVI_RECORD_WIDTH * k, placed);
     printf("\n");
     give_back(a, CHULTARVI_RECORD_WIDTH * (size_t)s.records);
     free(t.bytes);
 }
 
-/* `border`: the number behind that word, or null where it is not said */
-static void answer(char **w, int n, const char *border) {
-    if (!strcmp(w[0], "score") && n == 5) answer_view(w, border, false);
+/* `border`: the number behind that word, or null where it is not said; `placed`: is that word said? */
+static void answer(char **w, int n, const char *border, bool placed) {
+    if (!strcmp(w[0], "counteliminate") && n == 7) answer_scan(w, border, placed, false);
+    else if (!strcmp(w[0], "countdown") && n == 6) answer_scan(w, border, placed, true);
+    else if (placed) stop("no such question with places");
+    else if (!strcmp(w[0], "score") && n == 5) answer_view(w, border, false);
     else if (!strcmp(w[0], "countbounds") && n == 5) answer_view(w, border, true);
-    else if (!strcmp(w[0], "counteliminate") && n == 7) answer_scan(w, border, false);
-    else if (!strcmp(w[0], "countdown") && n == 6) answer_scan(w, border, true);
     else if (border) stop("no such question of two books");
     else if (!strcmp(w[0], "table") && n == 2) answer_table(w[1]);
     else if (!strcmp(w[0], "clear") && n == 1) { clear(); printf("ok\n"); }
     else if (!strcmp(w[0], "add") && n == 4) add(w);
     else stop("no such question");
+}
+
+/* What is said before a question: `border K`, `placed`, both in this order, or nothing. */
+static void answer_words(char **w, int n) {
+    const char *border = !strcmp(w[0], "border") && n > 2 ? w[1] : 0;
+    int before = border ? 2 : 0;
+    bool placed = !strcmp(w[before], "placed") && n > before + 1;
+    before += placed;
+    answer(w + before, n - before, border, placed);
 }
 
 /* Parts the line at its spaces. One word more than a question may have suffices to find it wrong. */
@@ -295,8 +308,7 @@ int main(int argc, char **argv) {
         char *w[WORDS] = {0};
         int n = words_of(line, w);
         if (n == 0 || w[0][0] == '#') continue;
-        if (!strcmp(w[0], "border") && n > 2) answer(w + 2, n - 2, w[1]);
-        else answer(w, n, 0);
+        answer_words(w, n);
         if (fflush(stdout) != 0) stop("an answer is not taken");
     }
     free(line);

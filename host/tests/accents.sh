@@ -300,7 +300,9 @@ for way in '' --thorough --second '--thorough --second' '--top-down 5' --no-opti
         (cd plain && ${RUN-} ../program scan --json $way desk.book $beside all alpha idle behind) >plain.out 2>plain.err
         status=$?
         so $status "cd wide && ${RUN-} ../program scan --json $way desk.book $beside all alpha idle behind"
-        same .out plain.out
+        # places are bytes, and here a letter with an accent has two; places.sh holds them against the note
+        for said in plain.out .out; do sed 's/"start":[0-9]*,"end":[0-9]*,//g' $said >$said.lines; done
+        same .out.lines plain.out.lines
         same .err plain.err
         [ -s plain.out ] && [ $status -lt 2 ] && good || bad 'not scanned'
     done

@@ -1,12 +1,14 @@
 #!/bin/sh
 # shellcheck disable=SC1091,SC2015,SC2086,SC2154
-# Tests of the drivers, run by host/test.sh: that they take the library's calls and the records from the headers, and that host/drivers/answers.c
-# holds what it is asked, or stops with a message and status 2. Prints what fails, then 'N passed, M failed'.
+# Tests of the drivers, run by host/test.sh: that they take the library's calls and the records from the headers, that host/drivers/answers.c
+# holds what it is asked, or stops with a message and status 2, and that host/drivers/places.c finds every range where it is. Prints what fails, then
+# 'N passed, M failed'.
 set -eu
 root=$(cd "$(dirname "$(readlink -f "$0")")/../.." && pwd)
 . "$root/host/build.sh"
 need_driver answers
 need_driver rows
+need_driver places
 cd "$root"
 work=$(mktemp -d)
 trap 'rm -rf "$work"' EXIT
@@ -21,6 +23,7 @@ bad() {
 declared='^[a-z].* chultarvi_[a-z_]+\([^=]*;$'
 if grep -nE "$declared" host/drivers/*.c host/tests/*.c host/cli/*.c; then bad 'a call is declared again'; else good; fi
 if grep -lE '>> 8 ?\* ?' host/cli/*.c host/drivers/*.c host/tests/*.c; then bad 'a record is written elsewhere than in host/records.h'; else good; fi
+if grep -nE '\<(r|record|results)\[[0-9]' host/drivers/*.c examples/*.c; then bad 'a number of a record is not named as the header names it'; else good; fi
 if grep -L 'records\.h\|chultarvi\.h' host/drivers/*.c | grep .; then bad 'a driver without the header'; else good; fi
 
 # answers_are WANT: to the questions in the file `asked`
@@ -67,13 +70,32 @@ ok
 0 4 00000000 none
 0 30 00000000 none ; 2 1 2 3f800000"
 
+# with the bytes of each range, over one book and over two; an empty range at the end
+ask "add 41 2 $licence" "placed counteliminate 3f666666 3f7d70a4 1 10 1000 $two" "placed countdown 3f666666 3f7d70a4 1 1000 $two" \
+    "border 0 placed countdown 3f666666 3f7d70a4 1 1000 $two" "border 1 placed counteliminate 00000000 3f800000 1 1 1000 $(printf 'x\r\ny' | hex)" \
+    "placed counteliminate 3f666666 3f7d70a4 0 10 1000 $licence"
+answers_are "ok
+0 20 3f2aaaab none ; 0 1 2 3f800000 22 41
+0 12 00000000 none ; 0 1 2 3f800000 22 41
+0 12 00000000 none ; 0 1 2 3f800000 22 41
+0 8 00000000 none ; 0 2 2 00000000 4 4
+0 1 3f800000 0"
+for wrong in "table $licence" "score 0 4 $two $licence" clear "countdown 3f666666 3f7d70a4 1 $two" "placed countdown 3f666666 3f7d70a4 1 1000 $two"; do
+    ask "placed $wrong"
+    stops 'no such question with places'
+done
+ask placed
+stops 'no such question'
+
 # in edition 3: letters of two bytes, over one book and over two
 ask "table $(printf '\303\211T\303\211 \303\240' | hex)" "add 41 2 $(printf '\303\251t\303\251 \303\240 la' | hex)" "add 42 2 $licence" \
-    "border 1 counteliminate 3f666666 3f7d70a4 0 10 1000 $(printf '\303\211t\303\251 \303\200 LA' | hex)"
+    "border 1 counteliminate 3f666666 3f7d70a4 0 10 1000 $(printf '\303\211t\303\251 \303\200 LA' | hex)" \
+    "placed countdown 3f666666 3f7d70a4 1 1000 $(printf '\303\251\r\n\303\211t\303\251 \303\200 LA' | hex)"
 instead="$RUN target/answers 3" answers_are "1 1:c3a974c3a920c3a0
 ok
 ok
-0 2 3f800000 0"
+0 2 3f800000 0
+0 14 00000000 none ; 0 1 2 3f800000 4 15"
 ask "table c3a9"
 stops 'the text is not ASCII, or for edition 3 not UTF-8 up to U+00FF'
 ask 'table 41'
@@ -121,6 +143,15 @@ unset FAULT
 got=0
 printf 'half a call' | $RUN target/rows >"$work/out" 2>"$work/err" || got=$?
 [ "$got" = 0 ] && [ ! -s "$work/out" ] && good || bad 'rows: half a call is answered'
+
+# the bytes of as many ranges as a note may have; their time is not looked at
+$RUN target/places 1 >"$work/out" 2>"$work/err" && [ "$(grep -o '[0-9]* records' "$work/out" | tr '\n' ' ')" = '16384 records 32768 records 8193 records 16385 records ' ] &&
+    good || bad "places: $(cat "$work/out" "$work/err")"
+for wrong in 0 -1 1001 x '' 1x '1 2'; do
+    got=0
+    $RUN target/places "$wrong" >"$work/out" 2>"$work/err" || got=$?
+    [ "$got" = 2 ] && [ "$(cat "$work/err")" = 'places: usage: places [TURNS], from 1 to 1000' ] && good || bad "places $wrong: status $got"
+done
 
 echo "$passed passed, $failed failed"
 [ "$failed" = 0 ]

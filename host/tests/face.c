@@ -1,6 +1,6 @@
 /* Tests of the library as C and C++ see it: this file is compiled as both. Layout of every answer; every export, over one book and over two, by
-   each edition; every refusal with the neighbour that is not refused; and after each call, what the lent areas hold and where the name stands. Prints
-   what fails, then 'N passed, M failed'. */
+   each edition; every refusal with the neighbour that is not refused; and after each call, what the lent areas hold, where the name stands and where the
+   ranges do. Prints what fails, then 'N passed, M failed'. */
 #include "../pairs.h"
 #include "../records.h"
 #include <assert.h>
@@ -48,6 +48,8 @@ LAYOUT(chultarvi_note_scanned, len, 32);
 LAYOUT(chultarvi_note_scanned, name, 36);
 LAYOUT(chultarvi_note_scanned, second, 100);
 LAYOUT(chultarvi_note_scanned, name_at, 104);
+static_assert(CHULTARVI_RECORD_NUMBER == 0 && CHULTARVI_RECORD_FIRST == 1 && CHULTARVI_RECORD_AFTER == 2 && CHULTARVI_RECORD_SCORE == 3, "a record");
+static_assert(CHULTARVI_RECORD_START == 4 && CHULTARVI_RECORD_END == 5 && CHULTARVI_RECORD_WIDTH == 6u, "a record");
 
 static int passed, failed;
 static void check(bool good, const char *what) {
@@ -63,6 +65,10 @@ static const uint8_t book_a[] = "\x01\0\0\0\x01\0A\x2d\0\0\0\x02\0\x02\0\0\0\x02
 enum { BOOK_A = 58 };
 static const char text_1[] = "copyright 20xx me irl\n\n //  my   first license";
 static const char text_2[] = "copyright 20xx me irl\n// My First License\nfn hello() {\n ...";
+enum { LINES_2 = 4 };
+
+typedef uint32_t one_record[CHULTARVI_RECORD_WIDTH];
+static bool same_record(const uint32_t *at, const one_record record) { return memcmp(at, record, sizeof(one_record)) == 0; }
 
 /* What a call is lent. Every element is garbage before the call, also `SPARE` elements that are not lent. Where `both` is false the call is the one
    that takes one book, and second is null. */
@@ -107,7 +113,7 @@ static bool areas_right(const lent *l, uint32_t refusal, size_t written, size_t 
     int now = refusal == 0 || refusal == 11 || refusal == 12 ? 0 : 0xa5;
     return all_are(area, 0, l->area_len, now) && all_are(area, l->area_len, l->area_len + SPARE, 0xa5) && all_are(words, 0, 4 * l->words_len, now) &&
            all_are(words, 4 * l->words_len, 4 * (l->words_len + SPARE), 0xa5) && all_are(out, written, l->out_len + SPARE, 0xa5) &&
-           all_are(results, 16 * recorded, 4 * (l->results_len + SPARE), 0xa5);
+           all_are(results, sizeof(one_record) * recorded, 4 * (l->results_len + SPARE), 0xa5);
 }
 /* How `lend` lays the book: alone; beside an empty one; or as the second, beside an empty first. And by which edition: from edition 2 on its record stands
    before the book, and the empty one is that record alone. Every answer is the same but for `second` and for the place of the name, so the tests of one
@@ -199,7 +205,26 @@ static bool name_right(const lent *l, const chultarvi_note_scanned *s) {
     return s->len > 0 && s->name_at < holder_len && s->len <= holder_len - s->name_at && name == holder + s->name_at &&
            memcmp(name, s->name, s->len) == 0;
 }
+/* Where line k starts, by the newlines before it; the text's length behind the last. */
+static size_t line_start(const lent *l, size_t k) {
+    size_t at = 0;
+    while (k > 0 && at < l->len) k -= l->text[at++] == '\n';
+    return k > 0 ? l->len : at;
+}
+static size_t line_end(const lent *l, size_t k) {
+    size_t at = line_start(l, k);
+    while (at < l->len && l->text[at] != '\n') at++;
+    return at;
+}
+static bool places_right(const lent *l, size_t records) {
+    for (const uint32_t *r = results; r < results + CHULTARVI_RECORD_WIDTH * records; r += CHULTARVI_RECORD_WIDTH) {
+        size_t first = r[CHULTARVI_RECORD_FIRST], after = r[CHULTARVI_RECORD_AFTER], start = line_start(l, first);
+        if (r[CHULTARVI_RECORD_START] != start || r[CHULTARVI_RECORD_END] != (first == after ? start : line_end(l, after - 1))) return false;
+    }
+    return true;
+}
 static void check_scan(const lent *l, const chultarvi_note_scanned *s, const char *what) {
+    check(places_right(l, s->records), what);
     check(areas_right(l, s->refusal, 0, s->records) && (s->refusal == 0 || s->refusal == 12 || nothing_else(s)), what);
     check(name_right(l, s), what);
     check(pairs_right(s->refusal, s->score, s->m, s->t), what);
@@ -229,7 +254,7 @@ static chultarvi_note_scanned top_down(const lent *l, float threshold, float sha
 /* All five calls that take a text, the same lent text and book: is each refused by this number? */
 static void each_refuses(const lent *given, uint32_t refusal, bool compile_too, const char *what) {
     lent l = *given;
-    l.results_len = 4;
+    l.results_len = CHULTARVI_RECORD_WIDTH;
     check(score(&l, 0, 0, 0, what).refusal == refusal, what);
     check(bounds(&l, 0, 0, 0, what).refusal == refusal, what);
     check(eliminate(&l, 0.9f, 0.99f, true, 1, UINT64_MAX, what).refusal == refusal, what);
@@ -249,13 +274,13 @@ static void test_answers(void) {
     l = marked();
     chultarvi_bounds_found b = bounds(&l, 0, 4, 0, "areas of bounds");
     check(b.refusal == 0 && b.first == 1 && b.after == 2 && b.score == 1.0f && b.count == 8, "marked case 2");
-    l.results_len = 40;
+    l.results_len = chultarvi_elimination_results(true, 10);
     chultarvi_note_scanned s = eliminate(&l, 0.9f, 0.99f, true, 10, 20, "areas of elimination");
-    static const uint32_t record[] = {0, 1, 2, 0x3f800000};
-    check(s.refusal == 0 && s.count == 20 && s.records == 1 && s.kind == 0 && memcmp(results, record, 16) == 0, "marked case 10, budget 20");
-    l.results_len = 16;
+    static const one_record record = {0, 1, 2, 0x3f800000, 22, 41};
+    check(s.refusal == 0 && s.count == 20 && s.records == 1 && s.kind == 0 && same_record(results, record), "marked case 10, budget 20");
+    l.results_len = chultarvi_top_down_results(LINES_2);
     s = top_down(&l, 0.9f, 0.99f, 1, 1000, "areas of top-down");
-    check(s.refusal == 0 && s.records == 1 && s.score == 0.0f && s.kind == 0 && memcmp(results, record, 16) == 0, "top-down finds the same range");
+    check(s.refusal == 0 && s.records == 1 && s.score == 0.0f && s.kind == 0 && same_record(results, record), "top-down finds the same range");
     l = lend("My First License", 16, book_a, BOOK_A);
     s = eliminate(&l, 0.9f, 0.99f, false, 0, 1, "areas of a named licence");
     check(s.refusal == 0 && s.kind == CHULTARVI_ORIGINAL && s.len == 1 && s.name[0] == 'A' && all_are(s.name, 1, 64, 0) && s.score == 1.0f &&
@@ -287,7 +312,7 @@ static void test_behind(void) {
     check(score(&l, 0, 4, 0, "areas, m and t").t == 6, "t of all lines");
     chultarvi_bounds_found b = bounds(&l, 0, 4, 0, "areas, m and t");
     check(b.m == 2 && b.t == 4, "m and t of the range found, not of the view");
-    l.results_len = 16;
+    l.results_len = chultarvi_top_down_results(LINES_2);
     chultarvi_note_scanned s = top_down(&l, 0.9f, 0.99f, 1, 1000, "areas, m and t");
     check(s.records == 1 && s.m == 0 && s.t == 0, "top-down has no text as a whole, and no m and t");
 }
@@ -389,7 +414,7 @@ static void test_long_name(void) {
 
 static void test_limits(void) {
     lent l = marked();
-    l.results_len = 16;
+    l.results_len = chultarvi_top_down_results(LINES_2);
     const float good[] = {0.0f, -0.0f, 1.0f, FLT_MIN, 0.5f}, bad[] = {-FLT_MIN, 1.0f + FLT_EPSILON, 2.0f, INFINITY, -INFINITY, NAN};
     for (size_t i = 0; i < sizeof good / sizeof *good; i++) {
         check(eliminate(&l, good[i], 0.5f, false, 0, 1, "a good threshold").refusal == 0, "a good threshold");
@@ -428,7 +453,7 @@ static void each_area(const lent *l, uint32_t refusal, const char *what) {
 static void test_areas(void) {
     lent l = marked();
     l.out_len = 1024;
-    l.results_len = 40;
+    l.results_len = chultarvi_elimination_results(true, 10);
     check(l.area_len == 8 * l.len + 64 && l.words_len == 12 * l.len + 64, "the header's functions give 8n+64 and 12n+64");
     each_area(&l, 0, "areas of 8n+64 and 12n+64");
     l.area_len--;
@@ -441,20 +466,22 @@ static void test_areas(void) {
     each_area(&l, 0, "larger areas");
     l = marked();
     l.results_len = chultarvi_elimination_results(true, 10);
-    check(l.results_len == 40, "4P");
-    check(eliminate(&l, 0.9f, 0.99f, true, 10, 20, "4P").refusal == 0, "results of 4P");
+    check(l.results_len == 60, "6P");
+    check(eliminate(&l, 0.9f, 0.99f, true, 10, 20, "6P").refusal == 0, "results of 6P");
     l.results_len--;
-    check(eliminate(&l, 0.9f, 0.99f, true, 10, 20, "4P less one").refusal == 10, "results of 4P less one");
+    check(eliminate(&l, 0.9f, 0.99f, true, 10, 20, "6P less one").refusal == 10, "results of 6P less one");
     l.results_len = chultarvi_elimination_results(false, 10);
     check(l.results_len == 0 && eliminate(&l, 0.9f, 0.99f, false, 10, 20, "no results").refusal == 0, "without optimize none are needed");
+    check(eliminate(&l, 0.9f, 0.99f, true, 0, 20, "no pass").refusal == 0, "nor without a pass");
     l.results_len = chultarvi_elimination_results(true, UINT16_MAX);
-    check(eliminate(&l, 0.9f, 0.99f, true, UINT16_MAX, 20, "4 * 65,535").refusal == 0, "results of 4 * 65,535");
+    check(l.results_len == 393210, "6 * 65,535");
+    check(eliminate(&l, 0.9f, 0.99f, true, UINT16_MAX, 20, "6 * 65,535").refusal == 0, "results of 6 * 65,535");
     l.results_len--;
-    check(eliminate(&l, 0.9f, 0.99f, true, UINT16_MAX, 20, "less one").refusal == 10, "results of 4 * 65,535 less one");
-    l.results_len = chultarvi_top_down_results(4);
-    check(l.results_len == 16 && top_down(&l, 0.9f, 0.99f, 1, 1000, "4L").refusal == 0, "results of 4L");
+    check(eliminate(&l, 0.9f, 0.99f, true, UINT16_MAX, 20, "less one").refusal == 10, "results of 6 * 65,535 less one");
+    l.results_len = chultarvi_top_down_results(LINES_2);
+    check(l.results_len == 24 && top_down(&l, 0.9f, 0.99f, 1, 1000, "6L").refusal == 0, "results of 6L");
     l.results_len--;
-    check(top_down(&l, 0.9f, 0.99f, 1, 1000, "4L less one").refusal == 10, "results of 4L less one");
+    check(top_down(&l, 0.9f, 0.99f, 1, 1000, "6L less one").refusal == 10, "results of 6L less one");
 }
 
 static void test_output(void) {
@@ -515,7 +542,7 @@ static void test_version(void) {
 
 static void test_budget(void) {
     lent l = marked();
-    l.results_len = 40;
+    l.results_len = chultarvi_elimination_results(true, 10);
     for (uint64_t budget = 0; budget <= 21; budget++) {
         chultarvi_note_scanned s = eliminate(&l, 0.9f, 0.99f, true, 10, budget, "areas, budget");
         check(s.refusal == (budget < 20 ? 12 : 0), "12 below a budget of 20, never from there on");
@@ -524,11 +551,66 @@ static void test_budget(void) {
         check((s.score > 0.0f) == (budget >= 1) && s.kind == 0, "the overall score is known once the first text is paid");
         check(s.m == (budget >= 1 ? 2u : 0u) && s.t == (budget >= 1 ? 6u : 0u), "and so are its m and t, though no licence is named");
     }
-    l.results_len = 16;
+    l.results_len = chultarvi_top_down_results(LINES_2);
     uint64_t full = top_down(&l, 0.9f, 0.99f, 1, UINT64_MAX, "areas, no budget").count;
     check(top_down(&l, 0.9f, 0.99f, 1, full, "areas, budget").refusal == 0, "top-down with its own count as budget");
     chultarvi_note_scanned s = top_down(&l, 0.9f, 0.99f, 1, full - 1, "areas, budget");
     check(s.refusal == 12 && s.count == full - 1, "top-down with one less");
+}
+
+/* ---- the bytes of a range */
+
+/* A note, how it is scanned against the marked licence, and every record of it. */
+enum { PLACED_MOST = 2 };
+typedef struct {
+    const char *what, *note;
+    bool down;
+    float threshold;
+    uint16_t passes;
+    uint64_t budget;
+    uint32_t refusal, records;
+    one_record record[PLACED_MOST];
+} placed_row;
+#define ALL UINT64_MAX
+#define RETURNS "copyright 20xx me irl\r\n// My First License\r\nfn hello() {\r\n ..."
+#define BLANKED "my first\n\n\n\nMy First License\n\nmy first"
+#define TWICE "My First License\n\nx\nMy First License"
+static const placed_row placed_rows[] = {
+    {"text 2", text_2, false, 0.6f, 1, ALL, 0, 1, {{0, 1, 2, 0x3f800000, 22, 41}}},
+    {"text 2, top-down", text_2, true, 0.9f, 0, ALL, 0, 1, {{0, 1, 2, 0x3f800000, 22, 41}}},
+    {"carriage returns", RETURNS, false, 0.6f, 1, ALL, 0, 1, {{0, 1, 2, 0x3f800000, 23, 43}}},
+    {"carriage returns, top-down", RETURNS, true, 0.9f, 0, ALL, 0, 1, {{0, 1, 2, 0x3f800000, 23, 43}}},
+    {"one line", "My First License", false, 0.6f, 1, ALL, 0, 1, {{0, 0, 1, 0x3f800000, 0, 16}}},
+    {"a last newline", "My First License\n", false, 0.6f, 1, ALL, 0, 1, {{0, 0, 2, 0x3f800000, 0, 17}}},
+    {"a last carriage return", "My First License\r", false, 0.6f, 1, ALL, 0, 1, {{0, 0, 1, 0x3f800000, 0, 17}}},
+    {"a first newline", "\nMy First License", false, 0.6f, 1, ALL, 0, 1, {{0, 1, 2, 0x3f800000, 1, 17}}},
+    {"a line before and behind", "x\nMy First License\ny", false, 0.6f, 1, ALL, 0, 1, {{0, 1, 2, 0x3f800000, 2, 18}}},
+    {"an empty note", "", false, 0.0f, 1, ALL, 0, 1, {{0, 1, 1, 0, 0, 0}}},
+    {"an empty note, -0.0", "", false, -0.0f, 1, ALL, 0, 1, {{0, 1, 1, 0, 0, 0}}},
+    {"an empty note, top-down", "", true, 0.0f, 0, ALL, 0, 1, {{0, 1, 1, 0, 0, 0}}},
+    {"an empty range at L", "x\ny", false, 0.0f, 1, ALL, 0, 1, {{0, 2, 2, 0, 3, 3}}},
+    {"an empty range at L, top-down", "x\ny", true, -0.0f, 0, ALL, 0, 1, {{0, 2, 2, 0, 3, 3}}},
+    {"an empty range at L, behind a last newline", "x\ny\n", false, 0.0f, 1, ALL, 0, 1, {{0, 3, 3, 0, 4, 4}}},
+    {"an empty range before L, behind a blanked one", BLANKED, false, 0.0f, 2, ALL, 0, 2, {{0, 4, 6, 0x3f800000, 12, 29}, {0, 6, 6, 0, 30, 30}}},
+    {"two ranges, top-down", TWICE, true, 0.9f, 0, ALL, 0, 2, {{0, 0, 2, 0x3f800000, 0, 17}, {0, 3, 4, 0x3f800000, 20, 36}}},
+    {"a budget of 9", text_2, false, 0.9f, 10, 9, 12, 1, {{0, 1, 2, 0x3f800000, 22, 41}}},
+    {"a budget of 8", text_2, false, 0.9f, 10, 8, 12, 0, {{0}}},
+};
+/* The results just as large as needed: they are answered. One element less is refused, and they stay as they were. */
+static void check_placed(const placed_row *r) {
+    lent l = lend(r->note, strlen(r->note), book_a, BOOK_A);
+    size_t lines = 1;
+    for (const char *p = r->note; *p; p++) lines += *p == '\n';
+    for (size_t less = 0; less < 2; less++) {
+        l.results_len = (r->down ? chultarvi_top_down_results(lines) : chultarvi_elimination_results(true, r->passes)) - less;
+        chultarvi_note_scanned s =
+            r->down ? top_down(&l, r->threshold, 1.0f, 1, r->budget, r->what) : eliminate(&l, r->threshold, 1.0f, true, r->passes, r->budget, r->what);
+        check(s.refusal == (less ? 10 : r->refusal) && s.records == (less ? 0 : r->records), r->what);
+        for (size_t k = 0; k < s.records && k < PLACED_MOST; k++) check(same_record(results + CHULTARVI_RECORD_WIDTH * k, r->record[k]), r->what);
+    }
+}
+static void test_placed(void) {
+    for (const placed_row *r = placed_rows; r < placed_rows + sizeof placed_rows / sizeof *placed_rows; r++) check_placed(r);
 }
 
 /* ---- two books */
@@ -634,15 +716,15 @@ static void test_numbers(void) {
     check(score(&l, 0, 1, 1, "areas, stored 1").score == 1.0f && score(&l, 0, 1, 2, "areas, stored 2").refusal == 9, "stored 1 and 2 of B, A");
     check(score(&l, 0, 3, 2, "areas, 8 before 9").refusal == 8, "a view out of range comes before the number");
 
-    static const uint32_t record[] = {1, 1, 2, 0x3f800000};
+    static const one_record record = {1, 1, 2, 0x3f800000, 22, 41};
     l = lend_held(text_2, only_b, only_a);
     check(bounds(&l, 0, 4, 1, "areas of bounds, two books").count == 8, "marked case 2 in the second book");
-    l.results_len = 40;
+    l.results_len = chultarvi_elimination_results(true, 10);
     chultarvi_note_scanned s = eliminate(&l, 0.9f, 0.99f, true, 10, UINT64_MAX, "areas of elimination, two books");
-    check(s.refusal == 0 && s.records == 1 && memcmp(results, record, 16) == 0, "elimination records the number over both");
-    l.results_len = 16;
+    check(s.refusal == 0 && s.records == 1 && same_record(results, record), "elimination records the number over both");
+    l.results_len = chultarvi_top_down_results(LINES_2);
     s = top_down(&l, 0.9f, 0.99f, 1, UINT64_MAX, "areas of top-down, two books");
-    check(s.refusal == 0 && s.records == 1 && memcmp(results, record, 16) == 0, "top-down records the number over both");
+    check(s.refusal == 0 && s.records == 1 && same_record(results, record), "top-down records the number over both");
 }
 
 /* ---- stored texts by their numbers */
@@ -717,9 +799,9 @@ static void test_stored(void) {
 /* What a scan names and records, named by number. */
 static void test_recorded(void) {
     lent l = lend_held(text_2, only_b, only_a);
-    l.results_len = 40;
+    l.results_len = chultarvi_elimination_results(true, 10);
     chultarvi_note_scanned s = eliminate(&l, 0.6f, 0.99f, true, 10, UINT64_MAX, "areas of a scan to name");
-    chultarvi_text_named n = name_stored(only_b, only_a, true, results[0]);
+    chultarvi_text_named n = name_stored(only_b, only_a, true, results[CHULTARVI_RECORD_NUMBER]);
     check(s.refusal == 0 && s.records > 0 && s.kind == CHULTARVI_ORIGINAL, "a scan that names and records");
     check(n.refusal == 0 && n.kind == s.kind && n.len == s.len && n.second == s.second && n.name_at == s.name_at, "the same by its record's number");
     check(memcmp(chultarvi_stored_name(only_b.at, only_a.at, &n), s.name, s.len) == 0, "by the same bytes");
@@ -758,13 +840,13 @@ static void test_largest(void) {
     check(score(&l, 0, 1, 2047, "areas, 2,048 texts").score == 1.0f, "the last of 2,048 texts");
     check(score(&l, 0, 1, 2048, "areas, 2,048 texts").refusal == 9, "one number more");
     check(bounds(&l, 0, 1, 2047, "areas, 2,048 texts").score == 1.0f && bounds(&l, 0, 1, 2048, "areas, 2,048 texts").refusal == 9, "and its bounds");
-    l.results_len = 4;
+    l.results_len = CHULTARVI_RECORD_WIDTH;
     chultarvi_note_scanned s = eliminate(&l, 0.9f, 0.99f, true, 1, 2047, "areas, a budget of 2,047");
     check(s.refusal == 12 && s.count == 2047 && s.kind == 0, "a budget of N - 1 names nothing");
     s = eliminate(&l, 0.9f, 0.99f, true, 1, 2048, "areas, a budget of 2,048");
     check(s.refusal == 0 && s.count == 2048 && s.kind == CHULTARVI_ALTERNATE && s.second && s.name_at == 6 && s.len == 64, "a budget of N names it");
     s = top_down(&l, 0.9f, 0.99f, 1, UINT64_MAX, "areas, top-down over 2,048 texts");
-    check(s.refusal == 0 && s.records == 1 && results[0] == 2047, "a record of number 2,047");
+    check(s.refusal == 0 && s.records == 1 && results[CHULTARVI_RECORD_NUMBER] == 2047, "a record of number 2,047");
     const stored_row rows[] = {
         {"1,024 texts each: the last of the first", first, second, true, 1023, 0, CHULTARVI_ALTERNATE, false, 6, 1},
         {"1,024 texts each: the first of the second", first, second, true, 1024, 0, CHULTARVI_ORIGINAL, true, 6, 64},
@@ -800,14 +882,14 @@ static void test_large_books(void) {
 /* The overall answer is known once each text of both is scored; from the full count on nothing is stopped. */
 static void test_both_budget(void) {
     lent l = lend_held(text_2, only_b, only_a);
-    l.results_len = 40;
+    l.results_len = chultarvi_elimination_results(true, 10);
     uint64_t full = eliminate(&l, 0.6f, 0.99f, true, 10, UINT64_MAX, "areas, two books, no budget").count;
     for (uint64_t budget = 0; budget <= full + 1; budget++) {
         chultarvi_note_scanned s = eliminate(&l, 0.6f, 0.99f, true, 10, budget, "areas, two books, budget");
         check(s.refusal == (budget < full ? 12 : 0) && s.count == (budget < full ? budget : full), "12 below the full count, never from there on");
         check((s.kind != 0) == (budget >= 2) && (s.score > 0.0f) == (budget >= 2), "named once both texts are paid");
     }
-    l.results_len = 16;
+    l.results_len = chultarvi_top_down_results(LINES_2);
     full = top_down(&l, 0.9f, 0.99f, 1, UINT64_MAX, "areas, two books, no budget").count;
     check(top_down(&l, 0.9f, 0.99f, 1, full, "areas, two books, budget").refusal == 0, "top-down over two books with its own count as budget");
     chultarvi_note_scanned s = top_down(&l, 0.9f, 0.99f, 1, full - 1, "areas, two books, budget");
@@ -1287,14 +1369,14 @@ static void check_sharers(const uint32_t kinds[SHARERS], size_t border, size_t w
     chultarvi_note_scanned s = eliminate(&l, 0.5f, 0.5f, false, 0, UINT64_MAX, "areas, equal scores");
     check(s.refusal == 0 && s.kind == kinds[wins] && s.len == 1 && s.name[0] == "ABC"[wins], "of equal scores the smallest kind, then the first");
     check(s.second == (wins >= border) && s.count == texts_of(kinds, SHARERS) && s.score == 1.0f, "of equal scores: its book, and all are scored");
-    uint32_t record[] = {(uint32_t)texts_of(kinds, wins + 1) - 1, 1, 2, 0x3f800000};
+    const one_record record = {(uint32_t)texts_of(kinds, wins + 1) - 1, 1, 2, 0x3f800000, 22, 41};
     l = lend_held(text_2, first, second);
     l.both = border < SHARERS;
-    l.results_len = 16;
-    s = eliminate(&l, 0.9f, 0.99f, true, 4, UINT64_MAX, "areas, equal scores in a pass");
-    check(s.refusal == 0 && s.records == 1 && memcmp(results, record, sizeof record) == 0, "elimination bounds the same text");
+    l.results_len = chultarvi_top_down_results(LINES_2);
+    s = eliminate(&l, 0.9f, 0.99f, true, LINES_2, UINT64_MAX, "areas, equal scores in a pass");
+    check(s.refusal == 0 && s.records == 1 && same_record(results, record), "elimination bounds the same text");
     s = top_down(&l, 0.9f, 0.99f, 1, UINT64_MAX, "areas, equal scores in top-down");
-    check(s.refusal == 0 && s.records == 1 && memcmp(results, record, sizeof record) == 0, "top-down takes the same text");
+    check(s.refusal == 0 && s.records == 1 && same_record(results, record), "top-down takes the same text");
 }
 static void test_sharers(void) {
     for (uint32_t all = 0; all < 27; all++) {
@@ -1330,7 +1412,7 @@ static const char french_note[] =
     "d" E_ACUTE "but\n# LA PR\xc3\x89SENTE\xc2\xa0LICENCE \xc2\xab est \xc2\xbb\n# R\xc3\x89GIE PAR LA LOI FRAN\xc3\x87" "AISE\nfin";
 static void test_french(void) {
     static uint8_t room[1024];
-    static const uint32_t record[] = {1, 1, 3, 0x3f800000};
+    static const one_record record = {1, 1, 3, 0x3f800000, 7, 71};
     edition = 3;
     held first = put_licence(room, put_edition(room, edition), "B", text_b), both = put_licence(room, room + first.len, "FR", french);
     edition = 1;
@@ -1340,11 +1422,11 @@ static void test_french(void) {
     check(score(&l, 1, 3, 1, "areas, French").score == 1.0f && score(&l, 0, 4, 0, "areas, French").score == 0.0f, "its score");
     chultarvi_bounds_found b = bounds(&l, 0, 4, 1, "areas of French bounds");
     check(b.refusal == 0 && b.first == 1 && b.after == 3 && b.score == 1.0f, "its bounds");
-    l.results_len = 40;
+    l.results_len = chultarvi_elimination_results(true, 10);
     chultarvi_note_scanned s = eliminate(&l, 0.9f, 0.99f, true, 10, UINT64_MAX, "areas of French elimination");
-    check(s.refusal == 0 && s.records == 1 && memcmp(results, record, 16) == 0, "elimination finds it");
+    check(s.refusal == 0 && s.records == 1 && same_record(results, record), "elimination finds it, by its bytes");
     s = top_down(&l, 0.9f, 0.99f, 1, UINT64_MAX, "areas of French top-down");
-    check(s.refusal == 0 && s.records == 1 && memcmp(results, record, 16) == 0, "top-down finds it");
+    check(s.refusal == 0 && s.records == 1 && same_record(results, record), "top-down finds it, by its bytes");
     l = lend_held(french, both, hold(0, 0));
     l.both = false;
     s = eliminate(&l, 0.9f, 0.99f, false, 0, 2, "areas of a French name");
@@ -1403,6 +1485,7 @@ static void test_one_book(void) {
         test_views();
         test_areas();
         test_budget();
+        test_placed();
     }
     form = ALONE;
 }

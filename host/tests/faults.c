@@ -20,6 +20,12 @@ static bool fault(const char *name) {
     const char *asked = getenv("FAULT");
     return asked && strcmp(asked, name) == 0;
 }
+/* The call of this number, from 1 on: `write-at-3`. */
+static bool fault_at(const char *name, int call) {
+    char asked[32];
+    snprintf(asked, sizeof asked, "%s-at-%d", name, call);
+    return fault(asked);
+}
 static int fail(int why) {
     errno = why;
     return -1;
@@ -28,6 +34,8 @@ static int fail(int why) {
 /* The file breaks off after its first ten bytes. */
 ssize_t __wrap_read(int file, void *to, size_t len) {
     static bool begun;
+    static int calls;
+    if (fault_at("read", ++calls)) return fail(EIO);
     if (!fault("read")) return __real_read(file, to, len);
     if (begun) return fail(EIO);
     begun = true;
@@ -37,6 +45,7 @@ ssize_t __wrap_read(int file, void *to, size_t len) {
 ssize_t __wrap_write(int file, const void *from, size_t len) {
     static int calls;
     calls++;
+    if (fault_at("write", calls)) return fail(ENOSPC);
     if (fault("write")) return calls > 1 ? fail(ENOSPC) : __real_write(file, from, len < 10 ? len : 10);
     if (fault("write-slow")) return calls % 2 ? fail(EINTR) : __real_write(file, from, 1);
     if (fault("write-kill") && calls > 1) raise(SIGKILL);
@@ -53,7 +62,8 @@ int __wrap_fsync(int file) {
 int __wrap_close(int file) {
     static int calls;
     int closed = __real_close(file);
-    return fault("close") && ++calls == 2 ? fail(EDQUOT) : closed;
+    calls++;
+    return (fault("close") && calls == 2) || fault_at("close", calls) ? fail(EDQUOT) : closed;
 }
 int __wrap_rename(const char *from, const char *to) {
     if (fault("rename")) return fail(EACCES);

@@ -151,6 +151,7 @@ try_example() {
         run 0 $RUN "$embed" "$work/$book" "$work/two"
         out_is 'no licence as a whole, score 0.6667, 2 word pairs shared, 6 of both together
   lines 2 to 2: A, score 1.0000
+    bytes 22 to 41: // My First License
   20 scorings'
     done
     run 0 $RUN "$embed" "$work/a.book" "$work/license" 5
@@ -209,9 +210,9 @@ if command -v cmake >/dev/null; then
     try_example
     run 1 cmake "$@" -B "$work/arm" -DCMAKE_SYSTEM_PROCESSOR=aarch64
     err_has 'libchultarvi.a is for x86-64, and this build is for aarch64'
-    for other in 0.5 0.7 1.0; do
+    for other in 0.6 0.8 1.0; do
         mkdir "$work/other-$other"
-        sed "s/find_package(chultarvi 0.6/find_package(chultarvi $other/" examples/CMakeLists.txt >"$work/other-$other/CMakeLists.txt"
+        sed "s/find_package(chultarvi 0.7/find_package(chultarvi $other/" examples/CMakeLists.txt >"$work/other-$other/CMakeLists.txt"
         cp examples/embed.c "$work/other-$other"
         shift 2
         set -- -S "$work/other-$other" "$@"

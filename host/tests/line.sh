@@ -153,7 +153,7 @@ two: no licence as a whole (best score 0.6667, 2m/t = 2*2/6)
 
 # scan: JSON
 run 0 scan --json a.book two license
-out_is '{"note":"two","refusal":0,"licence":null,"kind":null,"score":0.666666687,"m":2,"t":6,"rival":null,"scorings":20,"ranges":[{"licence":"A","kind":"original","number":0,"first":1,"after":2,"score":1,"m":2,"t":4,"rival":false}],"unheld":2,"more":1}
+out_is '{"note":"two","refusal":0,"licence":null,"kind":null,"score":0.666666687,"m":2,"t":6,"rival":null,"scorings":20,"ranges":[{"licence":"A","kind":"original","number":0,"first":1,"after":2,"start":22,"end":41,"score":1,"m":2,"t":4,"rival":false}],"unheld":2,"more":1}
 {"note":"license","refusal":0,"licence":"A","kind":"original","score":1,"m":2,"t":4,"rival":false,"scorings":1,"ranges":[],"unheld":0,"more":0}'
 run 1 scan --json --budget 0 a.book two
 out_is '{"note":"two","refusal":12,"message":"refused (12): stopped by the budget","licence":null,"kind":null,"score":null,"m":null,"t":null,"rival":null,"scorings":0,"ranges":[],"unheld":3,"more":0}'

@@ -98,7 +98,7 @@ fn bits(score: f32) -> usize {
     score.to_bits() as usize
 }
 
-/// Overall score, and of each record its lines and score; a name may be another's of the same text.
+/// Overall score, and of each record its lines and score; a name may be another's of the same text, and the original has no bytes.
 fn scanned(result: &ScanResult<'_>) -> Answer {
     let mut out = vec![bits(result.score)];
     for c in &result.containing {
@@ -110,8 +110,8 @@ fn scanned(result: &ScanResult<'_>) -> Answer {
 fn ours_scanned(lent: &Lent<'_>, s: &ours::Scanned) -> Answer {
     assert_eq!(s.refusal, 0, "a scan is refused");
     let mut out = vec![bits(s.score)];
-    for r in lent.results.chunks(4).take(s.records as usize) {
-        out.extend(r[1..].iter().map(|&x| x as usize));
+    for r in lent.results.chunks(ours::RECORD_WIDTH).take(s.records as usize) {
+        out.extend(r[1..4].iter().map(|&x| x as usize));
     }
     out
 }

@@ -1,5 +1,11 @@
 //! The archive's calls (../../include/chultarvi.h), each with areas that were lent once before the clock starts.
 
+/// Numbers of a record in the results, by the header.
+pub const RECORD_WIDTH: usize = match usize::from_str_radix(env!("CHULTARVI_RECORD_WIDTH"), 10) {
+    Ok(width) => width,
+    Err(_) => panic!("a record's width is no number"),
+};
+
 #[repr(C)]
 pub struct Checked {
     pub refusal: u32,
@@ -81,7 +87,7 @@ impl<'a> Lent<'a> {
         area.fill(0);
         words.fill(0);
         out.fill(0);
-        Self { text, lines, area, words, results: vec![0; 4 * lines.max(usize::from(crate::PASSES))], out }
+        Self { text, lines, area, words, results: vec![0; RECORD_WIDTH * lines.max(usize::from(crate::PASSES))], out }
     }
 
     pub fn compile(&mut self) -> Compiled {
