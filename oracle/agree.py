@@ -1,6 +1,6 @@
 #!/usr/bin/env python3
 """Holds model.py, the second reading of the rules, against the original Rust: lines, views, tables, scores, bounds and both scans; m and t, which the
-original does not tell, against its own tables of both texts.
+original does not tell, against its own tables of both texts; places, which it does not tell either, against slices of the text in Rust.
 
     oracle/agree.py [--edition E] [--seed N] [--texts N]
 
@@ -12,7 +12,6 @@ import argparse
 import collections
 import dataclasses
 import random
-import struct
 import sys
 
 import asking
@@ -55,8 +54,7 @@ def shelved(rng, oracle, seed, i):
 
 def scanned(a):
     """The model's answer as the oracle's protocol has it."""
-    numbers = struct.iter_unpack("<IIII", a.results[: 16 * a.records])
-    return compare.Counted(a.refusal, a.count, a.score, a.part if a.kind else None, [tuple(r) for r in numbers])
+    return compare.Counted(a.refusal, a.count, a.score, a.part if a.kind else None, a.recorded)
 
 
 def pairs(oracle, t, first, after, licence):
@@ -82,8 +80,8 @@ def jobs(tally, oracle, rng, seed, i):
     tally.hold("m and t of bounds", told, pairs(oracle, t, b.first, b.after, texts[k].text), (b.m, b.t))
     threshold, shallow = rng.choice([compare.ZERO, compare.HALF, compare.NINETY]), compare.ONE
     q = dataclasses.replace(q, threshold=threshold, shallow=shallow, optimize=True, passes=3, step=rng.choice([1, 2, 3]), budget=WHOLE)
-    for job, before, room in (("eliminate", "1 3", 48), ("down", q.step, 16 * n)):
-        asked = dataclasses.replace(q, job=job, results=bytes(room))
+    for job, before, most in (("eliminate", "1 3", 3), ("down", q.step, n)):
+        asked = dataclasses.replace(q, job=job, results=bytes(4 * model.RECORD_WIDTH * most))
         a = model.answered(asked)
         theirs = oracle.counted(f"count{job} {threshold:08x} {shallow:08x} {before} {WHOLE} {hexed(t)}")
         part = None if theirs.named is None else model.shelved((book,))[theirs.named].part

@@ -152,9 +152,9 @@ def unsound_book(rng, records):
 
 def limits(rng, plan):
     """Two limits, often scores that are met."""
-    whole = dataclasses.replace(question(plan, "eliminate"), optimize=True, passes=3, budget=200, results=bytes(48))
+    whole = dataclasses.replace(question(plan, "eliminate"), optimize=True, passes=3, budget=200, results=bytes(3 * 4 * model.RECORD_WIDTH))
     first = model.answered(whole)
-    met = [first.score] + list(struct.unpack("<12I", first.results))[3 : 4 * first.records : 4]
+    met = [first.score] + [record.score for record in first.recorded]
     some = [model.bits_of(x) for x in (0.0, 0.5, 0.5, 0.9, 0.9, 1.0)] + [0x80000000]
     return rng.choice(some + met * 2), rng.choice(some + [model.bits_of(0.99), model.bits_of(1.0)] + met)
 

@@ -103,7 +103,7 @@ boundsRow t a e books k w =
 pub limits : ℕ → ℕ → Limits
 limits threshold shallow = record { threshold = ofBits binary32 threshold; shallow = ofBits binary32 shallow }
 
--- a whole scan, of the books' edition: count, overall score bits, kind, records, the name's length, the name, then each record's four numbers
+-- a whole scan, of the books' edition: count, overall score bits, kind, records, the name's length, the name, then each record's six numbers
 pub scanRow : String → List (List ℕ) → Limits → Mode → List ℕ → Row
 scanRow t books lim mode w =
     let es = events lim mode (shelved 0 books) (lines (editionOf books) (text t)) in
@@ -111,7 +111,7 @@ scanRow t books lim mode w =
     record {
       got =
           length (scorings es) ∷ bits (verdict es .value .score) ∷ who .kind ∷ length (records es) ∷
-          length (who .name) ∷ who .name ++ numbers (records es);
+          length (who .name) ∷ who .name ++ numbers (text t) (records es);
       want = w;
     }
 
@@ -163,11 +163,10 @@ class Oracle:
             self.ask("add", hexed(s.name), s.kind, hexed(s.text))
 
     def counted(self, question):
-        """A scan by the counted copy."""
-        head, *records = self.ask(question).split(" ; ")
+        """A scan by the counted copy, with its places."""
+        head, *records = self.ask("placed", question).split(" ; ")
         refusal, count, score, named = head.split(" ")
-        records = [(int(k), int(a), int(e), int(x, 16)) for k, a, e, x in (r.split(" ") for r in records)]
-        return Counted(int(refusal), int(count), int(score, 16), None if named == "none" else int(named), records)
+        return Counted(int(refusal), int(count), int(score, 16), None if named == "none" else int(named), [record_of(r) for r in records])
 
     def table(self, text):
         """The table of a text: its total, and each bigram with its count, in byte order."""
@@ -190,6 +189,16 @@ def hexed(text):
 
 def unhexed(word):
     return "" if word == "-" else bytes.fromhex(word).decode("utf-8")
+
+
+def record_of(told):
+    """A record as `placed` tells it: the score's bits in hex."""
+    number, first, after, score, start, end = told.split(" ")
+    return model.Record(int(number), int(first), int(after), int(score, 16), int(start), int(end))
+
+
+def told_of(record):
+    return " ".join(map(str, record._replace(score=f"{record.score:08x}")))
 
 
 def little(number, width):
@@ -808,8 +817,8 @@ class Maker:
         decides, ours need not be among its answers; but what is overall scores the same."""
         alike = self.oracle.counted(s.question(WHOLE, "first"))
         own = f"{alike.score:08x} {'none' if alike.named is None else alike.named}"
-        own += "".join(f" ; {k} {first} {after} {x:08x}" for k, first, after, x in alike.records)
-        self.agree(s.told(), own, lambda: self.oracle.ask(s.word, s.before, hexed(s.text)))
+        own += "".join(f" ; {told_of(record)}" for record in alike.records)
+        self.agree(s.told(), own, lambda: self.oracle.ask("placed", s.word, s.before, hexed(s.text)))
         self.told["scans that a kind decides"] += alike != a
         if alike.score != a.score or (alike.named is None) != (a.named is None):
             self.lost.append(f"{s.told()}: the kinds change the overall score")
@@ -823,11 +832,11 @@ class Maker:
     def eliminate_setting(self, rng, make=shelf):
         texts, books, t, n = self.setting(rng, 12, make)
         everything = self.oracle.counted(f"counteliminate {ZERO:08x} {ONE:08x} 1 4 {WHOLE} {hexed(t)}")
-        threshold, shallow = self.limits(rng, [everything.score] + [r[3] for r in everything.records])
+        threshold, shallow = self.limits(rng, [everything.score] + [record.score for record in everything.records])
         optimize, passes = int(rng.random() < 0.85), rng.choice([0, 1, 2, 2, 3, 3, 4])
         mode = ELIMINATION.format(optimize="true" if optimize else "false", passes=passes)
         before = f"{threshold:08x} {shallow:08x} {optimize} {passes}"
-        need = 4 * passes if optimize else 0
+        need = model.RECORD_WIDTH * passes if optimize else 0
         return Setting(texts, books, t, threshold, shallow, mode, "eliminate", before, need)
 
     def down_setting(self, rng, make=shelf):
@@ -836,7 +845,7 @@ class Maker:
         scores = [int(x, 16) for _ in range(3) for x in self.oracle.ask("scores", *any_view(rng, n), hexed(t)).split(" ")]
         threshold, shallow = self.limits(rng, [max(scores), rng.choice(scores)])
         before = f"{threshold:08x} {shallow:08x} {step}"
-        return Setting(texts, books, t, threshold, shallow, TOP_DOWN.format(step=step), "down", before, 4 * n)
+        return Setting(texts, books, t, threshold, shallow, TOP_DOWN.format(step=step), "down", before, model.RECORD_WIDTH * n)
 
     def eliminate(self, rng, i):
         return self.scan_row(self.eliminate_setting(rng))
@@ -876,9 +885,9 @@ class Maker:
 
     def tell(self, s, a):
         self.told["scans: records"] += len(a.records)
-        self.told["scans: empty ranges among the records"] += sum(first == after for _, first, after, _ in a.records)
-        for k, _, _, _ in a.records:
-            self.told[f"scans: records of kind {s.texts[k].kind}"] += 1
+        self.told["scans: empty ranges among the records"] += sum(record.first == record.after for record in a.records)
+        for record in a.records:
+            self.told[f"scans: records of kind {s.texts[record.number].kind}"] += 1
         if a.named is not None:
             self.told[f"scans: licence named by kind {s.texts[a.named].kind}"] += 1
         self.told["scans: scorings"] += a.count
@@ -912,7 +921,7 @@ def piece(kind, body):
 
 
 def record_names(a):
-    return [f"record {i}: {part}" for i in range(len(a.records)) for part in ["stored number", "first line", "line after last", "score bits"]]
+    return [f"record {i}: {part}" for i in range(len(a.records)) for part in model.Record._fields]
 
 
 # ---- the comparison ----------------------------------------------------------------------------------------------------------------------

@@ -52,11 +52,11 @@ def areas(jobs=WITH_TEXT, texts=(MARKED_TEXT, b"", b"x", b"a b\n" * 5), **fields
 
 def results(all_passes=(0, 1, 2, 10, 65535), texts=(MARKED_TEXT, b"", b"\n", b"my first license\n" * 6), steps=(1, 2, WHOLE), **fields):
     for passes, by in itertools.product(all_passes, NEAR):
-        yield Edge("4P", marked("eliminate", {"results": by}, passes=passes, **fields), due(by < 0 and passes > 0, 10))
-        yield Edge("4P", marked("eliminate", {"results": by}, passes=passes, optimize=False, **fields), 0)
-        yield Edge("4P", marked("eliminate", {"results": by}, passes=passes, budget=9, **fields), due(passes > 0, 10 if by < 0 else 12))
+        yield Edge("6P", marked("eliminate", {"results": by}, passes=passes, **fields), due(by < 0 and passes > 0, 10))
+        yield Edge("6P", marked("eliminate", {"results": by}, passes=passes, optimize=False, **fields), 0)
+        yield Edge("6P", marked("eliminate", {"results": by}, passes=passes, budget=9, **fields), due(passes > 0, 10 if by < 0 else 12))
     for text, step, by in itertools.product(texts, steps, NEAR):
-        yield Edge("4L", marked("down", {"results": by}, text=text, step=step, **fields), due(by < 0, 10))
+        yield Edge("6L", marked("down", {"results": by}, text=text, step=step, **fields), due(by < 0, 10))
 
 
 def output():

@@ -25,6 +25,7 @@ import compare
 import edges
 import editions
 import model
+import places
 from compare import Row, Trial, Trouble
 
 HEAD = """\
@@ -217,7 +218,7 @@ def wanted(q, a):
     if q.job == "bounds":
         return f"({compare.listed([a.refusal, a.first, a.after, a.score, a.m, a.t, a.count])} ++ {both})"
     head = compare.listed([a.refusal, a.count, a.score, a.m, a.t, a.kind, a.records, a.name_len, *a.part, *a.name])
-    return f"({head} ++ {area_term(a.results, 4, 4 * a.records)} ++ {both})"
+    return f"({head} ++ {area_term(a.results, 4, model.RECORD_WIDTH * a.records)} ++ {both})"
 
 
 def row(q, a):
@@ -232,7 +233,8 @@ def numbers_of(a):
 
 # ---- wrong rows, each of which must be refused -----------------------------------------------------------------------------------------------
 
-SCANNED = ("refusal", "count", "score", "m", "t", "kind", "records", "name_len", "second", "at", "len", "name", "results", "area", "words")
+PLACED = ("start", "end")  # of the first record
+SCANNED = ("refusal", "count", "score", "m", "t", "kind", "records", "name_len", "second", "at", "len", "name", *PLACED, "results", "area", "words")
 PARTS = {
     "check": ("refusal", "texts"),
     "compile": ("refusal", "len", "out", "area", "words"),
@@ -246,7 +248,11 @@ PARTS = {
 
 
 def spoiled(a, job, part):
-    """The answer with one part wrong: a number one higher, or the last element of an area. A name's second, at and len are its part."""
+    """The answer with one part wrong: a number one higher, or the last element of an area. A name's second, at and len are its part; start and end are
+    those of the first record."""
+    if part in PLACED:
+        at = 4 * model.Record._fields.index(part)
+        return dataclasses.replace(a, results=a.results[:at] + bytes([a.results[at] ^ 1]) + a.results[at + 1 :])
     if job in (*asking.SCANS, "name") and part in model.Part._fields:
         return dataclasses.replace(a, part=a.part._replace(**{part: getattr(a.part, part) + 1}))
     value = getattr(a, part)
@@ -259,8 +265,10 @@ def controls(trial, seed):
     statements = {}
     for job, books in [(job, (edges.MARKED_BOOK,)) for job in PARTS] + [(job, edges.TWO) for job in asking.OF_TWO]:
         rng, slack = asking.stream(seed, f"controls {job}"), {"area": 2, "words": 2, "out": 2, "results": 2}
-        q = asking.filled(rng, edges.marked(job, slack, text=b"my first license", books=books, passes=1), garbage)
+        q = asking.filled(rng, edges.marked(job, slack, text=b"my first license", books=books, shallow=model.bits_of(1.0), passes=1), garbage)
         a = model.answered(q)
+        if job in asking.SCANS and not a.records:
+            raise Trouble(f"no record in the wrong rows of {job}")
         for part in PARTS[job]:
             name = f"{job}-{part}".replace("_", "-") + "-of-two" * (len(books) == 2)
             statements[name] = row(q, spoiled(a, job, part))
@@ -328,17 +336,22 @@ def wide(rng, scale, two):
     yield from computable(accents.both() if two else accents.one(), scale)
 
 
+def ranges(rng, scale, two):
+    """The edges of the bytes of a range."""
+    yield from computable(places.both() if two else places.one(), scale)
+
+
 def computable(found, scale):
-    """The edges that antt can compute on: no results of 65,535 passes, and no book of a thousand texts (damaged/proofs/LimitCases.antt has that).
-    At a scale below 1 only some of them."""
+    """The edges that antt can compute on: no results of 65,535 passes, no text of 65,535 bytes, and no book of a thousand texts
+    (damaged/proofs/LimitCases.antt has that). At a scale below 1 only some of them."""
     for edge in itertools.islice(found, 0, None, max(1, round(1 / scale))):
-        if edge.plan.passes < 1000 and all(len(book) < 5000 for book in edge.plan.books):
+        if edge.plan.passes < 1000 and all(len(lent) < 5000 for lent in (edge.plan.text, *edge.plan.books)):
             yield edge.plan
 
 
 MAKERS = {
     "answers": answers, "refusals": refusals, "budgets": budgets, "books, sound or not": books, "edges": limits, "ties": ties, "editions": rulings,
-    "accents": wide,
+    "accents": wide, "places": ranges,
 }  # fmt: skip
 KINDS = {kind: (make, False) for kind, make in MAKERS.items()} | {f"two books: {kind}": (make, True) for kind, make in MAKERS.items()}
 LINES = {False: 5, True: 3}  # of a text, at most; with two books each view costs more

@@ -17,6 +17,8 @@ from fractions import Fraction
 
 TEXT_MOST, LINES_MOST = 1048576, 65536
 BOOK_MOST, STORED_MOST, TOTAL_MOST, NAME_MOST = 16777216, 1024, 8388608, 64
+Record = collections.namedtuple("Record", "number first after score start end")  # of the results; the score by its bits
+RECORD_WIDTH = len(Record._fields)
 
 # ---- binary32 ----------------------------------------------------------------------------------------------------------------------------
 
@@ -383,6 +385,17 @@ def top_down(note, shelf, q):
         line = after + 1
 
 
+# ---- places ------------------------------------------------------------------------------------------------------------------------------
+
+
+def places(text, first, after):
+    """The bytes of these lines in the text as it was lent: newlines between them count, the one behind them does not."""
+    pieces = text.split(b"\n")
+    before = sum(len(piece) + 1 for piece in pieces[:first])  # the last line of all has no newline, so at L this is one too many
+    start = min(before, len(text))
+    return start, start + len(b"\n".join(pieces[first:after]))
+
+
 # ---- questions and answers ---------------------------------------------------------------------------------------------------------------
 
 
@@ -436,6 +449,12 @@ class Answer:
     out: bytes = b""
     results: bytes = b""
 
+    @property
+    def recorded(self):
+        """The records at the front of the results."""
+        size = 4 * RECORD_WIDTH
+        return [Record(*numbers) for numbers in struct.iter_unpack(f"<{RECORD_WIDTH}I", self.results[: size * self.records])]
+
 
 def line_count(q):
     return q.text.count(b"\n") + 1
@@ -443,8 +462,8 @@ def line_count(q):
 
 def results_need(q):
     if q.job == "down":
-        return 4 * line_count(q)
-    return 4 * q.passes if q.job == "eliminate" and q.optimize else 0
+        return RECORD_WIDTH * line_count(q)
+    return RECORD_WIDTH * q.passes if q.job == "eliminate" and q.optimize else 0
 
 
 def in_unit(bits):
@@ -544,7 +563,8 @@ def scan_job(q, a):
                 a.name = event.text.name.ljust(NAME_MOST, b"\0")
         else:
             a.records += 1
-            numbers += struct.pack("<IIII", event.number, event.first, event.after, bits_of(event.score))
+            record = Record(*event[:3], bits_of(event.score), *places(q.text, event.first, event.after))
+            numbers += struct.pack(f"<{RECORD_WIDTH}I", *record)
     a.results = written(numbers, q.results)
 
 

@@ -4,8 +4,9 @@
     oracle/replay.py [--seed N]
 
 There are five lists, `replay_lines`, `replay_views`, `replay_tables`, `replay_scans` and `replay_accents`, one behind the other. crates/replay/stdin
-gets the questions and crates/replay/stdout the oracle's answers as they are; `rt check replay` runs the program, which answers such questions with
-the proved functions, on the one and compares what it writes with the other. The seed (default 1) fixes the lists.
+gets the questions and crates/replay/stdout the oracle's answers, those of scans with the bytes of each range (`placed`); `rt check replay` runs the
+program, which answers such questions with the proved functions, on the one and compares what it writes with the other. The seed (default 1) fixes the
+lists.
 
 The last list is of edition 3. It begins with a line `edition 3`, which the oracle is not sent and to which there is no answer, and asks questions of
 all kinds, of the cases of compare.py, of every code point from 80 to FF alone and between letters, and of random texts up to U+00FF.
@@ -155,6 +156,20 @@ def all_texts(rng, how_many):
 
 
 # ---- lists of questions ------------------------------------------------------------------------------------------------------------------
+
+SCANS = ("counteliminate", "countdown")
+
+
+def asked(question):
+    """A scan is asked with the bytes of its ranges."""
+    return f"placed {question}" if question.startswith(SCANS) else question
+
+
+class Theirs(Oracle):
+    """The original of an edition, asked so."""
+
+    def ask(self, *words):
+        return super().ask(asked(" ".join(map(str, words))))
 
 
 class List:
@@ -370,7 +385,7 @@ def listed(make, oracle, seed):
 
 def recorded(make, edition, seed):
     """One list, asked of a store that is empty."""
-    out = listed(make, Oracle(edition), seed)
+    out = listed(make, Theirs(edition), seed)
     sizes = [sum(len(row) + 1 for row in rows) for rows in (out.questions, out.answers)]
     print(f"{make.__name__}: {len(out.answers)} questions, {sizes[0]} and {sizes[1]} bytes")
     return out

@@ -6,8 +6,8 @@
 Asks target/rows (built and run by host/drivers/rows.sh) and the model the same questions, and compares everything that the call answers and leaves. Every
 area is filled with garbage first and is often longer than needed; text, books and the bytes behind each buffer must be as they were, and the name's
 part must hold the name. Each refusal of each job, of one book and of two, must be met at least 20 times, and each limit must bring the refusal that
-edges.py, editions.py or accents.py says. Prints one line for each kind of row; the last line is 'N passed, M failed'. Exit status: 0 none failed, 1 some did, 2 the
-comparison could not be made.
+edges.py, editions.py, accents.py or places.py says. Prints one line for each kind of row; the last line is 'N passed, M failed'. Exit status: 0 none
+failed, 1 some did, 2 the comparison could not be made.
 """
 
 import argparse
@@ -26,6 +26,7 @@ import compare
 import edges
 import editions
 import model
+import places
 from compare import Trouble
 
 AREAS = ("area", "words", "out", "results")
@@ -112,6 +113,11 @@ def with_accents(q):
     return third or not q.text.isascii()
 
 
+def by_width(q, want):
+    """Is it refused where records of four numbers, without bytes, would have had room?"""
+    return want.refusal == 10 and not model.small(dataclasses.replace(q, results=bytes(len(q.results) * model.RECORD_WIDTH // 4)))
+
+
 # what a row may reach, by its question and the model's answer
 REACHED = {
     "with several faults at once": lambda q, want: several(q),
@@ -120,6 +126,9 @@ REACHED = {
     "with word pairs": lambda q, want: want.t > 0,
     "where m and t must be 0": lambda q, want: want.t == 0 and q.job in (*asking.VIEWS, *asking.SCANS),
     "that a kind decides": asking.by_kind,
+    "with records, and so the bytes of ranges": lambda q, want: want.records > 0,
+    "with an empty range": lambda q, want: any(record.first == record.after for record in want.recorded),
+    "refused for the last two numbers of records": by_width,
 }
 
 
@@ -233,9 +242,10 @@ def limits(seed, found):
 def rows(seed, scale, large):
     """All rows: so many times the random ones, and the large edges or not."""
     yield from random_rows(seed, scale)
-    yield from limits(seed, itertools.chain(edges.small(), edges.both(), editions.one(), editions.both(), accents.one(), accents.both(), edges.ties()))
+    of_rules = (of for rules in (editions, accents, places) for of in (rules.one(), rules.both()))
+    yield from limits(seed, itertools.chain(edges.small(), edges.both(), *of_rules, edges.ties()))
     if large:
-        yield from limits(seed, itertools.chain(edges.large(), edges.all_ties(), editions.large(), accents.large()))
+        yield from limits(seed, itertools.chain(edges.large(), edges.all_ties(), editions.large(), accents.large(), places.large()))
 
 
 QUICK = 0.05

@@ -14,10 +14,11 @@ compares the answers line by line:
   wide      in edition 3 the tables of random texts of these code points
 
 Every question on a view or a scan is asked of target/answers twice: with one book, and behind `border K` with two, which the original's one store
-decides as well. The original's unordered ties are settled in its answers as oracle/README.md says. Every area is filled with garbage before a call,
-and target/answers stops where one is not as it must be after it, or where the name's part is not the named licence's. In edition 2 the texts of the
-lists have 4s put into them, in edition 3 accents. Prints the number of cases of each kind, in edition 2 also of how many edition 1 has another answer,
-in edition 3 how many ask about a text that is not ASCII, and each difference.
+decides as well. Scans are asked with the bytes of their ranges, which in Rust are slices of the text. The original's unordered ties are settled in its
+answers as oracle/README.md says. Every area is filled with garbage before a call, and target/answers stops where one is not as it must be after it, or
+where the name's part is not the named licence's. In edition 2 the texts of the lists have 4s put into them, in edition 3 accents. Prints the number of
+cases of each kind, in edition 2 also of how many edition 1 has another answer, in edition 3 how many ask about a text that is not ASCII, and each
+difference.
 """
 
 import argparse
@@ -32,12 +33,13 @@ from collections import Counter
 import compare
 import model
 import replay
-from compare import ONE, WHOLE, Oracle, Trouble, bits, hexed
+from compare import ONE, WHOLE, Trouble, bits, hexed
+from replay import SCANS, Theirs, asked
 
 ALPHABET = "aC4 \n$-"
 SHORT = 5
 FILE_MOST = 10000  # bytes; the original takes long for more
-VIEWS, SCANS = ("score", "countbounds"), ("counteliminate", "countdown")
+VIEWS = ("score", "countbounds")
 PLACES = ["z a{0}{1}b c", "z http://{0}{1}b c", "z\ncopyright{0}{1}1 k\nb c", "é{0}{1}x b\né{0}{1}y c\né{0}{1}z d"]  # of two code points
 WIDE_TEXTS = 60000
 OTHERWISE = {1: "", 2: ", edition 1 has another answer to {:8}", 3: ", a text that is not ASCII in {:8}"}
@@ -66,29 +68,30 @@ class Tally:
     """Holds our answers against the original's. The borders are drawn by the seed that the run starts with."""
 
     def __init__(self, edition, seed):
-        self.ours, self.edition, self.first = Ours(edition), edition, Oracle(1) if edition == 2 else None
+        self.ours, self.edition, self.first = Ours(edition), edition, Theirs(1) if edition == 2 else None
         self.rng = random.Random(f"{seed} borders")
-        self.asked, self.otherwise, self.differing, self.licences = Counter(), Counter(), 0, 0
+        self.asked, self.otherwise, self.differing, self.licences, self.placed = Counter(), Counter(), 0, 0, 0
 
     def hold(self, question, theirs):
         """With one book; and where two can be lent with two, parted anywhere, also before the first licence and behind the last."""
         word, *rest = question.split(" ")
         self.licences = 0 if word == "clear" else self.licences + (word == "add" and rest[1] == "2")
         otherwise = self.first.ask(question) != theirs if self.first else not_ascii(word, rest)
-        self.compare(word, question, theirs, otherwise)
+        self.compare(word, asked(question), theirs, otherwise)
         if word in VIEWS + SCANS:
             border = self.rng.randint(0, self.licences if word in SCANS else 1)
-            self.compare(f"{word}, two books", f"border {border} {question}", theirs, otherwise)
+            self.compare(f"{word}, two books", f"border {border} {asked(question)}", theirs, otherwise)
 
     def told(self):
         for kind, count in sorted(self.asked.items()):
             print(f"{kind:25} {count:8}" + OTHERWISE[self.edition].format(self.otherwise[kind]))
-        print(f"edition {self.edition}: {self.asked.total()} cases, {self.differing} differences")
+        print(f"edition {self.edition}: {self.asked.total()} cases, {self.placed} ranges with their bytes, {self.differing} differences")
 
     def compare(self, kind, question, theirs, otherwise):
         ours = self.ours.ask(question)
         self.asked[kind] += 1
         self.otherwise[kind] += otherwise
+        self.placed += theirs.count(" ; ")
         if theirs != ours:
             self.differing += 1
             print(f"differs: {question[:400]}\n  original {theirs[:300]}\n  ours     {ours[:300]}")
@@ -155,7 +158,7 @@ def main():
     options.add_argument("--seeds", type=int, default=100)
     options.add_argument("--first", type=int, default=1)
     options = options.parse_args()
-    oracle, tally = Oracle(options.edition), Tally(options.edition, options.first)
+    oracle, tally = Theirs(options.edition), Tally(options.edition, options.first)
     lists(tally, oracle, options.first, options.seeds)
     tables(tally, oracle, short())
     files(tally, oracle)

@@ -32,6 +32,10 @@ VALUE, OVERALL, FOUND_THERE = f"{VALUED} m, t)", "tell(a, event.score)\n", "    
 BETTER, RANK, HIGHER = "            found = text, value\n", asking.RANK, "rank(text, value) > rank(*found)"
 EARLIEST = "next(x for x in shelf if score(note.table({}, {}), x.table) == value)"  # of equal scores, of whatever kind
 FROM_OVERALL = "    yield Overall" + inspect.getsource(model.elimination).split("    yield Overall")[1]
+SIX_P, SIX_L = "RECORD_WIDTH * q.passes if", "RECORD_WIDTH * line_count(q)"
+CUT, START, JOINED = 'text.split(b"\\n")', "start = min(before, len(text))", 'len(b"\\n".join(pieces[first:after]))'
+PLACES, RECORDED = f"return start, start + {JOINED}", "places(q.text, event.first, event.after))\n"
+WRITTEN, EARLIER = "*record)", "dataclasses.replace(a, results=numbers, records=a.records - 1).recorded"
 BYTES, ONLY_LATER = '"utf-8" if edition == ACCENTS else "ascii"', "edition == 1 or "
 
 
@@ -48,9 +52,9 @@ WRONG = [
     ("areas of 8n+65", "8 * n + 64", "8 * n + 65"),
     ("areas of 12n+63", "12 * n + 64", "12 * n + 63"),
     ("areas of 12n+65", "12 * n + 64", "12 * n + 65"),
-    ("results of 3P", "4 * q.passes if", "3 * q.passes if"),
-    ("results of 4P without optimize", 'q.job == "eliminate" and q.optimize', 'q.job == "eliminate"'),
-    ("results of 4L-4", "4 * line_count(q)", "4 * line_count(q) - 4"),
+    ("results of 3P", SIX_P, "3 * q.passes if"),
+    ("results of 6P without optimize", 'q.job == "eliminate" and q.optimize', 'q.job == "eliminate"'),
+    ("results of 6L-6", SIX_L, f"{SIX_L} - RECORD_WIDTH"),
     ("a text of 1,048,577 bytes", "len(q.text) > TEXT_MOST", "len(q.text) > TEXT_MOST + 1"),
     ("a byte of 128", "return text.isascii()", "return max(text, default=0) <= 128"),
     ("65,537 lines", "line_count(q) > LINES_MOST", "line_count(q) > LINES_MOST + 1"),
@@ -218,6 +222,95 @@ WRONG = [
             continue
         value = yield from scored(note, start, end, text)
 """),
+    # the bytes of a range: the results
+    ("results of 4P", SIX_P, "4 * q.passes if"),
+    ("results of 5P", SIX_P, "5 * q.passes if"),
+    ("results of 6P-1", SIX_P, f"{SIX_P.removesuffix(' if')} - 1 if"),
+    ("results of 6P+1", SIX_P, f"{SIX_P.removesuffix(' if')} + 1 if"),
+    ("results of 4L", SIX_L, "4 * line_count(q)"),
+    ("results of 5L", SIX_L, "5 * line_count(q)"),
+    ("results of 6L-1", SIX_L, f"{SIX_L} - 1"),
+    ("results of 6L+1", SIX_L, f"{SIX_L} + 1"),
+    ("results of 6 for each newline", SIX_L, "RECORD_WIDTH * (line_count(q) - 1)"),
+    # the bytes of a range: ruling 1, of the note as it was lent
+    ("places among the normalised lines", CUT, '[line(piece.decode("utf-8"), 2).encode("utf-8") for piece in text.split(b"\\n")]'),
+    ("places without the blanks at the ends of lines", CUT, '[piece.strip() for piece in text.split(b"\\n")]'),
+    ("places among the blanked lines", RECORDED, f"""\
+places(
+                b"\\n".join(b"" if any(r.first <= i < r.after for r in {EARLIER}) else piece for i, piece in enumerate(q.text.split(b"\\n"))),
+                event.first, event.after))
+"""),
+    ("places without the blanked lines", RECORDED, f"""\
+places(
+                b"\\n".join(piece for i, piece in enumerate(q.text.split(b"\\n")) if not any(r.first <= i < r.after for r in {EARLIER})),
+                event.first, event.after))
+"""),
+    ("places in points", CUT, '[piece.encode("latin-1") for piece in text.decode("utf-8").split("\\n")]'),
+    ("places in points of ASCII alone", CUT, '[bytes(b for b in piece if b < 128) for piece in text.split(b"\\n")]'),
+    # ruling 2, what ends a line
+    ("a carriage return left out of the end", PLACES, 'return start, start + len(b"\\n".join(pieces[first:after]).rstrip(b"\\r"))'),
+    ("carriage returns left out of all lines", CUT, '[piece.rstrip(b"\\r") for piece in text.split(b"\\n")]'),
+    ("carriage return and newline a line's end of one byte", CUT, 'text.replace(b"\\r\\n", b"\\n").split(b"\\n")'),
+    ("a carriage return ends a line", CUT, 'text.replace(b"\\r", b"\\n").split(b"\\n")'),
+    ("a carriage return ends a line, and a newline does not", CUT, 'text.split(b"\\r")'),
+    ("a vertical tab or a form feed ends a line", CUT, 're.split(rb"[\\n\\v\\f]", text)'),
+    ("U+0085 ends a line of bytes", CUT, 're.split(rb"\\n|\\xc2\\x85", text)'),
+    # ruling 3, where a range ends
+    ("end: the start of the line after, less one", PLACES, "return start, start if first == after else min(sum(len(p) + 1 for p in pieces[:after]), len(text)) - 1"),
+    ("end: the start of the line after", PLACES, "return start, start if first == after else min(sum(len(p) + 1 for p in pieces[:after]), len(text))"),
+    ("end: with the newline", PLACES, f"return start, min(start + {JOINED} + (first < after), len(text))"),
+    ("end: with the newline, one too many in the last line", PLACES, f"return start, start + {JOINED} + (first < after)"),
+    ("end: its last byte", PLACES, f"return start, start + {JOINED} - (first < after)"),
+    ("end: of the line after", JOINED, JOINED.replace("after]", "after + 1]")),
+    ("end: of the first line", JOINED, JOINED.replace("first:after", "first:min(after, first + 1)")),
+    ("end: a length", PLACES, f"return start, {JOINED}"),
+    ("end: without the newlines between", JOINED, 'len(b"".join(pieces[first:after]))'),
+    ("start: of the line before", "before = sum(len(piece) + 1 for piece in pieces[:first])", "before = sum(len(piece) + 1 for piece in pieces[: max(0, first - 1)])"),
+    ("start: without the newlines before", "len(piece) + 1 for", "len(piece) for"),
+    ("start: counted from 1", START, "start = min(before, len(text)) + 1"),
+    ("start: at the newline before", START, "start = min(max(0, before - 1), len(text))"),
+    ("start: behind the blanks of its line", PLACES, """\
+start += first < after and len(pieces[first]) - len(pieces[first].lstrip())
+    return start, start + len(b"\\n".join(pieces[first:after]).lstrip())"""),
+    ("start and end exchanged", PLACES, f"return start + {JOINED}, start"),
+    ("both before the score", WRITTEN, "*(record[:3] + record[4:] + record[3:4]))"),
+    ("places in the lines' stead", WRITTEN, "*(record[:1] + record[4:] + record[3:4] + record[1:3]))"),
+    ("all places behind all records", "    a.results = written(numbers, q.results)", """\
+    found = dataclasses.replace(a, results=numbers).recorded
+    numbers = b"".join(struct.pack("<4I", *r[:4]) for r in found) + b"".join(struct.pack("<2I", *r[4:]) for r in found)
+    a.results = written(numbers, q.results)"""),
+    ("the first record's places in all", RECORDED, f"places(q.text, *((*{EARLIER}, event)[0][1:3])))\n"),
+    ("the last record's places in the next", RECORDED, f"places(q.text, *((event, *{EARLIER})[-1][1:3])))\n"),
+    ("top-down: the carried place not moved past the gap line", RECORDED, f"""\
+(
+                place - sum(len(piece) + 1 for i, piece in enumerate(q.text.split(b"\\n")) if q.job == "down" and i in [r.after for r in {EARLIER}])
+                for place in places(q.text, event.first, event.after)))
+"""),
+    # ruling 4, a last newline
+    ("no empty last line", CUT, 'text.removesuffix(b"\\n").split(b"\\n")'),
+    ("the last newline counts for its empty line", PLACES, f"return start, start + {JOINED} + (first < after == len(pieces) and text.endswith(b'\\n'))"),
+    # ruling 5, empty ranges
+    ("an empty range has the end of its line", PLACES, "return start, start + len(b'\\n'.join(pieces[first : max(after, first + 1)]))"),
+    ("an empty range at the end of the line before", START, "start = min(max(0, before - (first == after)), len(text))"),
+    ("an empty range ends at the end of the line before", PLACES, f"return start, max(0, start - 1) if first == after else start + {JOINED}"),
+    ("an empty range before L at the text's length", START, "start = len(text) if first == after else min(before, len(text))"),
+    ("an empty range at 0", START, "start = 0 if first == after else min(before, len(text))"),
+    ("n + 1 at L", START, "start = before"),
+    ("n - 1 at L", START, "start = min(before, len(text) - 1) if first == len(pieces) and text else min(before, len(text))"),
+    ("0 at L", START, "start = min(before, len(text)) * (first < len(pieces))"),
+    ("the last line's start at L", "pieces[:first]", "pieces[: min(first, len(pieces) - 1)]"),
+    # ruling 6, how large they are, and with 12
+    ("places of 16 bits", "*places(q.text, event.first, event.after)", "*(x % 2**16 for x in places(q.text, event.first, event.after))"),
+    ("no places with 12", "    a.results = written(numbers", """\
+    found = dataclasses.replace(a, results=numbers).recorded
+    numbers = b"".join(struct.pack("<6I", *r[:4], 0, 0) for r in found) if a.refusal == 12 else numbers
+    a.results = written(numbers"""),
+    ("no places of the last record with 12", "    a.results = written(numbers", """\
+    numbers = numbers[:-8] if a.refusal == 12 else numbers
+    a.results = written(numbers"""),
+    ("no places of a single pass", WRITTEN, "*(record if q.passes != 1 else record[:4] + (0, 0)))"),
+    ("no places in top-down", WRITTEN, "*(record if q.job == 'eliminate' else record[:4] + (0, 0)))"),
+    ("no places of two books", WRITTEN, "*(record[:4] + (0, 0) if q.books[1:] else record))"),
     # editions: what stays
     ("the 4 goes in edition 2", "2: MENDED", r'2: rf"[{BLANKS}\t\\/|4]+"'),
     ("the 4 goes in edition 3", "3: MENDED", r'3: rf"[{BLANKS}\t\\/|4]+"'),

@@ -186,6 +186,7 @@ impl Shelf {
             "countdown" => self.going_down(&self.texts, w),
             "firsteliminate" => self.eliminating(&self.alike(), w),
             "firstdown" => self.going_down(&self.alike(), w),
+            "placed" => placed(&self.answer(w[0], &w[1..]), &unhex(w[w.len() - 1])),
             other => panic!("no such question: {other}"),
         }
     }
@@ -268,6 +269,27 @@ fn verdict(score: f32, named: Option<usize>) -> String {
 
 fn range(number: usize, first: usize, after: usize, score: f32) -> String {
     format!(" ; {number} {first} {after} {}", bits(score))
+}
+
+/// The answer of a scan with the bytes of each range behind it.
+fn placed(answer: &str, text: &str) -> String {
+    let lines: Vec<&str> = text.split('\n').collect();
+    let mut parts = answer.split(" ; ");
+    let mut out = parts.next().expect("a verdict").to_string();
+    for range in parts {
+        let told: Vec<&str> = range.split(' ').collect();
+        let (start, end) = places(text, &lines, count(told[1]), count(told[2]));
+        out += &format!(" ; {range} {start} {end}");
+    }
+    out
+}
+
+/// Where the lines lie in the memory of the text that they are slices of; behind the last line, and there alone, its end.
+fn places(text: &str, lines: &[&str], first: usize, after: usize) -> (usize, usize) {
+    let place = |line: &str| line.as_ptr() as usize - text.as_ptr() as usize;
+    let start = lines.get(first).map_or(text.len(), |line| place(line));
+    let end = lines[first..after].last().map_or(start, |line| place(line) + line.len());
+    (start, end)
 }
 
 fn bounded(found: &TextData, score: f32) -> String {
