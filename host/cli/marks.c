@@ -62,11 +62,13 @@ static void let_go(sweep *s, const mark *m) {
     s->held--;
 }
 
+static bool has_lines(const mark *m) { return m->of->first < m->of->after; }
+
 /* The ranges that end before this line. One without lines was never taken in. */
 static void end_marks(sweep *s) {
     for (; s->ended < s->count && s->all[s->ends[s->ended]].of->after <= s->line; s->ended++) {
         const mark *m = s->all + s->ends[s->ended];
-        if (m->of->first < m->of->after) let_go(s, m);
+        if (has_lines(m)) let_go(s, m);
     }
 }
 
@@ -152,22 +154,17 @@ static size_t begin_marks(sweep *s) {
     size_t k = s->begun;
     for (; k < s->count && s->all[s->begins[k]].of->first == s->line; k++) {
         const mark *m = s->all + s->begins[k];
-        if (m->of->first == m->of->after) put_empty(s, m);
-        else take_in(s, s->begins[k]);
+        if (has_lines(m)) take_in(s, s->begins[k]);
+        else put_empty(s, m);
     }
     return k;
 }
 
 /* Those without a line have their labels already, and come last. */
-static bool has_lines(const sweep *s, size_t k) {
-    const finding *f = s->all[s->begins[k]].of;
-    return f->first < f->after;
-}
-
 static void put_labels(const sweep *s, size_t from, size_t to) {
-    if (from == to || !has_lines(s, from)) return;
+    if (from == to || !has_lines(s->all + s->begins[from])) return;
     fputs("<div class=\"labels\">\n", s->to->tags);
-    for (size_t k = from; k < to && has_lines(s, k); k++) put_label(s, s->all + s->begins[k]);
+    for (size_t k = from; k < to && has_lines(s->all + s->begins[k]); k++) put_label(s, s->all + s->begins[k]);
     fputs("</div>\n", s->to->tags);
 }
 
