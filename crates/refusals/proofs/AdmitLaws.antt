@@ -365,7 +365,7 @@ scan-through t books two lends lim mode a results h =
     let z = none-first first rest e in
     let x = row-passes 5 (not (unit (lim .threshold) && unit (lim .shallow))) _ (sym (refusal-then first rest (both-numbered t books two) z) ∙ e) in
     let y = row-passes 6 (stepZero mode) _ (x .1) in
-    let w = neither _ _ (row-passes 9 (smallFor (length t) a || ltb results (resultsNeed (lineCount t) mode)) [] (y .1) .0) in
+    let w = neither _ _ (row-passes 9 (smallFor (length t) a || ltb results (resultsNeed (lineCount t) lim mode)) [] (y .1) .0) in
     let s = neither _ _ (w .0) in
     let i = not-false _ (x .0) in
     record {

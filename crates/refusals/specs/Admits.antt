@@ -58,4 +58,4 @@ pub record ScanThrough (t : List ℕ) (books : Shelf) (lim : Limits) (mode : Mod
   pub step : stepZero mode ≡ false
   pub bytes : byteArea (length t) ≤ a .bytes
   pub words : wordArea (length t) ≤ a .words
-  pub room : resultsNeed (lineCount t) mode ≤ results
+  pub room : resultsNeed (lineCount t) lim mode ≤ results

@@ -30,4 +30,4 @@ unfoldable pub scanRows : (n lines : ℕ) → Limits → Mode → Areas → ℕ 
 scanRows n lines lim mode a results =
     row 6 (not (unit (lim .threshold) && unit (lim .shallow))) ∷
     row 7 (stepZero mode) ∷
-    row 10 (smallFor n a || ltb results (resultsNeed lines mode)) ∷ []
+    row 10 (smallFor n a || ltb results (resultsNeed lines lim mode)) ∷ []

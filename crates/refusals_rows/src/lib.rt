@@ -6,7 +6,7 @@ ghost use mathlib.Core.Bool.{_&&_, _||_};
 ghost use Prim.Native.Nat.{_≤_};
 ghost use lib.Dec.{ltb, leb};
 ghost use Rattle.rules.specs.Sizes.{textMost, linesMost, byteArea, wordArea};
-ghost use Rattle.rules.specs.Refusal.{refusal, unit, stepZero, resultsNeed};
+ghost use Rattle.rules.specs.Refusal.{refusal, unit, stepZero, recordsMost, resultsNeed};
 ghost use Rattle.refusals_rows.specs.Rows.{compileRows, viewRows, scanRows};
 use rules::AREA_SPARE;
 use rules::BYTES_EACH;
@@ -111,19 +111,27 @@ fn passes_wide(passes: u16) -> usize
     passes as usize
 }
 
-// The numbers that the records of a scan can take.
-fn results_need(lines: usize, mode: Mode) -> usize
+// The most records that a scan can make. Above 0.0, which -0.0 is not, top-down's have lines and lie apart.
+fn records_most(lines: usize, lim: Limits, mode: Mode) -> usize
     requires { ⌜ lines ≤ linesMost ⌝ }
-    ensures { λ r. ⌜ r ≡ resultsNeed lines mode ⌝ }
+    ensures { λ r. ⌜ (r ≡ recordsMost lines lim mode) × (r ≤ linesMost) ⌝ }
 {
     match mode {
-        Mode::Elimination(optimize, passes) => if optimize {
-            RECORD_WIDTH * passes_wide(passes)
+        Mode::Elimination(optimize, passes) => if optimize { passes_wide(passes) } else { 0 },
+        Mode::TopDown(_) => if 0.0 < lim.threshold {
+            (lines + 1) / 2
         } else {
-            0
+            lines
         },
-        Mode::TopDown(_) => RECORD_WIDTH * lines,
     }
+}
+
+// The numbers of these records.
+fn results_need(lines: usize, lim: Limits, mode: Mode) -> usize
+    requires { ⌜ lines ≤ linesMost ⌝ }
+    ensures { λ r. ⌜ r ≡ resultsNeed lines lim mode ⌝ }
+{
+    RECORD_WIDTH * records_most(lines, lim, mode)
 }
 
 // Refusals 6, 7 and 10, of a text of n bytes.
@@ -148,7 +156,7 @@ pub fn refuse_scan(
     if small_areas(n, bytes, words) {
         return 10;
     }
-    if results < results_need(lines, mode) {
+    if results < results_need(lines, lim, mode) {
         return 10;
     }
     0

@@ -1,5 +1,5 @@
--- Top-down's rounds: what is found from line c on lies in [c, L], so c strictly rises (`contained-in`), and each round is its plain step
--- (`down-step`). Bounds lie in their view (`bounds-in`).
+-- Top-down's rounds: what is found from line c on are bounds not below the threshold (`contained-of`), which lie in [c, L], so c strictly rises
+-- (`contained-in`); each round is its plain step (`down-step`), and what holds round by round holds of all (`down-by`). Bounds lie in their view (`bounds-in`).
 -- Assumes nothing.
 use mathlib.Core.Path.{_≡_, refl, sym, ap, subst}
 use Prim.Native.Nat.{ℕ, zero, suc, _+_, _-_, _≤_, _<_}
@@ -11,7 +11,7 @@ use mathlib.Core.Option.{Option, none, some}
 use lib.ListN.{length, getD}
 use lib.Dec.{ltb}
 use lib.Ieee.{lt}
-use borrow.Author.Tests.{ltb-true, ltb-false}
+use borrow.Author.Tests.{ltb-true, ltb-false, le-ltb}
 use Rattle.rules.specs.declared.Limits.{Limits}
 use Rattle.rules.specs.Search.{View, view, Stored, Made, scoreView, search, best, bounds}
 use Rattle.rules.specs.Scan.{Event, found, Recorded, after, below, steps, viewsOf, Pair, latest, settled, contained, andOn, downOn, downFrom}
@@ -88,6 +88,10 @@ abbrev pub On : {A : Type 0} → (A → Type 0) → Option A → Type 0
 On P none = Unit {0}
 On P (some a) = P a
 
+pub on-both : {A : Type 0} (P Q : A → Type 0) (o : Option A) → On P o → On Q o → On (λ a. P a × Q a) o
+on-both P Q none h k = tt
+on-both P Q (some a) h k = (h, k)
+
 module _ (lim : Limits) (ss : List Stored) (ls : List (List ℕ)) (P : View → Type 0) where
   abbrev Holds : Made (Option Pair) → Type 0
   Holds m = On (λ p. P (p .view)) (m .value)
@@ -111,25 +115,37 @@ module _ (lim : Limits) (ss : List Stored) (ls : List (List ℕ)) (P : View → 
 abbrev pub Reach : ℕ → ℕ → Recorded → Type 0
 Reach c n r = (c ≤ r .range .first) × (r .range .first ≤ r .range .after) × (r .range .after ≤ n)
 
-module _ (lim : Limits) (s : ℕ) (ss : List Stored) (ls : List (List ℕ)) (p : 0 < s) where
-  settled-of : (c n : ℕ) (o : Option Pair) → On (λ q. Inside c n (q .view)) o → On (Reach c n) (settled lim ls o .value)
-  unfolding settled
-  settled-of c n none h = tt
-  settled-of c n (some q) h = at (below lim (bounds ls (q .view) (q .text) .value))
-    where
-      at : (t : Bool) → On (Reach c n) (cond t none (some (record { text = q .text; range = bounds ls (q .view) (q .text) .value })))
-      at true = tt
-      at false = let b = bounds-in ls (q .view) (q .text) (h .1) in (omega arith, b .1, omega arith)
+-- ---- what is settled are the bounds of such a pair, not below the threshold
+module _ (lim : Limits) (ls : List (List ℕ)) (I : Pair → Type 0) (R : Recorded → Type 0) where
+  abbrev pub Settles : Type 0
+  Settles =
+      (q : Pair) → I q → below lim (bounds ls (q .view) (q .text) .value) ≡ false → R (record { text = q .text; range = bounds ls (q .view) (q .text) .value })
 
-  pub contained-of : (c : ℕ) → On (Reach c (length ls)) (contained lim s ss ls c .value)
+  pub settled-of : Settles → (o : Option Pair) → On I o → On R (settled lim ls o .value)
+  unfolding settled
+  settled-of makes none h = tt
+  settled-of makes (some q) h = at (below lim (bounds ls (q .view) (q .text) .value)) refl
+    where
+      at : (t : Bool) → below lim (bounds ls (q .view) (q .text) .value) ≡ t →
+          On R (cond t none (some (record { text = q .text; range = bounds ls (q .view) (q .text) .value })))
+      at true e = tt
+      at false e = makes q h e
+
+module _ (lim : Limits) (s : ℕ) (ss : List Stored) (ls : List (List ℕ)) (p : 0 < s) where
+  pub latest-in : (c : ℕ) → On (λ q. Inside c (length ls) (q .view)) (latest lim ss ls none (viewsOf s (length ls) (steps s c (length ls))) .value)
+  latest-in c = latest-of lim ss ls (Inside c (length ls)) none (viewsOf s (length ls) (steps s c (length ls))) tt (round-inside s c (length ls) p)
+
+  -- in a round, of a view from line c on
+  pub contained-of : (c : ℕ) (R : Recorded → Type 0) → Settles lim ls (λ q. Inside c (length ls) (q .view)) R →
+      (r : Recorded) → contained lim s ss ls c .value ≡ some r → R r
   unfolding contained
-  contained-of c =
-      let vs = viewsOf s (length ls) (steps s c (length ls)) in
-      settled-of c (length ls) (latest lim ss ls none vs .value)
-      (latest-of lim ss ls (Inside c (length ls)) none vs tt (round-inside s c (length ls) p))
+  contained-of c R makes r e =
+      let o = latest lim ss ls none (viewsOf s (length ls) (steps s c (length ls))) .value in
+      subst (On R) e (settled-of lim ls (λ q. Inside c (length ls) (q .view)) R makes o (latest-in c))
 
   pub contained-in : (c : ℕ) (r : Recorded) → contained lim s ss ls c .value ≡ some r → Reach c (length ls) r
-  contained-in c r e = subst (On (Reach c (length ls))) e (contained-of c)
+  contained-in c r e =
+      contained-of c (Reach c (length ls)) (λ q i k. let b = bounds-in ls (q .view) (q .text) (i .1) in (omega (arith, i .0, b .0), b .1, omega (arith, b .2, i .2))) r e
 
   down-falls : (c : ℕ) → Falls (λ i. length ls - i) (downOn lim s ss ls) c
   unfolding downOn andOn
@@ -138,14 +154,47 @@ module _ (lim : Limits) (s : ℕ) (ss : List Stored) (ls : List (List ℕ)) (p :
       m : Made (Option Recorded)
       m = contained lim s ss ls c
 
-      on : (o : Option Recorded) → c < length ls → On (Reach c (length ls)) o → andOn g o ≡ andOn h o
-      on none l k = refl
-      on (some r) l k = ap (λ (es : List Event). found r ∷ es) (e (r .range .after + 1) (omega arith))
+      on : (o : Option Recorded) → m .value ≡ o → c < length ls → andOn g o ≡ andOn h o
+      on none k l = refl
+      on (some r) k l =
+          let reach = contained-in c r k in
+          ap (λ (es : List Event). found r ∷ es) (e (r .range .after + 1) (omega arith))
 
       at : (t : Bool) → ltb c (length ls) ≡ t → downOn lim s ss ls g c ≡ downOn lim s ss ls h c
-      at true q = ap (λ (es : List Event). cond (ltb c (length ls)) (after (m .list) es) []) (on (m .value) (ltb-true c (length ls) q) (contained-of c))
+      at true q = ap (λ (es : List Event). cond (ltb c (length ls)) (after (m .list) es) []) (on (m .value) refl (ltb-true c (length ls) q))
       at false q = simp q
 
   pub down-step : (c : ℕ) → downFrom lim s ss ls c ≡ downOn lim s ss ls (downFrom lim s ss ls) c
   unfolding downFrom
   down-step c = recurse-step (λ i. length ls - i) (λ i. []) (downOn lim s ss ls) down-falls c
+
+  -- ---- what holds behind the last line, and of a round where it holds of what follows it, holds from every line on
+  module _ (Q : ℕ → List Event → Type 0) (past : (c : ℕ) → length ls ≤ c → Q c [])
+      (ends : (c : ℕ) → c < length ls → Q c (after (contained lim s ss ls c .list) []))
+      (goes : (c : ℕ) (r : Recorded) (es : List Event) → c < length ls → contained lim s ss ls c .value ≡ some r → Q (r .range .after + 1) es →
+      Q c (after (contained lim s ss ls c .list) (found r ∷ es))) where
+    behind : (c : ℕ) → length ls ≤ c → Q c (downFrom lim s ss ls c)
+    unfolding downOn
+    behind c h = rw (down-step c) (simp (le-ltb c (length ls) h) (past c h))
+
+    down-to : (k c : ℕ) → length ls - c ≤ k → Q c (downFrom lim s ss ls c)
+    unfolding downOn andOn
+    down-to zero c h = behind c (omega arith)
+    down-to (suc k) c h = at (ltb c (length ls)) refl (down-to k)
+      where
+        m : Made (Option Recorded)
+        m = contained lim s ss ls c
+
+        on : (o : Option Recorded) → m .value ≡ o → c < length ls → ((d : ℕ) → length ls - d ≤ k → Q d (downFrom lim s ss ls d)) →
+            Q c (after (m .list) (andOn (downFrom lim s ss ls) o))
+        on none e l go = ends c l
+        on (some r) e l go =
+            let reach = contained-in c r e in
+            goes c r (downFrom lim s ss ls (r .range .after + 1)) l e (go (r .range .after + 1) (omega arith))
+
+        at : (t : Bool) → ltb c (length ls) ≡ t → ((d : ℕ) → length ls - d ≤ k → Q d (downFrom lim s ss ls d)) → Q c (downFrom lim s ss ls c)
+        at true q go = rw (down-step c) (simp q (on (m .value) refl (ltb-true c (length ls) q) go))
+        at false q go = behind c (ltb-false c (length ls) q)
+
+    pub down-by : (c : ℕ) → Q c (downFrom lim s ss ls c)
+    down-by c = down-to (length ls - c) c (omega arith)

@@ -4,6 +4,7 @@ pub mod BothCases
 pub mod EditionCases
 pub mod AccentCases
 pub mod PlaceCases
+pub mod BesideCases
 pub mod ClassLaws
 pub mod BoolLaws
 pub mod PointLaws
@@ -26,6 +27,7 @@ pub mod TableLaws
 pub mod PrefixLaws
 pub mod CountLaws
 pub mod BudgetLaws
+pub mod BesideLaws
 pub mod ScanCountLaws
 pub mod ShelfLaws
 pub mod RefusalLaws

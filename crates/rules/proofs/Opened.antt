@@ -11,7 +11,7 @@ use Rattle.rules.specs.Search.{whole, viewed, blank, noText, scored, sco
 use Rattle.rules.specs.Scan.{after, names, stops, below, eachPass, elimination, stepsOn, steps, viewsOf, latest, settled, contained, andOn, downOn, downFrom, topDown, events, afford, scorings, records, verdict, six, numbers}
 use Rattle.rules.specs.Count.{enough, roundsOn, rounds, mostFor, mostElimination, mostTopDown}
 use Rattle.rules.specs.Book.{number, written, front, also, goOn, pieces, recordOf, recordsOf, placed, recordAt, nextPlace, entryOf, entriesOf, sum, term, twoTerms, allTerms, soundEntries, shaped, soundTable, soundName, storedKind, soundEdition, soundBody, follows, soundRecords, tableIn, storedIn, storedOf, storedFrom, stored, saidBy, saidAt, edition, shelved, allSound, editionOf, allOf, differ, namesIn, namesOf, nameParts, filled, sound, entriesOut, tableOut, compiled}
-use Rattle.rules.specs.Refusal.{refusal, ofText, ofBooks, small, ofCheck, beforeCompile, ofCompile, ofView, ofName, unit, stepZero, resultsNeed, overBudget, beforeScan, ofScan}
+use Rattle.rules.specs.Refusal.{refusal, ofText, ofBooks, small, ofCheck, beforeCompile, ofCompile, ofView, ofName, unit, stepZero, recordsMost, resultsNeed, overBudget, beforeScan, ofScan}
 use Rattle.rules.specs.Jobs.{areaAfter, over, check, compile, outputAfter, scoreJob, boundsFound, boundsJob, happened, named, namePart, answered, scan, resultsAfter, numbered, nameJob}
 use lib.Ieee.{div, ofInt, ofBits, toBits, lt, le}
 
@@ -28,7 +28,7 @@ unfolding
     after names stops below eachPass elimination stepsOn steps viewsOf latest settled contained andOn downOn downFrom topDown events afford scorings records verdict six numbers
     enough roundsOn rounds mostFor mostElimination mostTopDown
     number written front also goOn pieces recordOf recordsOf placed recordAt nextPlace entryOf entriesOf sum term twoTerms allTerms soundEntries shaped soundTable soundName storedKind soundEdition soundBody follows soundRecords tableIn storedIn storedOf storedFrom stored saidBy saidAt edition shelved allSound editionOf allOf differ namesIn namesOf nameParts filled sound entriesOut tableOut compiled
-    refusal ofText ofBooks small ofCheck beforeCompile ofCompile ofView ofName unit stepZero resultsNeed overBudget beforeScan ofScan
+    refusal ofText ofBooks small ofCheck beforeCompile ofCompile ofView ofName unit stepZero recordsMost resultsNeed overBudget beforeScan ofScan
     areaAfter over check compile outputAfter scoreJob boundsFound boundsJob happened named namePart answered scan resultsAfter numbered nameJob
     div ofInt ofBits toBits lt le
 opened = tt

@@ -13,7 +13,7 @@ use Rattle.rules.specs.Lines.{lineStart, lineEnd, rangeEnd}
 use Rattle.rules.specs.Book.{written}
 use Rattle.rules.specs.Jobs.{scan, resultsAfter}
 use Rattle.rules.proofs.Opened.{opened}
-use Rattle.rules.proofs.Cases.{bodyA, bookA, second, note, rec, body, entry, with, slim, room, limits}
+use Rattle.rules.proofs.Cases.{bodyA, bookA, note, rec, body, entry, with, slim, room, limits}
 
 -- ---- the lines of a text: three of bytes, one of them with a carriage return, and an empty one behind the last newline
 mixed : List ℕ
@@ -88,7 +88,7 @@ pub ranges-hold :
     (0 ∷ 0 ∷ 1 ∷ 2 ∷ 0x3f800000 ∷ 2 ∷ 5 ∷ 0 ∷ 0 ∷ 3 ∷ 0x3f800000 ∷ 0 ∷ 7 ∷ []) ∷
     (0 ∷ (0 ∷ 0 ∷ 1 ∷ 0x3f800000 ∷ 0 ∷ 3 ∷ 0 ∷ 2 ∷ 4 ∷ 0x3f800000 ∷ 6 ∷ 10 ∷ []) ++ replicate 18 7) ∷
     []
-unfolding ranges-got wideA scanned once lowest slim with body entry rec note second bookA bodyA room limits opened
+unfolding ranges-got wideA scanned once lowest slim with body entry rec note bookA bodyA room limits opened
 ranges-hold = refl
 
 pub empty-got : List (List ℕ)
@@ -100,9 +100,8 @@ empty-got =
     lowest (text "x\ny\n") ∷
     -- and before L, where line 6 starts, not where line 5 ends
     scanned (text "my first\n\n\n\nMy First License\n\nmy first") (bookA ∷ []) 0 (Elimination true 2) 12 ∷
-    -- results of 6 for each pass, and for each line
+    -- results of 6 for each pass
     scanned note (bookA ∷ []) 0x3f19999a (Elimination true 1) 5 ∷
-    scanned second (bookA ∷ []) 0x3f666666 (TopDown 1) 23 ∷
     []
 
 pub empty-hold :
@@ -113,7 +112,6 @@ pub empty-hold :
     (0 ∷ 0 ∷ 3 ∷ 3 ∷ 0 ∷ 4 ∷ 4 ∷ []) ∷
     (0 ∷ 0 ∷ 4 ∷ 6 ∷ 0x3f800000 ∷ 12 ∷ 29 ∷ 0 ∷ 6 ∷ 6 ∷ 0 ∷ 30 ∷ 30 ∷ []) ∷
     (10 ∷ replicate 5 7) ∷
-    (10 ∷ replicate 23 7) ∷
     []
-unfolding empty-got wideA scanned once lowest slim with body entry rec note second bookA bodyA room limits opened
+unfolding empty-got wideA scanned once lowest slim with body entry rec note bookA bodyA room limits opened
 empty-hold = refl

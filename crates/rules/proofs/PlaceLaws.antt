@@ -6,6 +6,7 @@
 --     start-past                               the lines behind a line, from its end on
 --     start-rises, start-next, start-last      places rise; a line starts behind the newline of the one before; from L on it is the text's end
 --     range-order                              a range ends where it starts, or behind
+--     ranges-apart                             with a line between two ranges at least two bytes stand between them
 --     places-cut                               of a range that is not empty the bytes between its places, split at newlines, are the text's lines in it,
 --     places-lines                             and so what the passes make of them is what they make of these lines
 --     lead-most                                what leads a list is no longer than it
@@ -318,3 +319,14 @@ start-last (suc k) (x ∷ xs) h = at (newline x) refl (start-last k xs) (start-l
         lineStart (suc k) (x ∷ xs) ≡ suc (length xs)
     at true q g f = start-newline k x xs q ∙ ap suc (g (omega (arith, count-newline x xs q)))
     at false q g f = start-other k x xs q ∙ ap suc (f (omega (arith, count-other x xs q)))
+
+-- ---- two ranges with a line between them: its newline and the one before it stand between their bytes
+pub ranges-apart : (first after next : ℕ) (t : List ℕ) → first < after → after < next → next < lineCount t → rangeEnd first after t + 2 ≤ lineStart next t
+unfolding rangeEnd lineEnd
+ranges-apart first after next t order apart there =
+    let last = after - 1 in
+    let more : suc last ≡ after = omega (arith, order) in
+    let ends = ap (λ (q : Bool). cond q (lineStart first t) (lineEnd last t)) (ne-eqb first after (λ e. omega (arith, order, e))) in
+    let one = start-next last t (omega (arith, more, apart, there)) in
+    let two = start-next after t (omega (arith, apart, there)) in
+    omega (arith, ends, one, ap (λ (n : ℕ). lineStart n t) more, two, start-rises (suc after) next t apart)

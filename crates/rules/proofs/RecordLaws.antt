@@ -1,14 +1,15 @@
 -- What a scan records: what holds of the bounds of any view of so many lines against any text of a kind, of which there is one, and of which every
--- stored text is, holds of each record (`happened-recorded`). So each range lies in the note's lines (`happened-within`).
+-- stored text is, holds of each record (`happened-recorded`). So each range lies in the note's lines (`happened-within`). With a threshold above 0.0
+-- top-down's lie side by side (`happened-beside`).
 -- Assumes nothing.
-use mathlib.Core.Path.{_≡_, refl, sym, _∙_, subst}
+use mathlib.Core.Path.{_≡_, refl, sym, ap, _∙_, subst}
 use mathlib.Core.Bool.{Bool, true, false, not, _||_, cond}
 use mathlib.Core.List.{List, [], _∷_, _++_}
 use mathlib.Core.Option.{Option, none, some}
 use Prim.Native.Nat.{ℕ, zero, suc, _+_, _-_, _<_}
 use native.Mathlib.Nat.{not-suc-le-zero}
 use native.Mathlib.Omega.{arith}
-use lib.Dec.{ltb, eqb}
+use lib.Dec.{eqb}
 use lib.ListN.{length}
 use lib.Ieee.{lt}
 use borrow.Author.Tests.{eqb-false}
@@ -16,16 +17,18 @@ use Rattle.rules.specs.declared.Limits.{Limits}
 use Rattle.rules.specs.declared.Mode.{Mode}
 use Rattle.rules.specs.declared.Mode.the-variants.{Elimination, TopDown}
 use Rattle.rules.specs.Lines.{lines, lineCount}
-use Rattle.rules.specs.Table.{viewTable}
-use Rattle.rules.specs.Search.{View, view, whole, viewed, blank, Stored, noText, Made, recurse, turns, scored, Best, noBest, better, bestFrom, best, bounds}
-use Rattle.rules.specs.Scan.{Event, overall, found, Recorded, after, afford, stops, below, eachPass, elimination, steps, viewsOf, Pair, latest, settled, contained, andOn, downOn, downFrom, topDown, events, records}
+use Rattle.rules.specs.Table.{viewTable, nought}
+use Rattle.rules.specs.Search.{View, view, whole, viewed, blank, Stored, noText, scored, Best, noBest, better, bestFrom, best, bounds}
+use Rattle.rules.specs.Scan.{Event, overall, found, Recorded, after, afford, stops, below, eachPass, elimination, steps, viewsOf, Pair, latest, contained, topDown, events, records}
+use Rattle.rules.specs.Beside.{Beside}
 use Rattle.rules.specs.Book.{shelved, editionOf}
 use Rattle.rules.specs.Refusal.{refusal, Areas, stepZero, ofScan}
 use Rattle.rules.specs.Jobs.{happened}
 use Rattle.rules.proofs.BoolLaws.{cond-of}
-use Rattle.rules.proofs.DownLaws.{Each, On, Inside, Reach, round-inside, bounds-in, latest-of}
+use Rattle.rules.proofs.DownLaws.{Each, On, on-both, Inside, Reach, bounds-in, latest-in, settled-of, down-by}
 use Rattle.rules.proofs.RankLaws.{entered, best-one}
 use Rattle.rules.proofs.BudgetLaws.{records-after, records-begins}
+use Rattle.rules.proofs.BesideLaws.{topDown-beside, afford-beside}
 use Rattle.rules.proofs.ScanCountLaws.{blank-length}
 use Rattle.rules.proofs.RefusalLaws.{lines-count}
 
@@ -84,51 +87,34 @@ module _ (P : Stored → Type 0) (n : ℕ) (R : Recorded → Type 0) (makes : Ma
         cond-of (λ m. Paired (m .value)) (lt (b .value .score) (lim .threshold)) (record { list = []; value = some p }) (latest lim ss ls (some q) vs)
         k (latest-held (some q) vs (best-held P ss one h ls v))
 
-    settled-hold : (c : ℕ) (o : Option Pair) → On (λ q. Inside c (length ls) (q .view)) o → Paired o → On R (settled lim ls o .value)
-    unfolding settled
-    settled-hold c none i k = tt
-    settled-hold c (some q) i k = at (below lim (bounds ls (q .view) (q .text) .value))
+    round-hold : (c : ℕ) → On R (contained lim s ss ls c .value)
+    unfolding contained
+    round-hold c =
+        let vs = viewsOf s (length ls) (steps s c (length ls)) in
+        let o = latest lim ss ls none vs .value in
+        let inside : Pair → Type 0 = λ q. Inside c (length ls) (q .view) in
+        let held : Pair → Type 0 = λ q. P (q .text) in
+        settled-of lim ls (λ q. inside q × held q) R
+        (λ q i k. makes ls (q .view) (q .text) e (omega arith, i .0 .1, omega (arith, i .0 .2, e)) (i .1)) o
+        (on-both inside held o (latest-in lim s ss ls step c) (latest-held none vs tt))
+
+    down-hold : Holds (topDown lim s ss ls)
+    unfolding topDown records
+    down-hold = down-by lim s ss ls step (λ c es. Holds es) (λ c h. tt) (λ c h. simp records-after tt) goes 0
       where
-        at : (t : Bool) → On R (cond t none (some (record { text = q .text; range = bounds ls (q .view) (q .text) .value })))
-        at true = tt
-        at false = makes ls (q .view) (q .text) e (omega arith, i .1, omega (arith, i .2, e)) k
-
-    down-hold : (m c : ℕ) → Holds (turns m (λ i. []) (downOn lim s ss ls) c)
-    unfolding turns records downOn andOn contained
-    down-hold zero c = tt
-    down-hold (suc m) c = at (ltb c (length ls)) (λ d. down-hold m d)
-      where
-        vs : List View
-        vs = viewsOf s (length ls) (steps s c (length ls))
-
-        made : Made (Option Recorded)
-        made = contained lim s ss ls c
-
-        go : ℕ → List Event
-        go d = turns m (λ i. []) (downOn lim s ss ls) d
-
-        on : (o : Option Recorded) → On R o → ((d : ℕ) → Holds (go d)) → Holds (andOn (λ d. go d) o)
-        on none k f = tt
-        on (some r) k f = (k, f (r .range .after + 1))
-
-        round : On R (made .value)
-        round =
-            settled-hold c (latest lim ss ls none vs .value) (latest-of lim ss ls (Inside c (length ls)) none vs tt (round-inside s c (length ls) step))
-            (latest-held none vs tt)
-
-        at : (t : Bool) → ((d : ℕ) → Holds (go d)) → Holds (cond t (after (made .list) (andOn (λ d. go d) (made .value))) [])
-        at true f = subst (Each R) (sym (records-after (made .list) (andOn (λ d. go d) (made .value)))) (on (made .value) round f)
-        at false f = tt
+        goes : (c : ℕ) (r : Recorded) (es : List Event) → c < length ls → contained lim s ss ls c .value ≡ some r → Holds es →
+            Holds (after (contained lim s ss ls c .list) (found r ∷ es))
+        goes c r es h q more = simp records-after (subst (On R) q (round-hold c), more)
 
   events-hold : (mode : Mode) → stepZero mode ≡ false → (ls : List (List ℕ)) → length ls ≡ n → Holds (events lim mode ss ls)
-  unfolding events elimination records topDown downFrom recurse stepZero
+  unfolding events elimination records stepZero
   events-hold (Elimination optimize p) z ls e =
       let m = best ss ls (whole ls) in
       let more = eachPass lim ss p ls (m .value) in
       let on = cond (stops lim (m .value) || not optimize) [] more in
       subst (Each R) (sym (records-after (m .list) (overall (m .value) ∷ on)))
       (cond-of Holds (stops lim (m .value) || not optimize) [] more tt (passes-hold p ls (m .value) e (best-held P ss one h ls (whole ls))))
-  events-hold (TopDown s) z ls e = down-hold s (omega (arith, eqb-false s 0 z)) ls e (suc (length ls - 0)) 0
+  events-hold (TopDown s) z ls e = down-hold s (omega (arith, eqb-false s 0 z)) ls e
 
 module _ (t : List ℕ) (bs : List (List ℕ)) (lim : Limits) (mode : Mode) (b : ℕ) (a : Areas) (results : ℕ) where
   abbrev result : ℕ
@@ -158,3 +144,22 @@ module _ (t : List ℕ) (bs : List (List ℕ)) (lim : Limits) (mode : Mode) (b :
   happened-within begun =
       happened-recorded (λ s. Unit {0}) (Reach 0 (lineCount t))
       (λ ls v s e i k. let x = bounds-in ls v s (i .1) in (omega arith, x .1, omega (arith, x .2, i .2))) begun
+
+  -- top-down's lie side by side where the threshold is above 0.0
+  pub happened-beside : (s : ℕ) → mode ≡ TopDown s → lt nought (lim .threshold) ≡ true → (eqb result 0 || eqb result 12 ≡ true → stepZero mode ≡ false) →
+      Beside 0 (lineCount t) (records (happened t bs lim mode b a results))
+  unfolding happened records events stepZero Beside
+  happened-beside s down above begun = at (eqb result 0 || eqb result 12) begun
+    where
+      ls : List (List ℕ)
+      ls = lines (editionOf bs) t
+
+      ss : List Stored
+      ss = shelved 0 bs
+
+      at : (q : Bool) → (q ≡ true → stepZero mode ≡ false) → Beside 0 (lineCount t) (records (cond q (afford b (events lim mode ss ls)) []))
+      at true k =
+          let step : 0 < s = omega (arith, eqb-false s 0 (sym (ap stepZero down) ∙ k refl)) in
+          afford-beside b 0 (lineCount t) (events lim mode ss ls)
+          (rw down (subst (λ (n : ℕ). Beside 0 n (records (topDown lim s ss ls))) (lines-count (editionOf bs) t) (topDown-beside lim above s ss ls step)))
+      at false k = tt

@@ -1,9 +1,9 @@
 -- The limits on what a scan does: its scorings (`elimination-count`, `topDown-count`), which fit 64 bits (`elimination-fits`, `topDown-fits`),
--- and its records (`elimination-records`, `topDown-records`), which fit the results area whatever the budget (`results-fit`).
+-- and its records (`elimination-records`, `topDown-records`, above 0.0 `topDown-few`), which fit the results area whatever the budget (`results-fit`).
 -- Assumes nothing.
 use mathlib.Core.Path.{_≡_, refl, ap, _∙_}
 use Prim.Native.Nat.{ℕ, zero, suc, _+_, _-_, _*_, _/_, _^_, _≤_, _<_, zero-le}
-use native.Mathlib.Nat.{mul-le-mul-left, mul-le-mul, lt-div-mul-add, div-le-self}
+use native.Mathlib.Nat.{not-suc-le-zero, mul-le-mul-left, mul-le-mul, lt-div-mul-add, div-le-self}
 use native.Mathlib.Omega.{arith}
 use mathlib.Core.Bool.{Bool, true, false, not, _||_, cond}
 use mathlib.Core.List.{List, [], _∷_}
@@ -11,19 +11,21 @@ use mathlib.Core.Option.{Option, none, some}
 use lib.ListN.{length, length-append, length-map}
 use lib.Dec.{ltb}
 use lib.Ieee.{lt}
-use borrow.Author.Tests.{eqb-false, ltb-true, ltb-false, le-ltb}
+use borrow.Author.Tests.{eqb-false, ltb-true, ltb-false}
 use Rattle.rules.specs.declared.Limits.{Limits}
 use Rattle.rules.specs.declared.Mode.{Mode}
 use Rattle.rules.specs.declared.Mode.the-variants.{Elimination, TopDown}
 use Rattle.rules.specs.Sizes.{storedMost, linesMost, recordWidth}
+use Rattle.rules.specs.Table.{nought}
 use Rattle.rules.specs.Search.{View, view, whole, blank, Stored, Scoring, done, Best, best, bounds}
-use Rattle.rules.specs.Scan.{Event, overall, found, Recorded, after, stops, below, eachPass, elimination, steps, viewsOf, Pair, latest, settled, contained, andOn, downOn, downFrom, topDown, events, afford, scorings, records, six, numbers}
+use Rattle.rules.specs.Scan.{Event, overall, found, Recorded, after, stops, below, eachPass, elimination, steps, viewsOf, Pair, latest, settled, contained, downFrom, topDown, events, afford, scorings, records, six, numbers}
 use Rattle.rules.specs.Count.{mostFor, mostElimination, mostTopDown}
-use Rattle.rules.specs.Refusal.{stepZero, resultsNeed}
+use Rattle.rules.specs.Refusal.{stepZero, recordsMost, resultsNeed}
 use Rattle.rules.proofs.BoolLaws.{cond-of}
 use Rattle.rules.proofs.Steps.{steps-more, steps-end}
 use Rattle.rules.proofs.CountLaws.{rounds-least, best-count, bounds-count}
-use Rattle.rules.proofs.DownLaws.{Inside, On, Reach, round-inside, latest-of, contained-of, down-step}
+use Rattle.rules.proofs.DownLaws.{Inside, On, latest-in, contained-in, down-by}
+use Rattle.rules.proofs.BesideLaws.{topDown-few}
 use Rattle.rules.proofs.BudgetLaws.{scorings-after, records-after, afford-all, records-more}
 
 -- at most so many scorings, and so many records
@@ -167,46 +169,43 @@ module _ (lim : Limits) (s : ℕ) (ss : List Stored) (ls : List (List ℕ)) (p :
       let n = length ls in
       let vs = viewsOf s n (steps s c n) in
       let l = latest-count lim ss ls none vs in
-      let i = latest-of lim ss ls (Inside c n) none vs tt (round-inside s c n p) in
-      let r = settled-count lim ss ls c n (latest lim ss ls none vs .value) i in
+      let r = settled-count lim ss ls c n (latest lim ss ls none vs .value) (latest-in lim s ss ls p c) in
       simp length-append (omega (arith, mul-le-mul-left (length ss) (round-count s n p c)))
 
-  -- nothing from the last line on
-  past : (n m c : ℕ) → length ls ≤ c → Within n m (downFrom lim s ss ls c)
-  unfolding downOn
-  past n m c h = rw (down-step lim s ss ls p c) (simp (le-ltb c (length ls) h) (none-within n m))
+  round-within : (c k : ℕ) (es : List Event) → Within (k * mostRound) (suc k) es →
+      Within (suc k * mostRound) (suc k) (after (contained lim s ss ls c .list) es)
+  round-within c k es w =
+      let x = after-within (contained lim s ss ls c .list) es mostRound (k * mostRound) (suc k) (contained-count c) w in
+      (omega (arith, x .0), x .1)
 
   -- where k lines are left
-  abbrev Left : ℕ → Type 0
-  Left k = (c : ℕ) → length ls - c ≤ k → Within (k * mostRound) k (downFrom lim s ss ls c)
+  abbrev Left : ℕ → List Event → Type 0
+  Left c es = (k : ℕ) → length ls - c ≤ k → Within (k * mostRound) k es
 
-  down-within : (k : ℕ) → Left k
-  unfolding downOn andOn
-  down-within zero c h = past (0 * mostRound) 0 c (omega arith)
-  down-within (suc k) c h = at (ltb c (length ls)) refl (down-within k)
+  down-within : (c : ℕ) → Left c (downFrom lim s ss ls c)
+  down-within c = down-by lim s ss ls p Left past ends goes c
     where
-      on : (o : Option Recorded) → c < length ls → On (Reach c (length ls)) o → Left k →
-          Within (k * mostRound) (suc k) (andOn (downFrom lim s ss ls) o)
-      on none l r go = none-within (k * mostRound) (suc k)
-      on (some r) l q go =
-          found-within r (downFrom lim s ss ls (r .range .after + 1)) (k * mostRound) k (go (r .range .after + 1) (omega arith))
+      past : (c : ℕ) → length ls ≤ c → Left c []
+      past c h k l = none-within (k * mostRound) k
 
-      at : (t : Bool) → ltb c (length ls) ≡ t → Left k → Within (suc k * mostRound) (suc k) (downFrom lim s ss ls c)
-      at true q go =
-          let m = contained lim s ss ls c in
-          let es = andOn (downFrom lim s ss ls) (m .value) in
-          let o = on (m .value) (ltb-true c (length ls) q) (contained-of lim s ss ls p c) go in
-          let w = after-within (m .list) es mostRound (k * mostRound) (suc k) (contained-count c) o in
-          rw (down-step lim s ss ls p c) (simp q (omega arith, w .1))
-      at false q go = past (suc k * mostRound) (suc k) c (ltb-false c (length ls) q)
+      ends : (c : ℕ) → c < length ls → Left c (after (contained lim s ss ls c .list) [])
+      ends c h zero l = absurd (not-suc-le-zero {n = c} (omega (arith, h, l)))
+      ends c h (suc k) l = round-within c k [] (none-within (k * mostRound) (suc k))
+
+      goes : (c : ℕ) (r : Recorded) (es : List Event) → c < length ls → contained lim s ss ls c .value ≡ some r → Left (r .range .after + 1) es →
+          Left c (after (contained lim s ss ls c .list) (found r ∷ es))
+      goes c r es h e go zero l = absurd (not-suc-le-zero {n = c} (omega (arith, h, l)))
+      goes c r es h e go (suc k) l =
+          let reach = contained-in lim s ss ls p c r e in
+          round-within c k (found r ∷ es) (found-within r es (k * mostRound) k (go k (omega arith)))
 
   pub topDown-count : length (scorings (topDown lim s ss ls)) ≤ mostTopDown (length ss) s (length ls)
   unfolding topDown mostTopDown
-  topDown-count = down-within (length ls) 0 (omega arith) .0
+  topDown-count = down-within 0 (length ls) (omega arith) .0
 
   pub topDown-records : length (records (topDown lim s ss ls)) ≤ length ls
   unfolding topDown
-  topDown-records = down-within (length ls) 0 (omega arith) .1
+  topDown-records = down-within 0 (length ls) (omega arith) .1
 
 -- ---- both limits, at the most that a scan of two books is given, fit 64 bits
 most-fits : (n : ℕ) → n ≤ linesMost → mostFor n ≤ 52
@@ -245,15 +244,19 @@ afford-records b es =
     let e = ap (λ (fs : List Event). length (records fs)) (afford-all all es (omega arith)) in
     omega (arith, simp length-append at (ap length (m .is)))
 
-all-fit : (lim : Limits) (mode : Mode) (ss : List Stored) (ls : List (List ℕ)) → stepZero mode ≡ false →
-    recordWidth * length (records (events lim mode ss ls)) ≤ resultsNeed (length ls) mode
-unfolding events stepZero resultsNeed
-all-fit lim (Elimination true p) ss ls h = mul-le-mul-left recordWidth (elimination-records lim true p ss ls)
-all-fit lim (Elimination false p) ss ls h = mul-le-mul-left recordWidth (elimination-records lim false p ss ls)
-all-fit lim (TopDown s) ss ls h = mul-le-mul-left recordWidth (topDown-records lim s ss ls (omega (arith, eqb-false s 0 h)))
+few-records : (lim : Limits) (mode : Mode) (ss : List Stored) (ls : List (List ℕ)) → stepZero mode ≡ false →
+    length (records (events lim mode ss ls)) ≤ recordsMost (length ls) lim mode
+unfolding events stepZero recordsMost
+few-records lim (Elimination optimize p) ss ls h = elimination-records lim optimize p ss ls
+few-records lim (TopDown s) ss ls h = at (lt nought (lim .threshold)) refl (omega (arith, eqb-false s 0 h))
+  where
+    at : (t : Bool) → lt nought (lim .threshold) ≡ t → 0 < s → length (records (topDown lim s ss ls)) ≤ cond t ((length ls + 1) / 2) (length ls)
+    at true above p = topDown-few lim above s ss ls p
+    at false q p = topDown-records lim s ss ls p
 
 pub results-fit : (t : List ℕ) (lim : Limits) (mode : Mode) (ss : List Stored) (ls : List (List ℕ)) (b : ℕ) → stepZero mode ≡ false →
-    length (numbers t (records (afford b (events lim mode ss ls)))) ≤ resultsNeed (length ls) mode
+    length (numbers t (records (afford b (events lim mode ss ls)))) ≤ resultsNeed (length ls) lim mode
+unfolding resultsNeed
 results-fit t lim mode ss ls b h =
     let es = events lim mode ss ls in
-    omega (arith, numbers-length t (records (afford b es)), afford-records b es, all-fit lim mode ss ls h)
+    omega (arith, numbers-length t (records (afford b es)), afford-records b es, few-records lim mode ss ls h)

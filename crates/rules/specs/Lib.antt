@@ -9,6 +9,7 @@ pub mod Passes
 pub mod Table
 pub mod Search
 pub mod Scan
+pub mod Beside
 pub mod Count
 pub mod Book
 pub mod Refusal

@@ -1,11 +1,11 @@
 -- What is refused, first that applies: one ordered list for each public job.
 -- Assumes nothing.
-use Prim.Native.Nat.{ℕ, _*_}
+use Prim.Native.Nat.{ℕ, _+_, _*_, _/_}
 use mathlib.Core.Bool.{Bool, false, not, _&&_, _||_, cond}
 use mathlib.Core.List.{List, [], _∷_, _++_}
 use lib.Dec.{leb, ltb, eqb}
 use lib.ListN.{length}
-use lib.Ieee.{Float, le}
+use lib.Ieee.{Float, lt, le}
 use Rattle.rules.specs.declared.Limits.{Limits}
 use Rattle.rules.specs.declared.Mode.{Mode}
 use Rattle.rules.specs.declared.Mode.the-variants.{Elimination, TopDown}
@@ -92,10 +92,14 @@ unfoldable pub stepZero : Mode → Bool
 stepZero (Elimination optimize p) = false
 stepZero (TopDown s) = eqb s 0
 
--- the results area that a scan of L lines needs
-unfoldable pub resultsNeed : ℕ → Mode → ℕ
-resultsNeed l (Elimination optimize p) = cond optimize (recordWidth * p) 0
-resultsNeed l (TopDown s) = recordWidth * l
+-- the most records of a scan of L lines: one a pass, if it optimizes; in top-down one a line, but above 0.0 they leave a line between (`topDown-beside`)
+unfoldable pub recordsMost : ℕ → Limits → Mode → ℕ
+recordsMost l lim (Elimination optimize p) = cond optimize p 0
+recordsMost l lim (TopDown s) = cond (lt nought (lim .threshold)) ((l + 1) / 2) l
+
+-- the results area that it needs
+unfoldable pub resultsNeed : ℕ → Limits → Mode → ℕ
+resultsNeed l lim mode = recordWidth * recordsMost l lim mode
 
 unfoldable pub overBudget : ℕ → Limits → Mode → List ℕ → List (List ℕ) → Bool
 overBudget b lim mode t bs = ltb b (length (scorings (events lim mode (shelved 0 bs) (lines (editionOf bs) t))))
@@ -106,7 +110,7 @@ beforeScan t bs lim mode a results =
     ofText (editionOf bs) t ++ ofBooks bs ++
     row 6 (not (unit (lim .threshold) && unit (lim .shallow))) ∷
     row 7 (stepZero mode) ∷
-    row 10 (small t a || ltb results (resultsNeed (lineCount t) mode)) ∷ []
+    row 10 (small t a || ltb results (resultsNeed (lineCount t) lim mode)) ∷ []
 
 -- with a budget of b scorings
 unfoldable pub ofScan : List ℕ → List (List ℕ) → Limits → Mode → ℕ → Areas → ℕ → List Row

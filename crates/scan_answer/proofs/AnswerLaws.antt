@@ -100,7 +100,7 @@ module _ (t : List ℕ) (books : Shelf) (lim : Limits) (mode : Mode) (budget : �
       length (paidNumbers t (left .count) (events lim mode (texts books) ls)) ≤ length r₀
   unfolding paidNumbers
   scan-room left made ls e =
-      rw (made, e) (omega (arith, results-fit t lim mode (texts books) (lines (edition (books .first)) t) budget (passed .step), passed .room, ap (λ (n : ℕ). resultsNeed n mode) (lines-count (edition (books .first)) t)))
+      rw (made, e) (omega (arith, results-fit t lim mode (texts books) (lines (edition (books .first)) t) budget (passed .step), passed .room, ap (λ (n : ℕ). resultsNeed n lim mode) (lines-count (edition (books .first)) t)))
 
 module _ (t : List ℕ) (books : Shelf) (lim : Limits) (mode : Mode) (budget : ℕ) (r₀ r : List ℕ) (x : Outcome) (h : Eliminated t (full t books lim mode) budget books r₀ r x) where
   abbrev es : List Event
