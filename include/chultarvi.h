@@ -63,10 +63,11 @@ extern "C" {
 #endif
 
 /* 0.6.0: three answers have grown by m and t, so callers compile anew. 0.6.1: on equal scores a text's kind decides before its place. 0.7.0: a record has
-   six numbers, so results grow; callers compile anew. */
-#define CHULTARVI_VERSION "0.7.0"
+   six numbers, so results grow; callers compile anew. 0.8.0: chultarvi_top_down_results takes the threshold too, so callers compile anew; above 0.0
+   top-down needs half the results. */
+#define CHULTARVI_VERSION "0.8.0"
 #define CHULTARVI_VERSION_MAJOR 0
-#define CHULTARVI_VERSION_MINOR 7
+#define CHULTARVI_VERSION_MINOR 8
 #define CHULTARVI_VERSION_PATCH 0
 
 #define CHULTARVI_TEXT_MOST 1048576u   /* bytes of a text */
@@ -147,12 +148,16 @@ static inline const char *chultarvi_refusal_text(uint32_t refusal)
 
 /* How much to lend, in elements. `area` and `words`, for a text of n bytes; areas for CHULTARVI_TEXT_MOST serve every text, since a longer one is
    refused by its length. `out`, for the table of a text of n bytes: more is never needed (proved: compiled-fits, crates/compile/proofs). `results`,
-   for elimination by its passes (none without optimize), for top-down by the text's lines. */
+   for elimination by its passes (none without optimize), for top-down by the text's lines: with a threshold above 0.0 a record for every second line, the
+   first among them, since its ranges lie apart (see chultarvi_top_down); at 0.0 and -0.0 one for each line. Results for 0.0 serve every threshold. */
 static inline size_t chultarvi_area_bytes(size_t n) { return 8 * n + 64; }
 static inline size_t chultarvi_area_words(size_t n) { return 12 * n + 64; }
 static inline size_t chultarvi_table_bytes(size_t n) { return 24 * n + 64; }
 static inline size_t chultarvi_elimination_results(bool optimize, uint16_t passes) { return optimize ? CHULTARVI_RECORD_WIDTH * (size_t)passes : 0; }
-static inline size_t chultarvi_top_down_results(size_t lines) { return CHULTARVI_RECORD_WIDTH * lines; }
+static inline size_t chultarvi_top_down_results(float threshold, size_t lines)
+{
+    return CHULTARVI_RECORD_WIDTH * (threshold > 0.0f ? lines / 2 + lines % 2 : lines);
+}
 
 /* Is the book sound? texts: N, the number of its stored texts. An empty book is sound, and so is the record of an edition alone; N is 0. Refusal 4.
    The other calls check the book themselves. */
@@ -228,7 +233,10 @@ chultarvi_note_scanned chultarvi_eliminate(const uint8_t *text, size_t text_len,
                                            size_t words_len, uint32_t *results, size_t results_len);
 
 /* Top-down: from the first line on, views that grow by `step` lines until a score reaches the threshold and falls below it again; the range found in
-   such a view is recorded, and the search goes on one line after its end. `shallow` is tested as in elimination (6) and else not used. */
+   such a view is recorded, and the search goes on one line after its end. `shallow` is tested as in elimination (6) and else not used.
+   With a threshold above 0.0 the ranges are not empty, rise, and have at least one line between one and the next; so they are at most (lines + 1) / 2,
+   rounded down. That holds with every step and budget (proved: topDown-beside, crates/rules/proofs; at the face: ranges-beside, crates/scan_job/proofs), so a
+   viewer may draw them side by side as they come, with no test for overlaps. At 0.0 and -0.0 it does not hold, nor of elimination. */
 chultarvi_note_scanned chultarvi_top_down(const uint8_t *text, size_t text_len, const uint8_t *book, size_t book_len, float threshold, float shallow,
                                           uint64_t step, uint64_t budget, uint8_t *area, size_t area_len, uint32_t *words, size_t words_len,
                                           uint32_t *results, size_t results_len);

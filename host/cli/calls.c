@@ -26,7 +26,7 @@ static size_t count_lines(part text) {
 
 static chultarvi_note_scanned top_down(const worker *w, part text, const part books[2]) {
     const settings *s = &w->from->with;
-    size_t results = chultarvi_top_down_results(count_lines(text));
+    size_t results = chultarvi_top_down_results(s->threshold, count_lines(text));
     if (!s->beside) return chultarvi_top_down(TEXT, ONE_BOOK, s->threshold, s->shallow, s->step, s->budget, AREAS, results);
     return chultarvi_top_down_both(TEXT, TWO_BOOKS, s->threshold, s->shallow, s->step, s->budget, AREAS, results);
 }

@@ -26,6 +26,12 @@ void put_mark_name(const pen *p, bool further, size_t number) { fprintf(p->tags,
 /* Golden angles from blue on; further findings begin elsewhere. */
 unsigned hue_of(bool further, size_t number) { return (unsigned)((210 + 137 * number + (further ? 70 : 0)) % 360); }
 
+void put_title(const pen *p, const finding *f) {
+    plain_name(p->words, &f->text);
+    fputs(", ", p->words);
+    plain_place(p->words, f);
+}
+
 static int rising(uint32_t a, uint32_t b) { return a < b ? -1 : a > b; }
 
 /* The wider first, so that the narrower is the inner one. */
@@ -85,9 +91,7 @@ static void put_bar(const sweep *s, const mark *m) {
     fputs("<a href=\"#", tags);
     put_mark_name(s->to, m->further, m->number);
     fprintf(tags, "\" class=\"%s\" style=\"--h:%u\" title=\"", m->further ? "bar further" : "bar", hue_of(m->further, m->number));
-    plain_name(s->to->words, &m->of->text);
-    fputs(", ", s->to->words);
-    plain_place(s->to->words, m->of);
+    put_title(s->to, m->of);
     fputs("\"></a>", tags);
 }
 

@@ -196,6 +196,7 @@ void add_to_page(page *p, size_t index, const report *r) {
         put_row(d, r);
         open_section(&d->by, r->file);
         put_head(&d->by, r, message);
+        put_strip(&d->by, r);
         fputs("<div class=\"text\">\n", d->by.tags);
         put_marked(&d->by, r);
         fputs("</div>\n</section>\n", d->by.tags);
@@ -216,6 +217,9 @@ static const char before_title[] =
     "<meta http-equiv=\"Content-Security-Policy\" content=\"default-src 'none'; style-src 'unsafe-inline'; base-uri 'none'; form-action 'none'\">\n"
     "<meta name=\"viewport\" content=\"width=device-width, initial-scale=1\">\n<meta name=\"color-scheme\" content=\"light dark\">\n"
     "<meta name=\"generator\" content=\"chultarvi " VERSION "\">\n<title>";
+static const char of_strips[] =
+    "<p>A strip above a note's lines is the whole note, from its first line to its last: each range is a piece as wide as its share of the lines, and "
+    "never too narrow to be seen, in their order; it leads to the range's label. What is found further is not in it.</p>\n";
 static const char before_rows[] = "<table>\n<thead><tr><th>Note</th><th>Licence</th><th>Score</th><th>Ranges</th></tr></thead>\n<tbody>\n";
 static const char before_notes[] = "</tbody>\n</table>\n</header>\n<main>\n";
 
@@ -236,6 +240,7 @@ static void put_front(const pen *by, const page *p, const shelf *s) {
     if (bad) fprintf(by->tags, " <span class=\"bad\">%zu note%s refused or not read.</span>", bad, bad == 1 ? " was" : "s were");
     fputs("</p>\n<p>Each range has a bar at the left of its lines and a label; what is found further has dots. <i>\\x0d</i> is a byte that cannot be shown "
           "as it stands.</p>\n", by->tags);
+    if (has_strips(&s->with)) fputs(of_strips, by->tags);
     fputs(before_rows, by->tags);
 }
 

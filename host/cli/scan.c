@@ -254,8 +254,8 @@ static void open_worker(worker *w, const shelf *s) {
     *w = (worker){.from = s, .lent = take_memory()};
     if (s->with.ascii) w->raw = take(CHULTARVI_TEXT_MOST + 1);
     w->blanked = take(CHULTARVI_TEXT_MOST);
-    /* top-down at most a record for each line; elimination at most 65,535 records, which is less */
-    w->results = take(chultarvi_top_down_results(CHULTARVI_LINES_MOST) * sizeof *w->results);
+    /* for the worst of all settings, top-down at threshold 0.0: a record for each line; elimination has at most 65,535 records, which is less */
+    w->results = take(chultarvi_top_down_results(0.0f, CHULTARVI_LINES_MOST) * sizeof *w->results);
     w->starts = take((CHULTARVI_LINES_MOST + 1) * sizeof *w->starts);
     w->held = take(CHULTARVI_LINES_MOST * sizeof *w->held);
     open_choice(w);

@@ -1,5 +1,7 @@
 /* The look of a page, in the page itself: nothing is loaded from elsewhere. Light and dark as the reader's system has it; on a narrow window labels stand
-   above their lines, on a wide one beside them. --h is a range's colour, as an angle. */
+   above their lines, on a wide one beside them. --h is a range's colour, as an angle; --n how many lines a piece of a strip has, --of
+   the note. A piece is never too narrow to be seen, and where it is too narrow for some of its name the name is moved out of it; in rows it is a hair narrower
+   than its share, so that no rounding moves the last into a row of its own. */
 #include "page.h"
 
 const char page_style[] =
@@ -31,6 +33,13 @@ const char page_style[] =
     "section>p{margin:.1rem 0;overflow-wrap:anywhere}\n"
     ".whole{font-weight:600}\n"
     ".rest{color:var(--dim);font-size:.9rem;white-space:pre-line}\n"
+    ".strip{display:flex;row-gap:2px;margin-top:.7rem;border:1px solid var(--rule);border-radius:.3rem;background:var(--card);overflow:clip}\n"
+    ".strip a{flex:var(--n) 0 0;min-width:4px;height:1.7rem;border-top:.3rem solid hsl(var(--h) 65% var(--deep));background:hsl(var(--h) 80% 50%/var(--wash));"
+    "color:inherit;font-size:.8rem;line-height:1.4rem;text-indent:max(.4rem,(2.2rem - 100%)*99);text-decoration:none;white-space:nowrap;overflow:hidden;"
+    "text-overflow:ellipsis;outline-offset:-2px}\n"
+    ".strip a:hover,.strip a:focus{text-decoration:underline}\n"
+    ".strip span{flex:var(--n) 0 0;min-width:1px}\n"
+    ".strip.rows{flex-wrap:wrap}.strip.rows>*{flex:none;width:calc(100%*var(--n)/var(--of) - .01px)}\n"
     ".text{margin-top:.7rem;background:var(--card);overflow:clip;font:13px/1.55 ui-monospace,'DejaVu Sans Mono',Menlo,Consolas,monospace}\n"
     ".run{display:grid;grid-template-columns:2rem minmax(0,1fr) 20rem}\n"
     ".held,.none{background:hsl(var(--h) 80% 50%/var(--wash))}\n"
@@ -58,5 +67,5 @@ const char page_style[] =
     "thead{display:none}tr{display:block;padding:.5rem 0;border-top:1px solid var(--rule)}tbody tr:first-child{border-top:0}\n"
     "td,td:nth-child(n){display:block;width:auto;border:0;padding:.1rem .8rem}td:nth-child(3):not(:empty)::before{content:'score '}}\n"
     "@media print{:root{--paper:#fff}body{max-width:none;padding:0;font-size:10pt}.text{font-size:8pt}h2,.labels{position:static}h2 a{display:none}\n"
-    "h2{break-after:avoid}.label{break-inside:avoid}.held,.none,.bar,.chip{-webkit-print-color-adjust:exact;print-color-adjust:exact}}\n"
+    "h2{break-after:avoid}.label{break-inside:avoid}.held,.none,.bar,.chip,.strip a{-webkit-print-color-adjust:exact;print-color-adjust:exact}}\n"
     "@media print and (min-width:40rem){.run{grid-template-columns:1.2rem minmax(0,1fr) 13rem}.bars{grid-row:1}.labels{grid-column:3}ol{grid-row:1}}\n";

@@ -256,7 +256,7 @@ static void answer_scan(char **w, const char *border, bool placed, bool down) {
     scan_t q = scan_asked(w, down);
     text_t t = unhex(w[down ? 5 : 6]);
     books_t b = parted(border);
-    areas_t a = lend(t.len, down ? chultarvi_top_down_results(lines_of(t)) : chultarvi_elimination_results(q.optimize, q.passes));
+    areas_t a = lend(t.len, down ? chultarvi_top_down_results(q.threshold, lines_of(t)) : chultarvi_elimination_results(q.optimize, q.passes));
     chultarvi_note_scanned s = scan(q, t, b, a);
     if (s.refusal && s.refusal != CHULTARVI_STOPPED_BY_BUDGET) stop(chultarvi_refusal_text(s.refusal));
     look_at_pairs(s.score, s.m, s.t, !down && q.budget >= chultarvi_check_book(book, book_len).texts);

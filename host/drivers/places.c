@@ -7,6 +7,7 @@
 #include <time.h>
 
 enum { MOST = CHULTARVI_TEXT_MOST, LINE = CHULTARVI_TEXT_MOST / CHULTARVI_LINES_MOST, TURNS = 5, TURNS_MOST = 1000 };
+static const float THRESHOLD = 0.9f;
 static uint8_t *area, *text, book[64];
 static uint32_t *words, *results;
 static size_t book_len;
@@ -55,8 +56,8 @@ static double seconds(const note *t) {
     fill(t);
     clock_gettime(CLOCK_PROCESS_CPUTIME_ID, &s);
     chultarvi_note_scanned a =
-        chultarvi_top_down(text, t->n, book, book_len, 0.9f, 1.0f, 1, UINT64_MAX, area, chultarvi_area_bytes(t->n), words, chultarvi_area_words(t->n),
-                           results, chultarvi_top_down_results(t->lines));
+        chultarvi_top_down(text, t->n, book, book_len, THRESHOLD, 1.0f, 1, UINT64_MAX, area, chultarvi_area_bytes(t->n), words,
+                           chultarvi_area_words(t->n), results, chultarvi_top_down_results(THRESHOLD, t->lines));
     clock_gettime(CLOCK_PROCESS_CPUTIME_ID, &e);
     if (a.refusal) stop(chultarvi_refusal_text(a.refusal));
     look_at(t, a.records);
@@ -84,7 +85,7 @@ int main(int count, char **given) {
     text = take(MOST);
     area = take(chultarvi_area_bytes(MOST));
     words = take(chultarvi_area_words(MOST) * sizeof *words);
-    results = take(chultarvi_top_down_results(CHULTARVI_LINES_MOST) * sizeof *results);
+    results = take(chultarvi_top_down_results(THRESHOLD, CHULTARVI_LINES_MOST) * sizeof *results);
     make_book();
     compare("lines of 16 bytes", note_of(MOST / 2, LINE), note_of(MOST, LINE), turns);
     compare("behind a line of half the note", note_of(MOST / 2, MOST / 4), note_of(MOST, MOST / 2), turns);

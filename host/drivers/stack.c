@@ -8,6 +8,7 @@
 
 enum { STACK = 1 << 20, PAINT = 0xa5, PASSES = 3, EDITION = CHULTARVI_EDITION_MOST };
 static const uint64_t WHOLE = UINT64_MAX;
+static const float THRESHOLD = 0.1f;
 
 static void stop(const char *why) { fprintf(stderr, "stack: %s\n", why); exit(2); }
 static void *room(size_t bytes) { void *p = calloc(1, bytes); if (!p) stop("no memory"); return p; }
@@ -21,27 +22,27 @@ static size_t book_len;
 #define TEXT c->text.bytes, c->text.len
 #define AREAS c->area, chultarvi_area_bytes(c->text.len), c->words, chultarvi_area_words(c->text.len)
 #define BOTH book, book_len, book, book_len
-#define RESULTS c->results, chultarvi_top_down_results(c->text.lines) + chultarvi_elimination_results(true, PASSES)
+#define RESULTS c->results, chultarvi_top_down_results(THRESHOLD, c->text.lines) + chultarvi_elimination_results(true, PASSES)
 static void nothing(call_t *c) { c->refusal = 0; }
 static void check(call_t *c) { c->refusal = chultarvi_check_book(book, book_len).refusal; }
 static void compile(call_t *c) { c->refusal = chultarvi_compile(TEXT, EDITION, AREAS, c->out, chultarvi_table_bytes(c->text.len)).refusal; }
 static void score(call_t *c) { c->refusal = chultarvi_score(TEXT, book, book_len, 0, c->text.lines, 0, AREAS).refusal; }
 static void bounds(call_t *c) { c->refusal = chultarvi_bounds(TEXT, book, book_len, 0, c->text.lines, 0, AREAS).refusal; }
 static void eliminate(call_t *c) {
-    c->refusal = chultarvi_eliminate(TEXT, book, book_len, 0.1f, 1.0f, true, PASSES, WHOLE, AREAS, RESULTS).refusal;
+    c->refusal = chultarvi_eliminate(TEXT, book, book_len, THRESHOLD, 1.0f, true, PASSES, WHOLE, AREAS, RESULTS).refusal;
 }
 /* a third of the lines as step: few views, and every part of the scan is reached */
 static void top_down(call_t *c) {
-    c->refusal = chultarvi_top_down(TEXT, book, book_len, 0.1f, 1.0f, c->text.lines / 3 + 1, WHOLE, AREAS, RESULTS).refusal;
+    c->refusal = chultarvi_top_down(TEXT, book, book_len, THRESHOLD, 1.0f, c->text.lines / 3 + 1, WHOLE, AREAS, RESULTS).refusal;
 }
 /* the same book beside itself: the calls of two books, and a text of the second */
 static void score_both(call_t *c) { c->refusal = chultarvi_score_both(TEXT, BOTH, 0, c->text.lines, 2, AREAS).refusal; }
 static void bounds_both(call_t *c) { c->refusal = chultarvi_bounds_both(TEXT, BOTH, 0, c->text.lines, 2, AREAS).refusal; }
 static void eliminate_both(call_t *c) {
-    c->refusal = chultarvi_eliminate_both(TEXT, BOTH, 0.1f, 1.0f, true, PASSES, WHOLE, AREAS, RESULTS).refusal;
+    c->refusal = chultarvi_eliminate_both(TEXT, BOTH, THRESHOLD, 1.0f, true, PASSES, WHOLE, AREAS, RESULTS).refusal;
 }
 static void top_down_both(call_t *c) {
-    c->refusal = chultarvi_top_down_both(TEXT, BOTH, 0.1f, 1.0f, c->text.lines / 3 + 1, WHOLE, AREAS, RESULTS).refusal;
+    c->refusal = chultarvi_top_down_both(TEXT, BOTH, THRESHOLD, 1.0f, c->text.lines / 3 + 1, WHOLE, AREAS, RESULTS).refusal;
 }
 
 /* 14 is an answer too: `(` over and over */
@@ -68,7 +69,7 @@ static size_t paint_gone(call_t *c) {
 static size_t used(text_t text, void (*run)(call_t *)) {
     call_t c = {.run = nothing, .text = text, .area = room(chultarvi_area_bytes(text.len)), .out = room(chultarvi_table_bytes(text.len))};
     c.words = room(4 * chultarvi_area_words(text.len));
-    c.results = room(4 * (chultarvi_top_down_results(text.lines) + chultarvi_elimination_results(true, PASSES)));
+    c.results = room(4 * (chultarvi_top_down_results(THRESHOLD, text.lines) + chultarvi_elimination_results(true, PASSES)));
     size_t base = paint_gone(&c);
     c.run = run;
     size_t all = paint_gone(&c);

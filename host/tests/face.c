@@ -223,6 +223,16 @@ static bool places_right(const lent *l, size_t records) {
     }
     return true;
 }
+/* Each range has a line, between it and the next stands one at least, and all are of the text; so they are half of its lines, the odd one too, at most. */
+static bool lie_beside(const lent *l, size_t records) {
+    size_t lines = 1, from = 0;
+    for (size_t at = 0; at < l->len; at++) lines += l->text[at] == '\n';
+    for (const uint32_t *r = results; r < results + CHULTARVI_RECORD_WIDTH * records; r += CHULTARVI_RECORD_WIDTH) {
+        if (r[CHULTARVI_RECORD_FIRST] < from || r[CHULTARVI_RECORD_FIRST] >= r[CHULTARVI_RECORD_AFTER] || r[CHULTARVI_RECORD_AFTER] > lines) return false;
+        from = r[CHULTARVI_RECORD_AFTER] + 1;
+    }
+    return 2 * records <= lines + 1;
+}
 static void check_scan(const lent *l, const chultarvi_note_scanned *s, const char *what) {
     check(places_right(l, s->records), what);
     check(areas_right(l, s->refusal, 0, s->records) && (s->refusal == 0 || s->refusal == 12 || nothing_else(s)), what);
@@ -248,6 +258,7 @@ static chultarvi_note_scanned top_down(const lent *l, float threshold, float sha
                 : chultarvi_top_down(l->text, l->len, l->book, l->book_len, threshold, shallow, step, budget, area, l->area_len, words,
                                      l->words_len, results, l->results_len);
     check_scan(l, &s, what);
+    if (threshold > 0.0f) check(lie_beside(l, s.records), what);
     return s;
 }
 
@@ -278,7 +289,7 @@ static void test_answers(void) {
     chultarvi_note_scanned s = eliminate(&l, 0.9f, 0.99f, true, 10, 20, "areas of elimination");
     static const one_record record = {0, 1, 2, 0x3f800000, 22, 41};
     check(s.refusal == 0 && s.count == 20 && s.records == 1 && s.kind == 0 && same_record(results, record), "marked case 10, budget 20");
-    l.results_len = chultarvi_top_down_results(LINES_2);
+    l.results_len = chultarvi_top_down_results(0.9f, LINES_2);
     s = top_down(&l, 0.9f, 0.99f, 1, 1000, "areas of top-down");
     check(s.refusal == 0 && s.records == 1 && s.score == 0.0f && s.kind == 0 && same_record(results, record), "top-down finds the same range");
     l = lend("My First License", 16, book_a, BOOK_A);
@@ -312,7 +323,7 @@ static void test_behind(void) {
     check(score(&l, 0, 4, 0, "areas, m and t").t == 6, "t of all lines");
     chultarvi_bounds_found b = bounds(&l, 0, 4, 0, "areas, m and t");
     check(b.m == 2 && b.t == 4, "m and t of the range found, not of the view");
-    l.results_len = chultarvi_top_down_results(LINES_2);
+    l.results_len = chultarvi_top_down_results(0.9f, LINES_2);
     chultarvi_note_scanned s = top_down(&l, 0.9f, 0.99f, 1, 1000, "areas, m and t");
     check(s.records == 1 && s.m == 0 && s.t == 0, "top-down has no text as a whole, and no m and t");
 }
@@ -414,7 +425,7 @@ static void test_long_name(void) {
 
 static void test_limits(void) {
     lent l = marked();
-    l.results_len = chultarvi_top_down_results(LINES_2);
+    l.results_len = chultarvi_top_down_results(0.9f, LINES_2);
     const float good[] = {0.0f, -0.0f, 1.0f, FLT_MIN, 0.5f}, bad[] = {-FLT_MIN, 1.0f + FLT_EPSILON, 2.0f, INFINITY, -INFINITY, NAN};
     for (size_t i = 0; i < sizeof good / sizeof *good; i++) {
         check(eliminate(&l, good[i], 0.5f, false, 0, 1, "a good threshold").refusal == 0, "a good threshold");
@@ -478,10 +489,6 @@ static void test_areas(void) {
     check(eliminate(&l, 0.9f, 0.99f, true, UINT16_MAX, 20, "6 * 65,535").refusal == 0, "results of 6 * 65,535");
     l.results_len--;
     check(eliminate(&l, 0.9f, 0.99f, true, UINT16_MAX, 20, "less one").refusal == 10, "results of 6 * 65,535 less one");
-    l.results_len = chultarvi_top_down_results(LINES_2);
-    check(l.results_len == 24 && top_down(&l, 0.9f, 0.99f, 1, 1000, "6L").refusal == 0, "results of 6L");
-    l.results_len--;
-    check(top_down(&l, 0.9f, 0.99f, 1, 1000, "6L less one").refusal == 10, "results of 6L less one");
 }
 
 static void test_output(void) {
@@ -551,7 +558,7 @@ static void test_budget(void) {
         check((s.score > 0.0f) == (budget >= 1) && s.kind == 0, "the overall score is known once the first text is paid");
         check(s.m == (budget >= 1 ? 2u : 0u) && s.t == (budget >= 1 ? 6u : 0u), "and so are its m and t, though no licence is named");
     }
-    l.results_len = chultarvi_top_down_results(LINES_2);
+    l.results_len = chultarvi_top_down_results(0.9f, LINES_2);
     uint64_t full = top_down(&l, 0.9f, 0.99f, 1, UINT64_MAX, "areas, no budget").count;
     check(top_down(&l, 0.9f, 0.99f, 1, full, "areas, budget").refusal == 0, "top-down with its own count as budget");
     chultarvi_note_scanned s = top_down(&l, 0.9f, 0.99f, 1, full - 1, "areas, budget");
@@ -602,7 +609,7 @@ static void check_placed(const placed_row *r) {
     size_t lines = 1;
     for (const char *p = r->note; *p; p++) lines += *p == '\n';
     for (size_t less = 0; less < 2; less++) {
-        l.results_len = (r->down ? chultarvi_top_down_results(lines) : chultarvi_elimination_results(true, r->passes)) - less;
+        l.results_len = (r->down ? chultarvi_top_down_results(r->threshold, lines) : chultarvi_elimination_results(true, r->passes)) - less;
         chultarvi_note_scanned s =
             r->down ? top_down(&l, r->threshold, 1.0f, 1, r->budget, r->what) : eliminate(&l, r->threshold, 1.0f, true, r->passes, r->budget, r->what);
         check(s.refusal == (less ? 10 : r->refusal) && s.records == (less ? 0 : r->records), r->what);
@@ -611,6 +618,108 @@ static void check_placed(const placed_row *r) {
 }
 static void test_placed(void) {
     for (const placed_row *r = placed_rows; r < placed_rows + sizeof placed_rows / sizeof *placed_rows; r++) check_placed(r);
+}
+
+/* ---- how many results top-down needs */
+
+static float float_of(uint32_t bits) {
+    float f;
+    memcpy(&f, &bits, sizeof f);
+    return f;
+}
+/* Thresholds by their bits: 0.8, the smallest above 0.0, and the two that are not above it. */
+#define EIGHTY 0x3f4ccccd
+#define SMALLEST 0x00000001
+#define NOUGHT 0x00000000
+#define MINUS_NOUGHT 0x80000000
+
+static void test_result_sizes(void) {
+    static const struct { size_t lines, few, all; } sizes[] = {
+        {0, 0, 0}, {1, 6, 6}, {2, 6, 12}, {3, 12, 18}, {4, 12, 24}, {5, 18, 30}, {65535, 196608, 393210}, {65536, 196608, 393216},
+        {SIZE_MAX / 6, SIZE_MAX / 12 * 6, SIZE_MAX / 6 * 6},
+    };
+    for (size_t i = 0; i < sizeof sizes / sizeof *sizes; i++) {
+        const size_t lines = sizes[i].lines;
+        check(chultarvi_top_down_results(0.8f, lines) == sizes[i].few && chultarvi_top_down_results(1.0f, lines) == sizes[i].few, "half above 0.0");
+        check(chultarvi_top_down_results(float_of(SMALLEST), lines) == sizes[i].few, "half at the smallest threshold above 0.0");
+        check(chultarvi_top_down_results(0.0f, lines) == sizes[i].all && chultarvi_top_down_results(-0.0f, lines) == sizes[i].all, "all at 0.0 and -0.0");
+        check(chultarvi_top_down_results(NAN, lines) == sizes[i].all && chultarvi_top_down_results(-1.0f, lines) == sizes[i].all, "all, for no threshold");
+    }
+    check(chultarvi_top_down_results(0.8f, SIZE_MAX / 3 - 1) == SIZE_MAX - 3, "the most lines whose half has room for its records");
+}
+
+/* Lines that are the marked licence and `x` in turn: what top-down needs, its count and its ranges. */
+enum { BESIDE_MOST = 3 };
+typedef struct { uint32_t lines, threshold; size_t need; uint64_t count; uint32_t records, range[BESIDE_MOST][2]; } beside_row;
+static const beside_row beside_rows[] = {
+    {1, EIGHTY, 6, 6, 1, {{0, 1}}},
+    {2, EIGHTY, 6, 9, 1, {{0, 1}}},
+    {3, EIGHTY, 12, 15, 2, {{0, 1}, {2, 3}}},
+    {4, EIGHTY, 12, 18, 2, {{0, 1}, {2, 3}}},
+    {5, EIGHTY, 18, 24, 3, {{0, 1}, {2, 3}, {4, 5}}},
+    {5, SMALLEST, 18, 31, 3, {{0, 1}, {2, 3}, {4, 5}}},
+    {2, NOUGHT, 12, 9, 1, {{2, 2}}},
+    {2, MINUS_NOUGHT, 12, 9, 1, {{2, 2}}},
+    {5, NOUGHT, 30, 24, 1, {{4, 5}}},
+    {5, MINUS_NOUGHT, 30, 24, 1, {{4, 5}}},
+};
+static lent lend_turns(uint32_t lines) {
+    uint8_t *p = big;
+    for (uint32_t k = 0; k < lines; k++) {
+        const char *line = k % 2 ? "x" : "My First License";
+        if (k > 0) *p++ = '\n';
+        memcpy(p, line, strlen(line));
+        p += strlen(line);
+    }
+    return lend(big, (size_t)(p - big), book_a, BOOK_A);
+}
+/* The scan stopped or not: its records are the first of the full scan's. */
+static void check_beside_at(const lent *l, const beside_row *r, uint64_t budget) {
+    chultarvi_note_scanned s = top_down(l, float_of(r->threshold), 1.0f, 1, budget, "areas, lines in turn");
+    check(s.refusal == (budget < r->count ? 12 : 0) && s.count == (budget < r->count ? budget : r->count), "lines in turn: the count");
+    check(budget < r->count ? s.records <= r->records : s.records == r->records, "lines in turn: how many ranges");
+    for (size_t k = 0; k < s.records && k < BESIDE_MOST; k++) {
+        const uint32_t *record = results + CHULTARVI_RECORD_WIDTH * k;
+        check(record[CHULTARVI_RECORD_FIRST] == r->range[k][0] && record[CHULTARVI_RECORD_AFTER] == r->range[k][1], "lines in turn: the ranges");
+    }
+}
+static void check_beside(const beside_row *r) {
+    const float threshold = float_of(r->threshold);
+    lent l = lend_turns(r->lines);
+    check(chultarvi_top_down_results(threshold, r->lines) == r->need, "lines in turn: what is needed");
+    for (l.results_len = 0; l.results_len < r->need; l.results_len++) {
+        check(top_down(&l, threshold, 1.0f, 1, UINT64_MAX, "areas, results too short").refusal == 10, "every shorter results are refused");
+        check(top_down(&l, threshold, 1.0f, 1, 0, "areas, results too short").refusal == 10, "and before the budget");
+    }
+    for (uint64_t budget = 0; budget <= r->count + 1; budget++) check_beside_at(&l, r, budget);
+    check_beside_at(&l, r, UINT64_MAX);
+    l.results_len = r->need + 9;
+    check_beside_at(&l, r, UINT64_MAX);
+}
+/* Lent for the most lines; a budget of 0 shows that nothing is refused. */
+static void check_most(size_t lines, float threshold, size_t need) {
+    memset(big, '\n', lines - 1);
+    lent l = lend(big, lines - 1, book_a, BOOK_A);
+    l.results_len = need;
+    check(top_down(&l, threshold, 1.0f, 1, 0, "areas, the most lines").refusal == 12, "results for the most lines");
+    l.results_len--;
+    check(top_down(&l, threshold, 1.0f, 1, 0, "areas, the most lines").refusal == 10, "one less");
+}
+static void test_beside(void) {
+    for (const beside_row *r = beside_rows; r < beside_rows + sizeof beside_rows / sizeof *beside_rows; r++) check_beside(r);
+    for (size_t lines = CHULTARVI_LINES_MOST - 1; lines <= CHULTARVI_LINES_MOST; lines++) {
+        check_most(lines, float_of(EIGHTY), 196608);
+        check_most(lines, float_of(SMALLEST), 196608);
+        check_most(lines, 0.0f, 6 * lines);
+        check_most(lines, -0.0f, 6 * lines);
+    }
+    lent l = lend_turns(5);
+    l.results_len = 18;
+    check(top_down(&l, NAN, 1.0f, 1, 0, "areas, NaN").refusal == 6, "no threshold comes before the results");
+    check(top_down(&l, 0.8f, 0.0f, 1, 0, "areas, shallow").refusal == 12, "the shallow limit plays no part");
+    check(top_down(&l, 0.0f, 1.0f, 1, 0, "areas, shallow").refusal == 10, "nor above 0.0 for a threshold that is not");
+    l.results_len--;
+    check(top_down(&l, 0.8f, 0.0f, 1, 0, "areas, shallow").refusal == 10, "nor at 0.0");
 }
 
 /* ---- two books */
@@ -722,7 +831,7 @@ static void test_numbers(void) {
     l.results_len = chultarvi_elimination_results(true, 10);
     chultarvi_note_scanned s = eliminate(&l, 0.9f, 0.99f, true, 10, UINT64_MAX, "areas of elimination, two books");
     check(s.refusal == 0 && s.records == 1 && same_record(results, record), "elimination records the number over both");
-    l.results_len = chultarvi_top_down_results(LINES_2);
+    l.results_len = chultarvi_top_down_results(0.9f, LINES_2);
     s = top_down(&l, 0.9f, 0.99f, 1, UINT64_MAX, "areas of top-down, two books");
     check(s.refusal == 0 && s.records == 1 && same_record(results, record), "top-down records the number over both");
 }
@@ -889,7 +998,7 @@ static void test_both_budget(void) {
         check(s.refusal == (budget < full ? 12 : 0) && s.count == (budget < full ? budget : full), "12 below the full count, never from there on");
         check((s.kind != 0) == (budget >= 2) && (s.score > 0.0f) == (budget >= 2), "named once both texts are paid");
     }
-    l.results_len = chultarvi_top_down_results(LINES_2);
+    l.results_len = chultarvi_top_down_results(0.9f, LINES_2);
     full = top_down(&l, 0.9f, 0.99f, 1, UINT64_MAX, "areas, two books, no budget").count;
     check(top_down(&l, 0.9f, 0.99f, 1, full, "areas, two books, budget").refusal == 0, "top-down over two books with its own count as budget");
     chultarvi_note_scanned s = top_down(&l, 0.9f, 0.99f, 1, full - 1, "areas, two books, budget");
@@ -1372,7 +1481,7 @@ static void check_sharers(const uint32_t kinds[SHARERS], size_t border, size_t w
     const one_record record = {(uint32_t)texts_of(kinds, wins + 1) - 1, 1, 2, 0x3f800000, 22, 41};
     l = lend_held(text_2, first, second);
     l.both = border < SHARERS;
-    l.results_len = chultarvi_top_down_results(LINES_2);
+    l.results_len = chultarvi_elimination_results(true, LINES_2);
     s = eliminate(&l, 0.9f, 0.99f, true, LINES_2, UINT64_MAX, "areas, equal scores in a pass");
     check(s.refusal == 0 && s.records == 1 && same_record(results, record), "elimination bounds the same text");
     s = top_down(&l, 0.9f, 0.99f, 1, UINT64_MAX, "areas, equal scores in top-down");
@@ -1486,6 +1595,7 @@ static void test_one_book(void) {
         test_areas();
         test_budget();
         test_placed();
+        test_beside();
     }
     form = ALONE;
 }
@@ -1520,6 +1630,7 @@ int main(void) {
     edition = 1;
     test_output();
     test_table_bytes();
+    test_result_sizes();
     test_refusal_texts();
     test_version();
     make_books();

@@ -4,12 +4,14 @@
 Each range and further finding is cut out of the file by its bytes, and is then the lines that it names; where those start is counted here, by newlines
 alone. The notes: the example, and mixtures of licences of words of our own, with lines that end by LF or CR LF, with and without a last newline, with
 accents, with characters that --ascii maps or drops, with bytes that are no UTF-8, and empty ones; against one book and two, of each edition, by both
-modes. What --show prints is the same report with the lines put in, each made safe as it is written here once more. The last line is 'N passed, M failed';
-the exit status is 0 only where M is 0."""
+modes. What --show prints is the same report with the lines put in, each made safe as it is written here once more. Of top-down with a threshold above 0.0 the
+ranges lie side by side, also in notes with a licence in every other line, and until any budget. The last line is 'N passed, M failed'; the exit status is 0
+only where M is 0."""
 import json
 import os
 import random
 import re
+import struct
 import subprocess
 import sys
 import tempfile
@@ -30,7 +32,7 @@ WAYS = [
     ["--top-down", "1", "--threshold", "0.6", "--thorough"],
     ["--top-down", "2", "--threshold", "0"],
 ]
-MET = "ranges further empty at_end over crlf unended accents mapped no_utf8 second down shown".split()
+MET = "ranges further empty at_end over crlf unended accents mapped no_utf8 second down shown beside half stopped".split()
 SHOWN = 5
 
 
@@ -105,6 +107,12 @@ def starts_of(raw):
     return [0] + [at + 1 for at, byte in enumerate(raw) if byte == 10] + [len(raw)]
 
 
+def is_beside(words):
+    """Do the ranges of this call lie side by side? Top-down's do with a threshold that is above 0.0, as the float of 32 bits that it becomes."""
+    threshold = float(words[words.index("--threshold") + 1]) if "--threshold" in words else 0.9
+    return "--top-down" in words and struct.unpack("f", struct.pack("f", threshold))[0] > 0.0
+
+
 def findings(told):
     return told["ranges"] + told.get("further", [])
 
@@ -121,6 +129,17 @@ def hold_places(tally, told, raw):
         else:
             good = good and raw[start:end].split(b"\n") == lines[first:after]
         tally.hold(good, f"{told['note']}: lines {first} to {after} are bytes {start} to {end} of {raw!r}")
+
+
+def hold_beside(tally, told, lines, words):
+    """No range is empty, they rise, and a line at least stands between one and the next; so they are half of the lines at most, the odd one too."""
+    ranges, at = told["ranges"], 0
+    for each in ranges:
+        tally.hold(at <= each["first"] < each["after"] <= lines, f"{words}, {told['note']}: {each} begins before line {at}, or has none of {lines}")
+        at = each["after"] + 1
+    tally.hold(2 * len(ranges) <= lines + 1, f"{words}, {told['note']}: {len(ranges)} ranges in {lines} lines")
+    tally.met["beside"] += len(ranges) > 1
+    tally.met["half"] += len(ranges) == (lines + 1) // 2 > 1
 
 
 def count_met(tally, told, raw, way):
@@ -187,6 +206,8 @@ def hold_call(tally, command, words, notes, way):
     for one in told:
         raw = read(one["note"])
         hold_places(tally, one, raw)
+        if is_beside(words):
+            hold_beside(tally, one, raw.count(b"\n") + 1, words)
         count_met(tally, one, raw, way)
     hold_shown(tally, command, words, notes, told)
 
@@ -216,6 +237,36 @@ def every_call(rng, command):
                 yield [*way, *ascii_too, books[0], "--beside", books[1]], notes, way
 
 
+def dense(rng, texts):
+    """Lines at random, of a licence or not; or a licence and another line in turn."""
+    count, others = rng.randint(1, 30), [b"x", b"", b"other words of no licence"]
+    if rng.random() < 0.5:
+        return b"\n".join(rng.choice(texts) if k % 2 == 0 else b"x" for k in range(count))
+    return b"\n".join(rng.choice(texts + others) for _ in range(count))
+
+
+def parts_of(told):
+    return [[each[key] for key in ("licence", "number", "first", "after", "start", "end", "score")] for each in told["ranges"]]
+
+
+def hold_dense(tally, command, rng):
+    """Top-down by thresholds above 0.0, the smallest too, over notes with many ranges; until a budget it finds the first of them."""
+    texts = [b"alpha beta gamma", b"delta epsilon zeta eta", b"license permission granted notice"]
+    book = make_book(command, "D", 2, texts)
+    for _ in range(60):
+        write("dense", dense(rng, texts))
+        lines = read("dense").count(b"\n") + 1
+        words = ["scan", "--json", "--top-down", str(rng.choice([1, 1, 1, 2, 5])), "--threshold", rng.choice(["1e-45", "0.3", "0.8", "1"]), book, "dense"]
+        full = json.loads(run(command, *words).stdout)
+        hold_beside(tally, full, lines, words)
+        for budget in sorted(rng.sample(range(full["scorings"]), min(4, full["scorings"]))):
+            part = json.loads(run(command, *words, "--budget", str(budget)).stdout)
+            hold_beside(tally, part, lines, words)
+            first = parts_of(full)[: len(part["ranges"])]
+            tally.hold(part["refusal"] == 12 and parts_of(part) == first, f"{words}, a budget of {budget}: {part}, not {first}")
+            tally.met["stopped"] += 0 < len(first) < len(full["ranges"])
+
+
 def hold_example(tally, command):
     """The example against the default books, with CR LF, with accents in edition 3, and with what --ascii drops before, within and behind the licence."""
     raw = read(os.path.join(ROOT, "examples", "note.txt"))
@@ -237,6 +288,7 @@ def main():
         os.chdir(folder)
         for words, notes, way in every_call(rng, command):
             hold_call(tally, command, ["scan", *words], notes, way)
+        hold_dense(tally, command, rng)
         hold_example(tally, command)
     return tally.end()
 

@@ -30,6 +30,17 @@ placed '' '[[1, 1, 0, 0]]' --threshold 0 --top-down 1 a.book
 placed 'x\ny' '[[2, 2, 3, 3]]' $none
 placed 'x\ny\n' '[[3, 3, 4, 4]]' $none
 placed 'my first\n\n\n\nMy First License\n\nmy first' '[[4, 6, 12, 29], [6, 6, 30, 30]]' --threshold 0 --passes 2 a.book
+# top-down, lines that are the licence and another in turn: above 0.0 each is a range and a line stands between; at 0.0 it is not so
+down='--top-down 1 --shallow 1 --threshold'
+turns='My First License\nx\nMy First License\nx\nMy First License'
+for threshold in 0.8 1e-45; do
+    placed 'My First License\nx' '[[0, 1, 0, 16]]' $down $threshold a.book
+    placed "$turns" '[[0, 1, 0, 16], [2, 3, 19, 35], [4, 5, 38, 54]]' $down $threshold a.book
+done
+for threshold in 0 -0.0 1e-46; do
+    placed 'My First License\nx' '[[2, 2, 18, 18]]' $down $threshold a.book
+    placed "$turns" '[[4, 5, 38, 54]]' $down $threshold a.book
+done
 # --ascii: bytes of the file, where it dropped, shortened and lengthened what stands before, within and around the lines
 placed '\342\202\254x\342\200\246\n\357\273\277My \342\200\234First\342\200\235 License\342\202\254\r\ny' '[[1, 2, 8, 37]]' --ascii $one
 placed '\351\377\n\255My First License\n\303' '[[1, 2, 3, 20]]' --ascii $one
@@ -132,6 +143,22 @@ ln -s page link
 run 0 scan --html link a.book two
 [ -L link ] && [ "$(stat -c %a page)" = 604 ] && grep -q '<h2><span>two</span>' page && good || bad 'not written through the link'
 rm link
+
+# a strip of ranges that lie side by side, and not a word of it where they may not
+printf "$turns" >turns
+strips() { # strips COUNT OPTION...: so many on the page, whose head then speaks of them
+    count=$1
+    shift
+    run 0 scan --html page "$@" a.book turns license empty
+    [ "$(grep -c '<div class="strip' page)" = "$count" ] && good || bad "$(grep -c '<div class="strip' page) strips, not $count"
+    [ "$(grep -c 'A strip above' page)" = $((count > 0)) ] && good || bad 'its head speaks of strips where there are none, or does not'
+}
+strips 2 --top-down 1
+strips 2 --top-down 1 --threshold 1e-45
+for none in '--top-down 1 --threshold 0' '--top-down 1 --threshold -0.0' '--top-down 1 --threshold 1e-46' '--threshold 0' '--threshold 0.8' '--thorough'; do
+    strips 0 $none
+done
+rm page
 
 # what is read here is not written over, by whatever name; nothing is scanned
 mkdir tree
@@ -281,6 +308,12 @@ awk 'BEGIN { for (i = 0; i < 32767; i++) printf "My First License\n\n" }' >range
 so 0 "$soon scan --top-down 1 --html page a.book ranges"
 lines=$(grep -c '<li>' page) labels=$(grep -c 'class="label"' page)
 [ "$lines" = 65535 ] && [ "$labels" = "$(grep -c '^  lines ' .out)" ] && [ "$labels" -gt 16000 ] && good || bad "$lines lines, $labels labels"
+# a range in every other of them, and each has its piece in the strip, with a line behind it
+awk 'BEGIN { for (i = 0; i < 32768; i++) printf "%sMy First License\nx", i ? "\n" : "" }' >ranges
+so 0 "$soon scan --top-down 1 --html page a.book ranges"
+labels=$(grep -c 'class="label"' page) pieces=$(grep -c '^<a href="#n1r[0-9]*" style="--n:1;' page) gaps=$(grep -c '^<span style="--n:1"></span>$' page)
+[ "$labels $pieces $gaps" = '32768 32768 32768' ] && good || bad "$labels labels, $pieces pieces, $gaps gaps"
+[ "$(wc -c <page)" -lt 33554432 ] && good || bad "a page of $(wc -c <page) bytes"
 # a note of the most bytes, all of them to be escaped
 head -c 1048576 /dev/zero >zeros
 so 0 "$soon scan --no-optimize --html page a.book zeros"

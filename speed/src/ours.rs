@@ -87,7 +87,9 @@ impl<'a> Lent<'a> {
         area.fill(0);
         words.fill(0);
         out.fill(0);
-        Self { text, lines, area, words, results: vec![0; RECORD_WIDTH * lines.max(usize::from(crate::PASSES))], out }
+        // THRESHOLD is above 0.0, so top-down has a record for every second line at most
+        let records = lines.div_ceil(2).max(usize::from(crate::PASSES));
+        Self { text, lines, area, words, results: vec![0; RECORD_WIDTH * records], out }
     }
 
     pub fn compile(&mut self) -> Compiled {
