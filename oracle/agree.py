@@ -1,6 +1,7 @@
 #!/usr/bin/env python3
 """Holds model.py, the second reading of the rules, against the original Rust: lines, views, tables, scores, bounds and both scans; m and t, which the
-original does not tell, against its own tables of both texts; places, which it does not tell either, against slices of the text in Rust.
+original does not tell, against its own tables of both texts; places, which it does not tell either, against slices of the text in Rust. What #113
+promises of top-down is looked at in the original's own answers.
 
     oracle/agree.py [--edition E] [--seed N] [--texts N]
 
@@ -18,11 +19,15 @@ import asking
 import compare
 import model
 from compare import WHOLE, Oracle, Trouble, hexed
+from promise import Promise, ranges_of
+
+
+THRESHOLDS = [compare.ZERO, 1 << 31, 1, compare.bits(0.3), compare.HALF, compare.bits(0.8), compare.NINETY, compare.ONE]  # -0.0, the least denormal
 
 
 class Tally:
-    def __init__(self):
-        self.asked, self.differing, self.kinds = collections.Counter(), 0, 0
+    def __init__(self, oracle):
+        self.asked, self.differing, self.kinds, self.promise = collections.Counter(), 0, 0, Promise(oracle)
 
     def hold(self, kind, told, theirs, ours):
         self.asked[kind] += 1
@@ -78,10 +83,11 @@ def jobs(tally, oracle, rng, seed, i):
     theirs = oracle.ask("countbounds", start, end, hexed(t), hexed(texts[k].text))
     tally.hold("bounds", told, theirs, f"{b.count} {b.first} {b.after} {b.score:08x}")
     tally.hold("m and t of bounds", told, pairs(oracle, t, b.first, b.after, texts[k].text), (b.m, b.t))
-    threshold, shallow = rng.choice([compare.ZERO, compare.HALF, compare.NINETY]), compare.ONE
+    threshold, shallow = rng.choice(THRESHOLDS), compare.ONE
     q = dataclasses.replace(q, threshold=threshold, shallow=shallow, optimize=True, passes=3, step=rng.choice([1, 2, 3]), budget=WHOLE)
-    for job, before, most in (("eliminate", "1 3", 3), ("down", q.step, n)):
-        asked = dataclasses.replace(q, job=job, results=bytes(4 * model.RECORD_WIDTH * most))
+    for job, before in (("eliminate", "1 3"), ("down", q.step)):
+        asked = dataclasses.replace(q, job=job)
+        asked = dataclasses.replace(asked, results=bytes(4 * model.results_need(asked)))
         a = model.answered(asked)
         theirs = oracle.counted(f"count{job} {threshold:08x} {shallow:08x} {before} {WHOLE} {hexed(t)}")
         part = None if theirs.named is None else model.shelved((book,))[theirs.named].part
@@ -91,6 +97,16 @@ def jobs(tally, oracle, rng, seed, i):
             scores = [int(score, 16) for score in oracle.ask("scores", 0, n, hexed(t)).split(" ")]  # none is below 0.0, so their bits rise as they do
             highest = max(range(len(texts)), key=lambda i: (scores[i], -texts[i].kind))  # the first of equals
             tally.hold("m and t overall", told, pairs(oracle, t, 0, n, texts[highest].text), (a.m, a.t))
+    promised(tally, oracle, rng, t)
+
+
+def promised(tally, oracle, rng, t):
+    """Top-down by the original itself, drawn once, and by the counted copy: of the note, and of it with a line between each two."""
+    for text in (t, "\nx\n".join(t.split("\n"))):
+        before = f"{rng.choice(THRESHOLDS):08x} {compare.ONE:08x} {rng.choice([1, 1, 2, 3])}"
+        for asked in (f"down {before}", f"countdown {before} {WHOLE}", f"countdown {before} {rng.randint(0, 60)}"):
+            question = f"{asked} {hexed(text)}"
+            tally.promise.look(question, ranges_of(oracle.ask(question)))
 
 
 def main():
@@ -99,7 +115,8 @@ def main():
     options.add_argument("--seed", default="1", help="another seed gives other texts (default 1)")
     options.add_argument("--texts", type=int, default=5000)
     options = options.parse_args()
-    oracle, tally, rng = Oracle(options.edition), Tally(), random.Random(f"{options.seed} agree")
+    oracle, rng = Oracle(options.edition), random.Random(f"{options.seed} agree")
+    tally = Tally(oracle)
     if options.edition == model.ACCENTS:
         every_pair(tally, oracle)
     fixed = compare.fixed_texts(options.edition)
@@ -108,8 +125,10 @@ def main():
     for i in range(options.texts // 10):
         jobs(tally, oracle, rng, options.seed, i)
     print(", ".join(f"{kind} {count}" for kind, count in tally.asked.items()) + f"; a kind decides {tally.kinds} scans")
-    print(f"edition {options.edition}, seed {options.seed}: {tally.asked.total()} cases, {tally.differing} differences")
-    return 1 if tally.differing else 0
+    print(tally.promise.told())
+    differing = tally.differing + len(tally.promise.lost)
+    print(f"edition {options.edition}, seed {options.seed}: {tally.asked.total()} cases, {differing} differences")
+    return 1 if differing else 0
 
 
 if __name__ == "__main__":

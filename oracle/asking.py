@@ -258,7 +258,7 @@ def filled(rng, plan, garbage=random_elements):
 def needs(plan):
     """What each area needs, in elements."""
     n = len(plan.text)
-    bare = model.Question(plan.job, text=plan.text, optimize=plan.optimize, passes=plan.passes)
+    bare = model.Question(plan.job, text=plan.text, threshold=plan.threshold, optimize=plan.optimize, passes=plan.passes)
     compiles = plan.job == "compile" and plan.edition in model.EDITIONS and model.readable(plan.text, plan.edition) and n <= model.TEXT_MOST
     out = len(model.compiled(plan.text, plan.edition)) if compiles else 99
     return {"area": 8 * n + 64, "words": 12 * n + 64, "out": out, "results": model.results_need(bare)}

@@ -8,7 +8,8 @@ the definitions compute and what the oracle says, of a trial crate in a temporar
 statement by `refl`. A batch that fails is taken apart, row by row, and each row that differs is printed with its input. The oracle has one store; the
 definitions are lent its licences in one book, or in two that part them anywhere. Texts of edition 2 are those of edition 1 with 4s put into them, and
 it is told how many rows edition 1 answers otherwise; those of edition 3 have accents, or are made of all code points up to U+00FF, and it is told how
-many are not ASCII. Exit status: 0 no row differs, 1 some do, 2 the comparison could not be made.
+many are not ASCII. What the original says of top-down must keep what #113 promises. Exit status: 0 no row differs, 1 some do, 2 the comparison
+could not be made.
 """
 
 import argparse
@@ -28,6 +29,7 @@ import time
 import model
 import original
 from original import HERE, Trouble
+from promise import Promise, ranges_of
 
 REPOSITORY = os.path.dirname(HERE)
 
@@ -698,6 +700,7 @@ class Maker:
         self.seed = seed
         self.told = collections.Counter()
         self.lost = []
+        self.promise = Promise(oracle)
 
     def rows(self, kind, how_many):
         stream = "texts" if kind in ("lines", "whole") else kind
@@ -818,10 +821,18 @@ class Maker:
         alike = self.oracle.counted(s.question(WHOLE, "first"))
         own = f"{alike.score:08x} {'none' if alike.named is None else alike.named}"
         own += "".join(f" ; {told_of(record)}" for record in alike.records)
-        self.agree(s.told(), own, lambda: self.oracle.ask("placed", s.word, s.before, hexed(s.text)))
+        self.agree(s.told(), own, lambda: self.own_scan(s))
         self.told["scans that a kind decides"] += alike != a
         if alike.score != a.score or (alike.named is None) != (a.named is None):
             self.lost.append(f"{s.told()}: the kinds change the overall score")
+
+    def own_scan(self, s):
+        """The original's own, drawn anew; of top-down each that is drawn keeps the promise."""
+        question = f"{s.word} {s.before} {hexed(s.text)}"
+        answer = self.oracle.ask("placed", question)
+        if s.word == "down":
+            self.promise.look(question, ranges_of(answer))
+        return answer
 
     # scans
     def limits(self, rng, met):
@@ -836,7 +847,7 @@ class Maker:
         optimize, passes = int(rng.random() < 0.85), rng.choice([0, 1, 2, 2, 3, 3, 4])
         mode = ELIMINATION.format(optimize="true" if optimize else "false", passes=passes)
         before = f"{threshold:08x} {shallow:08x} {optimize} {passes}"
-        need = model.RECORD_WIDTH * passes if optimize else 0
+        need = model.results_need(model.Question("eliminate", optimize=bool(optimize), passes=passes))
         return Setting(texts, books, t, threshold, shallow, mode, "eliminate", before, need)
 
     def down_setting(self, rng, make=shelf):
@@ -845,7 +856,8 @@ class Maker:
         scores = [int(x, 16) for _ in range(3) for x in self.oracle.ask("scores", *any_view(rng, n), hexed(t)).split(" ")]
         threshold, shallow = self.limits(rng, [max(scores), rng.choice(scores)])
         before = f"{threshold:08x} {shallow:08x} {step}"
-        return Setting(texts, books, t, threshold, shallow, TOP_DOWN.format(step=step), "down", before, model.RECORD_WIDTH * n)
+        need = model.results_need(model.Question("down", text=t.encode("utf-8"), threshold=threshold))
+        return Setting(texts, books, t, threshold, shallow, TOP_DOWN.format(step=step), "down", before, need)
 
     def eliminate(self, rng, i):
         return self.scan_row(self.eliminate_setting(rng))
@@ -884,6 +896,8 @@ class Maker:
         return Row(f"jobRow {s.call()} {budget} {room}", want, f"{s.told()}, budget {budget}", named)
 
     def tell(self, s, a):
+        if s.word == "down":
+            self.promise.look(s.question(WHOLE), a.records)
         self.told["scans: records"] += len(a.records)
         self.told["scans: empty ranges among the records"] += sum(record.first == record.after for record in a.records)
         for record in a.records:
@@ -1008,8 +1022,10 @@ def main():
     print(f"{len(maker.lost):6} answers of the counted copy that the Rust never gave")
     for what in maker.lost[:SHOWN]:
         print(f"  {what}")
-    print(f"{total + len(maker.lost):6} differences")
-    return 1 if total or maker.lost else 0
+    print(maker.promise.told())
+    lost = maker.lost + maker.promise.lost
+    print(f"{total + len(lost):6} differences")
+    return 1 if total or lost else 0
 
 
 if __name__ == "__main__":

@@ -56,7 +56,7 @@ def results(all_passes=(0, 1, 2, 10, 65535), texts=(MARKED_TEXT, b"", b"\n", b"m
         yield Edge("6P", marked("eliminate", {"results": by}, passes=passes, optimize=False, **fields), 0)
         yield Edge("6P", marked("eliminate", {"results": by}, passes=passes, budget=9, **fields), due(passes > 0, 10 if by < 0 else 12))
     for text, step, by in itertools.product(texts, steps, NEAR):
-        yield Edge("6L", marked("down", {"results": by}, text=text, step=step, **fields), due(by < 0, 10))
+        yield Edge("6(L+1)/2", marked("down", {"results": by}, text=text, step=step, **fields), due(by < 0, 10))
 
 
 def output():

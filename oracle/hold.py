@@ -21,6 +21,7 @@ import time
 
 import accents
 import asking
+import beside
 import compare
 import edges
 import editions
@@ -341,6 +342,12 @@ def ranges(rng, scale, two):
     yield from computable(places.both() if two else places.one(), scale)
 
 
+def apart(rng, scale, two):
+    """The edges of ranges beside each other, of notes of up to seven lines."""
+    found = beside.both() if two else beside.one()
+    yield from computable((edge for edge in found if edge.plan.text.count(b"\n") < 7), scale)
+
+
 def computable(found, scale):
     """The edges that antt can compute on: no results of 65,535 passes, no text of 65,535 bytes, and no book of a thousand texts
     (damaged/proofs/LimitCases.antt has that). At a scale below 1 only some of them."""
@@ -351,7 +358,7 @@ def computable(found, scale):
 
 MAKERS = {
     "answers": answers, "refusals": refusals, "budgets": budgets, "books, sound or not": books, "edges": limits, "ties": ties, "editions": rulings,
-    "accents": wide, "places": ranges,
+    "accents": wide, "places": ranges, "beside": apart,
 }  # fmt: skip
 KINDS = {kind: (make, False) for kind, make in MAKERS.items()} | {f"two books: {kind}": (make, True) for kind, make in MAKERS.items()}
 LINES = {False: 5, True: 3}  # of a text, at most; with two books each view costs more

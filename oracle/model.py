@@ -388,12 +388,35 @@ def top_down(note, shelf, q):
 # ---- places ------------------------------------------------------------------------------------------------------------------------------
 
 
+@functools.lru_cache(maxsize=4)
+def pieces_of(text):
+    """The lines in bytes, and the size of each with its newline."""
+    pieces = text.split(b"\n")
+    return pieces, [len(piece) + 1 for piece in pieces]
+
+
 def places(text, first, after):
     """The bytes of these lines in the text as it was lent: newlines between them count, the one behind them does not."""
-    pieces = text.split(b"\n")
-    before = sum(len(piece) + 1 for piece in pieces[:first])  # the last line of all has no newline, so at L this is one too many
+    pieces, sizes = pieces_of(text)
+    before = sum(sizes[:first])  # the last line of all has no newline, so at L this is one too many
     start = min(before, len(text))
     return start, start + len(b"\n".join(pieces[first:after]))
+
+
+# ---- ranges beside each other (#113) -------------------------------------------------------------------------------------------------------
+
+
+def broken(lines, records):
+    """What these records break of what top-down promises of its own where the threshold is above 0.0, in a note of so many lines."""
+    following = list(zip(records, records[1:]))
+    kept = {
+        "not empty": all(record.first < record.after for record in records),
+        "rising": all(one.first < other.first and one.after < other.after for one, other in following),
+        "a line between one and the next": all(range(one.after, other.first) for one, other in following),
+        "among the lines of the note": all(0 <= record.first and record.after <= lines for record in records),
+        "at most (L + 1) / 2": 2 * len(records) <= lines + 1,
+    }
+    return [words for words, so in kept.items() if not so]
 
 
 # ---- questions and answers ---------------------------------------------------------------------------------------------------------------
@@ -460,10 +483,20 @@ def line_count(q):
     return q.text.count(b"\n") + 1
 
 
-def results_need(q):
+def above_zero(q):
+    """By the float: the least denormal is above 0.0, and -0.0 is not."""
+    return of_bits(q.threshold) > 0.0
+
+
+def records_most(q):
+    """How many records a scan can leave."""
     if q.job == "down":
-        return RECORD_WIDTH * line_count(q)
-    return RECORD_WIDTH * q.passes if q.job == "eliminate" and q.optimize else 0
+        return (line_count(q) + 1) // 2 if above_zero(q) else line_count(q)
+    return q.passes if q.job == "eliminate" and q.optimize else 0
+
+
+def results_need(q):
+    return RECORD_WIDTH * records_most(q)
 
 
 def in_unit(bits):

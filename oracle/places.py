@@ -82,10 +82,10 @@ def room(books, all_passes=(0, 1, 2, 3, 10, 65535), texts=(b"", NOTE, b"\n", MAR
             found = [(0, 0, 1, ONE, 0, 16)] if passes and not few else []
             yield scan("6P, by a record's numbers", "eliminate", NOTE, found, slack, due(few, 10), books=books, passes=passes)
     for text in texts:
-        lines = text.count(b"\n") + 1
-        for size in sizes(lines):
-            slack = {"results": size - 6 * lines}
-            yield scan("6L, by a record's numbers", "down", text, None, slack, due(size < 6 * lines, 10), books=books, threshold=NINETY)
+        most = len(text.split(b"\n")[::2])  # above 0.0 every second line
+        for size in sizes(most):
+            slack = {"results": size - 6 * most}
+            yield scan("6(L+1)/2, by a record's numbers", "down", text, None, slack, due(size < 6 * most, 10), books=books, threshold=NINETY)
 
 
 LONGER = b"My First License is here to stay for all of us"

@@ -6,8 +6,8 @@
 Asks target/rows (built and run by host/drivers/rows.sh) and the model the same questions, and compares everything that the call answers and leaves. Every
 area is filled with garbage first and is often longer than needed; text, books and the bytes behind each buffer must be as they were, and the name's
 part must hold the name. Each refusal of each job, of one book and of two, must be met at least 20 times, and each limit must bring the refusal that
-edges.py, editions.py, accents.py or places.py says. Prints one line for each kind of row; the last line is 'N passed, M failed'. Exit status: 0 none
-failed, 1 some did, 2 the comparison could not be made.
+edges.py, editions.py, accents.py, places.py or beside.py says. The archive's own records of top-down above 0.0 must keep what #113 promises of them.
+Prints one line for each kind of row; the last line is 'N passed, M failed'. Exit status: 0 none failed, 1 some did, 2 the comparison could not be made.
 """
 
 import argparse
@@ -22,6 +22,7 @@ import time
 
 import accents
 import asking
+import beside
 import compare
 import edges
 import editions
@@ -33,7 +34,7 @@ AREAS = ("area", "words", "out", "results")
 NUMBERS = ("refusal", "texts", "len", "first", "after", "score", "m", "t", "count", "records", "kind", "name_len", "edition")
 REPLY = struct.Struct(f"<{len(NUMBERS)}Q{model.NAME_MOST}s4Q")
 ONE, TWO, SAME = range(3)  # books that are lent
-LEAST = 20  # times that each refusal of each job is met
+LEAST = 20  # times that each refusal of each job is met, and whatever else a row may reach
 SHOWN = 10
 
 
@@ -118,6 +119,39 @@ def by_width(q, want):
     return want.refusal == 10 and not model.small(dataclasses.replace(q, results=bytes(len(q.results) * model.RECORD_WIDTH // 4)))
 
 
+def with_promise(q):
+    """Does #113 speak of its records?"""
+    return q.job == "down" and model.above_zero(q)
+
+
+def unkept(q, a):
+    """What an answer's own records break of that promise."""
+    if not with_promise(q):
+        return []
+    room = len(a.results) // (4 * model.RECORD_WIDTH)
+    if a.records > room:
+        return [f"{a.records} records, and the results have room for {room}"]
+    ranges = [(record.first, record.after) for record in a.recorded]
+    return [f"not so of the archive's ranges {ranges}: {words}" for words in model.broken(model.line_count(q), a.recorded)]
+
+
+def by_half(q, want):
+    """Is it scanned with fewer results than 6 numbers a line?"""
+    return q.job == "down" and want.refusal in (0, 12) and len(q.results) < 4 * model.RECORD_WIDTH * model.line_count(q)
+
+
+def at_need(q, want):
+    """Are its results what is needed, or one beside it, and nothing refused before they count?"""
+    return with_promise(q) and want.refusal in (0, 10, 12) and abs(len(q.results) // 4 - model.results_need(q)) <= 1
+
+
+# what reaches #113
+BESIDE = {
+    "of top-down above 0.0 with records": lambda q, want: with_promise(q) and want.records > 0,
+    "with (L + 1) / 2 of these": lambda q, want: with_promise(q) and want.records == model.records_most(q),
+    "with results at that need or one beside it": at_need,
+    "taken where 6 numbers a line were refused": by_half,
+}
 # what a row may reach, by its question and the model's answer
 REACHED = {
     "with several faults at once": lambda q, want: several(q),
@@ -129,6 +163,8 @@ REACHED = {
     "with records, and so the bytes of ranges": lambda q, want: want.records > 0,
     "with an empty range": lambda q, want: any(record.first == record.after for record in want.recorded),
     "refused for the last two numbers of records": by_width,
+    **BESIDE,
+    "by which #113 is reached": lambda q, want: any(reaches(q, want) for reaches in BESIDE.values()),
 }
 
 
@@ -136,6 +172,7 @@ class Tally:
     def __init__(self, archive):
         self.archive, self.reached = archive, collections.Counter()
         self.rows, self.failed, self.met, self.met_by_kind = collections.Counter(), collections.Counter(), collections.Counter(), {}
+        self.ranges = 0  # of the archive, which #113 speaks of
 
     def hold(self, kind, q, due):
         want = model.answered(q)
@@ -145,6 +182,8 @@ class Tally:
         self.met[q.job, len(q.books), want.refusal] += 1
         self.met_by_kind.setdefault(kind, collections.Counter())[want.refusal] += 1
         faults += apart(want, got)
+        faults += unkept(q, got)
+        self.ranges += got.records if with_promise(q) else 0
         faults += [f"{field} should be {x}, and the model says {said}" for field, x in due.items() if (said := getattr(want, field)) != x]
         if faults:
             self.failed[kind] += 1
@@ -152,7 +191,10 @@ class Tally:
                 print(f"\nDIFFERS: {kind}: {told(q)}\n  " + "\n  ".join(faults))
 
     def require(self):
-        """Each refusal of each job, and an answer of each, is met so often, with one book and with two."""
+        """Each refusal of each job, and an answer of each, is met so often, with one book and with two; and so is whatever a row may reach."""
+        for what in (what for what in REACHED if self.reached[what] < LEAST):
+            self.failed["refusals"] += 1
+            print(f"there are {self.reached[what]} rows {what}, not {LEAST}")
         for job, books in FORMS:
             for refusal in [0, *model.refusals(job, books == 2)]:
                 met = self.met[job, books, refusal]
@@ -214,6 +256,11 @@ def ties(rng, rows, job, two):
         yield from ((plan, {}) for plan in plans)
 
 
+def apart_ranges(rng, rows, job, two):
+    for _ in range(rows if job == "down" else 0):
+        yield beside.random_plan(rng, two), {}
+
+
 # each kind of random row: what makes those of a job, how many times, and of two books
 RANDOM = {
     "answers": (answers, 200, 100),
@@ -222,6 +269,7 @@ RANDOM = {
     "budgets": (budgets, 200, 100),
     "books, sound or not": (books, 286, 250),
     "equal scores": (ties, 1800, 1800),
+    "ranges beside each other": (apart_ranges, 1000, 500),
 }
 
 
@@ -242,10 +290,11 @@ def limits(seed, found):
 def rows(seed, scale, large):
     """All rows: so many times the random ones, and the large edges or not."""
     yield from random_rows(seed, scale)
-    of_rules = (of for rules in (editions, accents, places) for of in (rules.one(), rules.both()))
+    of_rules = (of for rules in (editions, accents, places, beside) for of in (rules.one(), rules.both()))
     yield from limits(seed, itertools.chain(edges.small(), edges.both(), *of_rules, edges.ties()))
     if large:
-        yield from limits(seed, itertools.chain(edges.large(), edges.all_ties(), editions.large(), accents.large(), places.large()))
+        long = (rules.large() for rules in (editions, accents, places, beside))
+        yield from limits(seed, itertools.chain(edges.large(), edges.all_ties(), *long))
 
 
 QUICK = 0.05
@@ -265,7 +314,7 @@ def main():
         tally.table()
     failed = sum(tally.failed.values())
     told = ", ".join(f"{tally.reached[what]} {what}" for what in REACHED)
-    print(f"rows {told}; seed {options.seed}, {time.monotonic() - began:.0f} s")
+    print(f"rows {told}; ranges that #113 speaks of {tally.ranges}; seed {options.seed}, {time.monotonic() - began:.0f} s")
     print(f"{sum(tally.rows.values()) - failed} passed, {failed} failed")
     return 1 if failed else 0
 

@@ -16,9 +16,9 @@ compares the answers line by line:
 Every question on a view or a scan is asked of target/answers twice: with one book, and behind `border K` with two, which the original's one store
 decides as well. Scans are asked with the bytes of their ranges, which in Rust are slices of the text. The original's unordered ties are settled in its
 answers as oracle/README.md says. Every area is filled with garbage before a call, and target/answers stops where one is not as it must be after it, or
-where the name's part is not the named licence's. In edition 2 the texts of the lists have 4s put into them, in edition 3 accents. Prints the number of
-cases of each kind, in edition 2 also of how many edition 1 has another answer, in edition 3 how many ask about a text that is not ASCII, and each
-difference.
+where the name's part is not the named licence's. In edition 2 the texts of the lists have 4s put into them, in edition 3 accents. What the original says
+of top-down must keep what #113 promises. Prints the number of cases of each kind, in edition 2 also of how many edition 1 has another answer, in edition
+3 how many ask about a text that is not ASCII, and each difference.
 """
 
 import argparse
@@ -34,6 +34,7 @@ import compare
 import model
 import replay
 from compare import ONE, WHOLE, Trouble, bits, hexed
+from promise import Promise, ranges_of
 from replay import SCANS, Theirs, asked
 
 ALPHABET = "aC4 \n$-"
@@ -67,7 +68,8 @@ def not_ascii(word, rest):
 class Tally:
     """Holds our answers against the original's. The borders are drawn by the seed that the run starts with."""
 
-    def __init__(self, edition, seed):
+    def __init__(self, oracle, seed):
+        edition, self.promise = oracle.edition, Promise(oracle)
         self.ours, self.edition, self.first = Ours(edition), edition, Theirs(1) if edition == 2 else None
         self.rng = random.Random(f"{seed} borders")
         self.asked, self.otherwise, self.differing, self.licences, self.placed = Counter(), Counter(), 0, 0, 0
@@ -76,6 +78,8 @@ class Tally:
         """With one book; and where two can be lent with two, parted anywhere, also before the first licence and behind the last."""
         word, *rest = question.split(" ")
         self.licences = 0 if word == "clear" else self.licences + (word == "add" and rest[1] == "2")
+        if word == "countdown":
+            self.promise.look(question, ranges_of(theirs))
         otherwise = self.first.ask(question) != theirs if self.first else not_ascii(word, rest)
         self.compare(word, asked(question), theirs, otherwise)
         if word in VIEWS + SCANS:
@@ -85,6 +89,7 @@ class Tally:
     def told(self):
         for kind, count in sorted(self.asked.items()):
             print(f"{kind:25} {count:8}" + OTHERWISE[self.edition].format(self.otherwise[kind]))
+        print(self.promise.told())
         print(f"edition {self.edition}: {self.asked.total()} cases, {self.placed} ranges with their bytes, {self.differing} differences")
 
     def compare(self, kind, question, theirs, otherwise):
@@ -158,14 +163,15 @@ def main():
     options.add_argument("--seeds", type=int, default=100)
     options.add_argument("--first", type=int, default=1)
     options = options.parse_args()
-    oracle, tally = Theirs(options.edition), Tally(options.edition, options.first)
+    oracle = Theirs(options.edition)
+    tally = Tally(oracle, options.first)
     lists(tally, oracle, options.first, options.seeds)
     tables(tally, oracle, short())
     files(tally, oracle)
     if options.edition == 3:
         tables(tally, oracle, itertools.chain(pairs(), wide(options.first)))
     tally.told()
-    return 1 if tally.differing else 0
+    return 1 if tally.differing or tally.promise.lost else 0
 
 
 if __name__ == "__main__":

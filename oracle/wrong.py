@@ -4,7 +4,8 @@
     oracle/wrong.py [--seed N]
 
 A wrong reading is model.py with one place changed. It is asked the questions of `rows.py --quick`; the archive is not needed, since there it and
-the model agree. Prints by how many rows each is found. Exit status: 0 all are found, 1 some are not.
+the model agree. Of some the own records break what #113 promises, which must be seen without the model, and of the model's none. Prints by how many rows
+each is found. Exit status: 0 all are found, 1 some are not.
 """
 
 import argparse
@@ -32,7 +33,12 @@ VALUE, OVERALL, FOUND_THERE = f"{VALUED} m, t)", "tell(a, event.score)\n", "    
 BETTER, RANK, HIGHER = "            found = text, value\n", asking.RANK, "rank(text, value) > rank(*found)"
 EARLIEST = "next(x for x in shelf if score(note.table({}, {}), x.table) == value)"  # of equal scores, of whatever kind
 FROM_OVERALL = "    yield Overall" + inspect.getsource(model.elimination).split("    yield Overall")[1]
-SIX_P, SIX_L = "RECORD_WIDTH * q.passes if", "RECORD_WIDTH * line_count(q)"
+NEED, HALVED, PASSES = "return RECORD_WIDTH * records_most(q)", "(line_count(q) + 1) // 2 if above_zero(q) else line_count(q)", "return q.passes if"
+HALF, ABOVE, FEW = "(line_count(q) + 1) // 2", "of_bits(q.threshold) > 0.0", "len(q.results) < 4 * results_need(q)"
+NONE_FOUND, RESUMED = "        if not latest:\n", "line = after + 1"
+DOWN_FOUND = "        yield Found(latest[2].number, first, after, value)\n"
+DOWN_BELOW = "        if value < threshold:\n            return\n" + DOWN_FOUND
+KEPT = "    a.results = written(numbers, q.results)\n"
 CUT, START, JOINED = 'text.split(b"\\n")', "start = min(before, len(text))", 'len(b"\\n".join(pieces[first:after]))'
 PLACES, RECORDED = f"return start, start + {JOINED}", "places(q.text, event.first, event.after))\n"
 WRITTEN, EARLIER = "*record)", "dataclasses.replace(a, results=numbers, records=a.records - 1).recorded"
@@ -46,15 +52,19 @@ def moved(job, number, behind):
     return f"{number} behind {behind} in {job}", f'"{job}": {model.REFUSALS[job]}', f'"{job}": {order}'
 
 
+def needing(mode, numbers):
+    """Another need of results in one mode, where `most` records can come."""
+    return NEED, f"most = records_most(q)\n    return {numbers} if q.job == {mode!r} else RECORD_WIDTH * most"
+
+
 # what it is, what stands in model.py, what stands there instead
 WRONG = [
     ("areas of 8n+63", "8 * n + 64", "8 * n + 63"),
     ("areas of 8n+65", "8 * n + 64", "8 * n + 65"),
     ("areas of 12n+63", "12 * n + 64", "12 * n + 63"),
     ("areas of 12n+65", "12 * n + 64", "12 * n + 65"),
-    ("results of 3P", SIX_P, "3 * q.passes if"),
+    ("results of 3P", *needing("eliminate", "3 * most")),
     ("results of 6P without optimize", 'q.job == "eliminate" and q.optimize', 'q.job == "eliminate"'),
-    ("results of 6L-6", SIX_L, f"{SIX_L} - RECORD_WIDTH"),
     ("a text of 1,048,577 bytes", "len(q.text) > TEXT_MOST", "len(q.text) > TEXT_MOST + 1"),
     ("a byte of 128", "return text.isascii()", "return max(text, default=0) <= 128"),
     ("65,537 lines", "line_count(q) > LINES_MOST", "line_count(q) > LINES_MOST + 1"),
@@ -94,7 +104,6 @@ WRONG = [
     ("the later of equal texts", HIGHER, "rank(text, value) >= rank(*found)"),
     ("no best after the last pass", "        text, _ = yield from best", "        if _ == q.passes - 1:\n            return\n        text, _ = yield from best"),
     ("the first line of a range not blanked", "first <= i < after", "first < i < after"),
-    ("resumed at the range end", "line = after + 1", "line = max(after, line + 1)"),
     ("above the threshold in top-down", "value >= threshold", "value > threshold"),
     ("ends below L", "range(start, most + 1, step)", "range(start, most, step)"),
     ("starts up to L", "range(line, most, step)", "range(line, most + 1, step)"),
@@ -223,15 +232,76 @@ WRONG = [
         value = yield from scored(note, start, end, text)
 """),
     # the bytes of a range: the results
-    ("results of 4P", SIX_P, "4 * q.passes if"),
-    ("results of 5P", SIX_P, "5 * q.passes if"),
-    ("results of 6P-1", SIX_P, f"{SIX_P.removesuffix(' if')} - 1 if"),
-    ("results of 6P+1", SIX_P, f"{SIX_P.removesuffix(' if')} + 1 if"),
-    ("results of 4L", SIX_L, "4 * line_count(q)"),
-    ("results of 5L", SIX_L, "5 * line_count(q)"),
-    ("results of 6L-1", SIX_L, f"{SIX_L} - 1"),
-    ("results of 6L+1", SIX_L, f"{SIX_L} + 1"),
-    ("results of 6 for each newline", SIX_L, "RECORD_WIDTH * (line_count(q) - 1)"),
+    ("results of 4P", *needing("eliminate", "4 * most")),
+    ("results of 5P", *needing("eliminate", "5 * most")),
+    ("results of 6P-1", *needing("eliminate", "6 * most - 1")),
+    ("results of 6P+1", *needing("eliminate", "6 * most + q.optimize")),
+    *((f"top-down: results of {numbers}", *needing("down", numbers)) for numbers in ("4 * most", "5 * most", "6 * most - 1", "6 * most + 1")),
+    # ranges beside each other: how many there can be
+    *((f"top-down: results of {numbers}", *needing("down", numbers)) for numbers in ("6 * most - 6", "6 * most + 6")),
+    ("L / 2", HALVED, HALVED.replace(HALF, "line_count(q) // 2")),
+    ("(L + 2) / 2", HALVED, HALVED.replace("+ 1)", "+ 2)")),
+    ("(L + 1) / 2 + 1", HALVED, HALVED.replace("// 2", "// 2 + 1")),
+    ("(L - 1) / 2, the newlines halved", HALVED, HALVED.replace("+ 1)", "- 1)")),
+    ("(L + 2) / 3", HALVED, HALVED.replace(HALF, "(line_count(q) + 2) // 3")),
+    ("L above 0.0 too", HALVED, "line_count(q)"),
+    ("half of the numbers, not of the records", *needing("down", "3 * line_count(q) if above_zero(q) else 6 * most")),
+    ("half of the numbers of one line more", *needing("down", "3 * (line_count(q) + 1) if above_zero(q) else 6 * most")),
+    ("no last line behind a newline", HALVED, HALVED.replace(HALF, "(q.text.removesuffix(b'\\n').count(b'\\n') + 2) // 2")),
+    ("blank lines not counted", HALVED, HALVED.replace(HALF, "(sum(map(bool, lines_of(q.text, 1))) + 1) // 2 if readable(q.text, 1) else 0")),
+    ("half of the lines for one book alone", HALVED, HALVED.replace("above_zero(q)", "above_zero(q) and not q.books[1:]")),
+    ("half of the lines for two books alone", HALVED, HALVED.replace("above_zero(q)", "above_zero(q) and q.books[1:]")),
+    ("half of the lines for step 1 alone", HALVED, HALVED.replace("above_zero(q)", "above_zero(q) and q.step == 1")),
+    ("half of the lines in edition 1 alone", HALVED, HALVED.replace("above_zero(q)", "above_zero(q) and edition_of(q.books[0]) == 1")),
+    ("half of the lines where all is paid alone", HALVED, HALVED.replace("above_zero(q)", "above_zero(q) and q.budget == 2**64 - 1")),
+    ("half of the lines also where not all is paid", HALVED, HALVED.replace("above_zero(q)", "(above_zero(q) or q.budget < 2**64 - 1)")),
+    ("only room for what is recorded", FEW, f"""\
+{FEW} and len(q.results) < 4 * RECORD_WIDTH * answered(
+        dataclasses.replace(q, results=bytes(4 * results_need(q)))).records"""),
+    # ranges beside each other: above 0.0
+    ("half at 0.0 too", HALVED, HALF),
+    ("half at 0.0 alone", HALVED, HALVED.replace("if above", "if not above")),
+    ("half at -0.0 too", ABOVE, "q.threshold != 0"),
+    ("half at 0.0 too, and not at -0.0", ABOVE, "q.threshold < 2**31"),
+    ("denormals as 0.0", ABOVE, "of_bits(q.threshold) >= 2.0**-126"),
+    ("the least denormal as 0.0", ABOVE, "of_bits(q.threshold) > 2.0**-149"),
+    ("the least normal as 0.0", ABOVE, "of_bits(q.threshold) > 2.0**-126"),
+    ("half below 1.0 alone", ABOVE, "0.0 < of_bits(q.threshold) < 1.0"),
+    ("half at 1.0 alone", ABOVE, "of_bits(q.threshold) >= 1.0"),
+    ("the shallow limit above 0.0 instead", ABOVE, "of_bits(q.shallow) > 0.0"),
+    ("both limits above 0.0", ABOVE, f"{ABOVE} and of_bits(q.shallow) > 0.0"),
+    ("either limit above 0.0", ABOVE, f"{ABOVE} or of_bits(q.shallow) > 0.0"),
+    ("half where the limits differ", ABOVE, "of_bits(q.threshold) != of_bits(q.shallow)"),
+    # ranges beside each other: elimination
+    ("elimination by lines", PASSES, "return line_count(q) if"),
+    ("elimination by half of the lines", PASSES, f"return {HALF} if"),
+    ("elimination with no more than half of the lines", PASSES, f"return min(q.passes, {HALF}) if"),
+    ("elimination with no more than the lines", PASSES, "return min(q.passes, line_count(q)) if"),
+    ("elimination halved", PASSES, "return (q.passes + 1) // 2 if"),
+    ("elimination halved above 0.0", PASSES, "return ((q.passes + 1) // 2 if above_zero(q) else q.passes) if"),
+    # ranges beside each other: the refusal, and the area
+    moved("down", 10, 15),
+    moved("down", 10, 6),
+    moved("down", 10, 3),
+    moved("eliminate", 10, 15),
+    moved("down", 7, 10),
+    moved("down", 6, 10),
+    ("12 of no budget before 10", FEW, f"q.budget and {FEW}"),
+    ("more than is needed refused", FEW, FEW.replace("<", "!=")),
+    ("more than is needed above 0.0 refused", FEW, f"{FEW} or q.job == 'down' and above_zero(q) and len(q.results) > 4 * results_need(q)"),
+    ("results cleared up to the need", KEPT, "    a.results = written(numbers.ljust(4 * results_need(q), b'\\0'), q.results)\n"),
+    ("results cleared above 0.0", KEPT, KEPT + "    a.results = a.results if not above_zero(q) else numbers.ljust(len(q.results), b'\\0')\n"),
+    ("results cleared with 10", LEFT, LEFT + "        a.results = bytes(len(q.results)) if a.refusal == 10 else a.results\n"),
+    # ranges beside each other: top-down
+    ("resumed one line further", RESUMED, "line = after + 2"),
+    ("resumed a step further", RESUMED, "line = after + q.step"),
+    ("a range at the threshold left out", DOWN_BELOW, DOWN_BELOW.replace("<", "<=")),
+    ("one range alone", RESUMED, "return"),
+    ("no more than half of the lines at 0.0 too", "            a.records += 1\n", f"""\
+            if a.records == {HALF} and q.job == "down":
+                break
+            a.records += 1
+"""),
     # the bytes of a range: ruling 1, of the note as it was lent
     ("places among the normalised lines", CUT, '[line(piece.decode("utf-8"), 2).encode("utf-8") for piece in text.split(b"\\n")]'),
     ("places without the blanks at the ends of lines", CUT, '[piece.strip() for piece in text.split(b"\\n")]'),
@@ -265,7 +335,7 @@ places(
     ("end: of the first line", JOINED, JOINED.replace("first:after", "first:min(after, first + 1)")),
     ("end: a length", PLACES, f"return start, {JOINED}"),
     ("end: without the newlines between", JOINED, 'len(b"".join(pieces[first:after]))'),
-    ("start: of the line before", "before = sum(len(piece) + 1 for piece in pieces[:first])", "before = sum(len(piece) + 1 for piece in pieces[: max(0, first - 1)])"),
+    ("start: of the line before", "sum(sizes[:first])", "sum(sizes[: max(0, first - 1)])"),
     ("start: without the newlines before", "len(piece) + 1 for", "len(piece) for"),
     ("start: counted from 1", START, "start = min(before, len(text)) + 1"),
     ("start: at the newline before", START, "start = min(max(0, before - 1), len(text))"),
@@ -298,7 +368,7 @@ start += first < after and len(pieces[first]) - len(pieces[first].lstrip())
     ("n + 1 at L", START, "start = before"),
     ("n - 1 at L", START, "start = min(before, len(text) - 1) if first == len(pieces) and text else min(before, len(text))"),
     ("0 at L", START, "start = min(before, len(text)) * (first < len(pieces))"),
-    ("the last line's start at L", "pieces[:first]", "pieces[: min(first, len(pieces) - 1)]"),
+    ("the last line's start at L", "sizes[:first]", "sizes[: min(first, len(pieces) - 1)]"),
     # ruling 6, how large they are, and with 12
     ("places of 16 bits", "*places(q.text, event.first, event.after)", "*(x % 2**16 for x in places(q.text, event.first, event.after))"),
     ("no places with 12", "    a.results = written(numbers", """\
@@ -484,6 +554,31 @@ start += first < after and len(pieces[first]) - len(pieces[first].lstrip())
 ]  # fmt: skip
 
 
+# the same, of top-down alone: the records of each break what #113 promises of them
+CROWDED = [
+    ("resumed at the range end", RESUMED, "line = max(after, line + 1)"),
+    ("resumed behind the first line of the range", RESUMED, "line = first + 1"),
+    ("ranges below the threshold", DOWN_BELOW, DOWN_FOUND),
+    ("an empty range where nothing is found", NONE_FOUND, f"{NONE_FOUND}            yield Found(0, line, line, 0.0)\n"),
+    ("ranges without their last line", DOWN_FOUND, DOWN_FOUND.replace("after,", "max(first, after - 1),")),
+    ("ranges with the line behind them", DOWN_FOUND, DOWN_FOUND.replace("after,", "after + 1,")),
+    ("ranges with the line before them", DOWN_FOUND, DOWN_FOUND.replace("first,", "max(0, first - 1),")),
+    ("every range twice", DOWN_FOUND, DOWN_FOUND * 2),
+    ("the last range first", KEPT, """\
+    records = [numbers[at : at + 24] for at in range(0, len(numbers), 24)]
+    a.results = written(b"".join(records[::-1]) if q.job == "down" else numbers, q.results)
+"""),
+]  # fmt: skip
+
+
+def crowding(module, q):
+    """What a reading's own records break of it."""
+    try:
+        return rows.unkept(q, module.answered(q))
+    except Exception:  # as below
+        return []
+
+
 def answered(module, q):
     try:
         return vars(module.answered(q))
@@ -496,13 +591,19 @@ def main():
     options.add_argument("--seed", default="1", help="another seed gives other questions (default 1)")
     asked = [q for _, q, _ in rows.rows(options.parse_args().seed, rows.QUICK, False)]
     right = [answered(model, q) for q in asked]
-    lost = 0
-    for what, old, new in WRONG:
+    lost = sum(bool(crowding(model, q)) for q in asked)
+    print(f"{lost:6} rows where the model breaks what #113 promises", flush=True)
+    for what, old, new in WRONG + CROWDED:
         module = asking.reading(old, new)
         found = sum(answered(module, q) != want for q, want in zip(asked, right))
         lost += not found
         print(f"{found:6} rows find: {what}", flush=True)
-    print(f"{len(WRONG)} wrong readings, {lost} not found, by {len(asked)} rows")
+    for what, old, new in CROWDED:
+        module = asking.reading(old, new)
+        seen = sum(bool(crowding(module, q)) for q in asked)
+        lost += not seen
+        print(f"{seen:6} rows break the promise: {what}", flush=True)
+    print(f"{len(WRONG + CROWDED)} wrong readings, {lost} not found, by {len(asked)} rows")
     return 1 if lost else 0
 
 
