@@ -223,10 +223,14 @@ static bool places_right(const lent *l, size_t records) {
     }
     return true;
 }
+static size_t lines_of(const lent *l) {
+    size_t lines = 1;
+    for (size_t at = 0; at < l->len; at++) lines += l->text[at] == '\n';
+    return lines;
+}
 /* Each range has a line, between it and the next stands one at least, and all are of the text; so they are half of its lines, the odd one too, at most. */
 static bool lie_beside(const lent *l, size_t records) {
-    size_t lines = 1, from = 0;
-    for (size_t at = 0; at < l->len; at++) lines += l->text[at] == '\n';
+    size_t lines = lines_of(l), from = 0;
     for (const uint32_t *r = results; r < results + CHULTARVI_RECORD_WIDTH * records; r += CHULTARVI_RECORD_WIDTH) {
         if (r[CHULTARVI_RECORD_FIRST] < from || r[CHULTARVI_RECORD_FIRST] >= r[CHULTARVI_RECORD_AFTER] || r[CHULTARVI_RECORD_AFTER] > lines) return false;
         from = r[CHULTARVI_RECORD_AFTER] + 1;
@@ -606,10 +610,8 @@ static const placed_row placed_rows[] = {
 /* The results just as large as needed: they are answered. One element less is refused, and they stay as they were. */
 static void check_placed(const placed_row *r) {
     lent l = lend(r->note, strlen(r->note), book_a, BOOK_A);
-    size_t lines = 1;
-    for (const char *p = r->note; *p; p++) lines += *p == '\n';
     for (size_t less = 0; less < 2; less++) {
-        l.results_len = (r->down ? chultarvi_top_down_results(r->threshold, lines) : chultarvi_elimination_results(true, r->passes)) - less;
+        l.results_len = (r->down ? chultarvi_top_down_results(r->threshold, lines_of(&l)) : chultarvi_elimination_results(true, r->passes)) - less;
         chultarvi_note_scanned s =
             r->down ? top_down(&l, r->threshold, 1.0f, 1, r->budget, r->what) : eliminate(&l, r->threshold, 1.0f, true, r->passes, r->budget, r->what);
         check(s.refusal == (less ? 10 : r->refusal) && s.records == (less ? 0 : r->records), r->what);

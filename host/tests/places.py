@@ -15,8 +15,12 @@ import struct
 import subprocess
 import sys
 import tempfile
+import types
 
 ROOT = os.path.join(os.path.dirname(os.path.abspath(__file__)), "..", "..")
+sys.path.append(os.path.join(ROOT, "oracle"))  # behind this folder: each has a places.py
+import model
+
 WORDS = "alpha beta gamma delta epsilon zeta eta theta license permission granted notice".split()
 ACCENTS = "été déjà größer façon señor".split()
 # what no edition takes, at either end of a line or within it: it is mapped to nothing, to one byte, to several, or is no UTF-8
@@ -132,12 +136,10 @@ def hold_places(tally, told, raw):
 
 
 def hold_beside(tally, told, lines, words):
-    """No range is empty, they rise, and a line at least stands between one and the next; so they are half of the lines at most, the odd one too."""
-    ranges, at = told["ranges"], 0
-    for each in ranges:
-        tally.hold(at <= each["first"] < each["after"] <= lines, f"{words}, {told['note']}: {each} begins before line {at}, or has none of {lines}")
-        at = each["after"] + 1
-    tally.hold(2 * len(ranges) <= lines + 1, f"{words}, {told['note']}: {len(ranges)} ranges in {lines} lines")
+    """What #113 promises of these ranges is kept, by the second reading's words."""
+    ranges = [types.SimpleNamespace(**each) for each in told["ranges"]]
+    broken = model.broken(lines, ranges)
+    tally.hold(not broken, f"{words}, {told['note']}: of {lines} lines {told['ranges']} are not {', '.join(broken)}")
     tally.met["beside"] += len(ranges) > 1
     tally.met["half"] += len(ranges) == (lines + 1) // 2 > 1
 
