@@ -1,5 +1,6 @@
 // The scan that is charged to an allowance: over plain numbers, which every other caller takes, and lent by `&mut`. Nothing like it is in the original.
 // Assumes nothing.
+#![tactic(auto)]
 ghost use Rattle.detection_shelf.specs.Shelves.{shelf, books_of, Lends};
 ghost use Rattle.allowance.specs.Allowed.{charged, AllowedDone};
 
@@ -9,7 +10,7 @@ use rules::{Limits, Mode, Scanned};
 use scan_job::scan_lent;
 
 // What a scan answers, and what is used of the allowance after it.
-#[derive(Drop)]
+#[derive(Clone, Copy)]
 pub struct Spent {
     pub answer: Scanned,
     pub used: u64,

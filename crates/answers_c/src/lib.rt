@@ -1,5 +1,6 @@
 // The answers of the jobs as C has them: structs of plain numbers, and of a scan one length for the name and its part; and a scan's mode, which comes from C as
 // numbers. Assumes nothing.
+#![tactic(auto)]
 ghost use Rattle.std.specs.Prelude.{◌≡◌, cond, ◌≤◌};
 ghost use Rattle.rules.specs.Sizes.{name_most};
 ghost use Rattle.rules.specs.declared.Mode.TheVariants.{Elimination, TopDown};
@@ -9,7 +10,7 @@ use rules::{Bounded, Checked, Compiled, Mode, NAME_MOST, NamedText, Scanned, Sco
 
 // The number of the refusal, 0 for none; and N.
 #[repr(C)]
-#[derive(Drop)]
+#[derive(Clone, Copy)]
 pub struct BookChecked {
     pub refusal: u32,
     pub texts: u32,
@@ -26,7 +27,7 @@ pub fn checked_for_c(checked: Checked) -> BookChecked
 
 // The refusal, and the length of the table body that stands at the front of the output.
 #[repr(C)]
-#[derive(Drop)]
+#[derive(Clone, Copy)]
 pub struct TextCompiled {
     pub refusal: u32,
     pub len: usize,
@@ -43,7 +44,7 @@ pub fn compiled_for_c(compiled: Compiled) -> TextCompiled
 
 // The score, and the numbers behind it: m word pairs shared, t word pairs of both together; the score is 2m/t.
 #[repr(C)]
-#[derive(Drop)]
+#[derive(Clone, Copy)]
 pub struct ViewScored {
     pub refusal: u32,
     pub score: f32,
@@ -64,7 +65,7 @@ pub fn scored_for_c(scored: Scored) -> ViewScored
 
 // The range, and the score, m and t of its lines.
 #[repr(C)]
-#[derive(Drop)]
+#[derive(Clone, Copy)]
 pub struct BoundsFound {
     pub refusal: u32,
     pub first: u32,
@@ -92,7 +93,7 @@ pub fn bounded_for_c(bounded: Bounded) -> BoundsFound
 // The answer of every scan: the overall score with its m and t; the name that won, zero-filled, and its length; its kind, 0 where none is named; and
 // where the same bytes stand, in the second book or the first, from `at` on.
 #[repr(C)]
-#[derive(Drop)]
+#[derive(Clone, Copy)]
 pub struct NoteScanned {
     pub refusal: u32,
     pub records: u32,
@@ -131,7 +132,7 @@ pub fn scanned_for_c(s: Scanned) -> NoteScanned
 
 // The kind of a stored text, and where its licence's name stands: `len` bytes of the second book or the first, from `at` on.
 #[repr(C)]
-#[derive(Drop)]
+#[derive(Clone, Copy)]
 pub struct TextNamed {
     pub refusal: u32,
     pub kind: u32,

@@ -1,6 +1,7 @@
 // The library's face for C: the six jobs with plain types, the scan as two calls, since an enum does not cross, the scan that is charged to an allowance, and the
 // two calls on expressions. include/chultarvi.h describes them. Assumes of a C caller that what it lends to be written, slices and the allowance, overlaps
 // nothing else of the same call, and that the allowance is not null.
+#![tactic(auto)]
 ghost use Rattle.std.specs.Prelude.{◌≡◌, cond, [], ◌∷◌};
 ghost use Rattle.rules.specs.Search.{view};
 ghost use Rattle.rules.specs.Book.{edition};
@@ -237,7 +238,7 @@ pub extern "C" fn chultarvi_top_down_both<'a>(
 }
 
 // What the scan below answers, and what is used of the allowance after it.
-#[derive(Drop)]
+#[derive(Clone, Copy)]
 pub struct NoteSpent {
     pub answer: NoteScanned,
     pub used: u64,

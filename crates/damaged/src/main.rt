@@ -5,6 +5,7 @@
 // The expected signs, in stdout, are not this code's: they are the definition `check` of the crate rules, computed by antt. For each list
 // of books below (all cuts; for each place all 256 values; the made books) one equation `signs of the books = a list of numbers` was
 // stated, the books and the numbers written out, and antt accepted each by `refl` with every definition unfolded. Assumes nothing.
+#![tactic(auto)]
 ghost use Rattle.std.specs.Prelude.{◌<◌};
 
 mod limit;

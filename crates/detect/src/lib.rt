@@ -1,6 +1,7 @@
 // The best stored text of a view: all of two books in order, a running best, every scoring charged; each only as far as it can beat the best so far.
 // From detection/detect.rs of spdx 0.13.6 (Copyright 2018 Amazon.com, Inc. or its affiliates. All Rights Reserved.
 // SPDX-License-Identifier: Apache-2.0), changed: the sort in `analyze` is a running best. Assumes nothing.
+#![tactic(auto)]
 ghost use Rattle.std.specs.Prelude.{◌≤◌};
 ghost use Rattle.slices.specs.Classes.{Classes};
 ghost use Rattle.detection_shelf.specs.Shelves.{shelf, CountsOf};
@@ -15,7 +16,7 @@ use license_views::{Viewed, view_table};
 use rules::View;
 
 // The budget is out, or the best and the scorings left.
-#[derive(Drop)]
+#[derive(Clone, Copy)]
 pub enum Chosen {
     Out,
     Found(Best, Scorings),

@@ -1,6 +1,7 @@
 // A stored text and what it scores; when the next one is better, and what it has to beat.
 // From detection/detect.rs of spdx 0.13.6 (Copyright 2018 Amazon.com, Inc. or its affiliates. All Rights Reserved.
 // SPDX-License-Identifier: Apache-2.0), changed: the sort in `analyze` is a running best. Assumes nothing.
+#![tactic(auto)]
 ghost use Rattle.std.specs.Prelude.{◌≡◌, false};
 ghost use Rattle.rules.specs.Table.{nought};
 ghost use Rattle.detect_best.specs.Beats.{Wins, to_beat};
@@ -11,7 +12,7 @@ use floors::Floor;
 use rules::Value;
 
 // A stored text and what it scores. Kind 0 is no text yet, which any text beats.
-#[derive(Drop)]
+#[derive(Clone, Copy)]
 pub struct Best {
     pub text: Shelved,
     pub value: Value,

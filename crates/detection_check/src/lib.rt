@@ -1,6 +1,7 @@
 // The job `check`: one walk over the book, record by record, which keeps the kind before, the name above and the number of texts.
 // From detection.rs of spdx 0.13.6 (Copyright 2018 Amazon.com, Inc. or its affiliates. All Rights Reserved.
 // SPDX-License-Identifier: Apache-2.0), changed: the store is a book of records. Assumes nothing.
+#![tactic(auto)]
 ghost use Rattle.std.specs.Prelude.{◌≡◌, not, cond, ◌+◌, ◌≤◌, ◌<◌, eqb, length, take, drop};
 ghost use Rattle.rules.specs.Sizes.{stored_most};
 ghost use Rattle.rules.specs.Book.{stored_kind as is_stored, follows as may_follow, sound_body};
@@ -17,7 +18,7 @@ use slices_order::above;
 
 // Before the record at `at`: the kind of the record before (0 at the start), the name that it stands under, book[name..past],
 // how many stored texts came before, and whether words may be UTF-8.
-#[derive(Drop)]
+#[derive(Clone, Copy)]
 pub struct Walk {
     pub at: usize,
     pub kind: u16,
@@ -27,7 +28,7 @@ pub struct Walk {
     pub wide: bool,
 }
 
-#[derive(Drop)]
+#[derive(Clone, Copy)]
 pub enum Step {
     Next(Walk),
     Done(Checked),

@@ -1,6 +1,7 @@
 // Two lent books read as one row of stored texts: those of the first, then those of the second, which count on. Either may be empty.
 // From detection.rs of spdx 0.13.6 (Copyright 2018 Amazon.com, Inc. or its affiliates. All Rights Reserved.
 // SPDX-License-Identifier: Apache-2.0), changed: the store is two books of records. Assumes nothing.
+#![tactic(auto)]
 ghost use Rattle.std.specs.Prelude.{◌≡◌, ◌+◌, ◌*◌, ◌<◌};
 ghost use Rattle.rules.specs.Sizes.{stored_most};
 ghost use Rattle.detection_shelf.specs.Shelves.{shelf, CountsOf, BeforeOn, Stands, body_in, first_spot, after_on};
@@ -9,14 +10,14 @@ use detection_part::cut;
 use detection_texts::texts::{Place, Text, after_text, first_place, next_text, stored_at};
 
 // How many texts the first book stores, and how many both do.
-#[derive(Drop)]
+#[derive(Clone, Copy)]
 pub struct Counts {
     pub first: u32,
     pub all: u32,
 }
 
 // A stored text: of which book, its number over both, and what it is in its book, by its number there.
-#[derive(Drop)]
+#[derive(Clone, Copy)]
 pub struct Shelved {
     pub second: bool,
     pub number: u32,
@@ -24,7 +25,7 @@ pub struct Shelved {
 }
 
 // Before stored text `number`: in which book, and where.
-#[derive(Drop)]
+#[derive(Clone, Copy)]
 pub struct Spot {
     pub second: bool,
     pub number: u32,

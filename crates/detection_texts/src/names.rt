@@ -10,7 +10,7 @@ use rules::NAME_MOST;
 use slices::copy::put;
 
 // NAME_MOST bytes, zero-filled, and the length.
-#[derive(Drop)]
+#[derive(Clone, Copy)]
 pub struct Name {
     pub bytes: [u8; NAME_MOST],
     pub len: u32,

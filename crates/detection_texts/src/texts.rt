@@ -12,7 +12,7 @@ use records::pieces::RecordAt;
 use records::reader::{moved, next, reader_at};
 
 // Before stored text `number`: the next record's place, and the name that it stands under, book[name..past].
-#[derive(Drop)]
+#[derive(Clone, Copy)]
 pub struct Place {
     pub number: u32,
     pub at: usize,
@@ -21,7 +21,7 @@ pub struct Place {
 }
 
 // A stored text: its number and its kind, its name book[name..past] and its table book[body..end].
-#[derive(Drop)]
+#[derive(Clone, Copy)]
 pub struct Text {
     pub number: u32,
     pub kind: u16,
@@ -32,7 +32,7 @@ pub struct Text {
 }
 
 // On the way to the next stored text: before the record at place.at, or, once it no longer goes on, with the text.
-#[derive(Drop)]
+#[derive(Clone, Copy)]
 pub struct Way {
     pub going: bool,
     pub place: Place,

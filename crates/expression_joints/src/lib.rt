@@ -1,5 +1,6 @@
 // What stands between the operands of an expression and round them: operators and parentheses, and the value that is told of what is read.
 // Assumes nothing.
+#![tactic(auto)]
 ghost use Rattle.std.specs.Prelude.{◌≡◌, Bool, true, not, ◌&&◌, ◌||◌, cond, false, List, [], ◌∷◌, ◌++◌, ℕ, ◌+◌, ◌≤◌, length, drop};
 ghost use Rattle.expression.specs.Reading.{anded, ored};
 ghost use Rattle.expression.specs.Writing.{wrap as wrapped};
@@ -11,7 +12,7 @@ use expression_output::{put_word, wrap};
 use expression_parts::parts::Went;
 
 // What is told of a tree that is read: where the text goes on, whether the list satisfies it, whether it is an OR, and where it ends in the output.
-#[derive(Drop)]
+#[derive(Clone, Copy)]
 pub struct Value {
     pub next: usize,
     pub holds: bool,
@@ -20,7 +21,7 @@ pub struct Value {
 }
 
 // An operator is read: where the text and the output go on; or the place of the first byte that cannot go on.
-#[derive(Drop)]
+#[derive(Clone, Copy)]
 pub enum Joint {
     On(usize, usize),
     Off(usize),

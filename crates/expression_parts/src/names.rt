@@ -7,7 +7,7 @@ ghost use Rattle.expression_parts.specs.Simple.{kind_number, after_document, sim
 use expression_bytes::{ids, letters, stands};
 
 // How many bytes its identifier has, and whether + follows; or how many bytes can go on to one.
-#[derive(Drop)]
+#[derive(Clone, Copy)]
 pub enum Simple {
     Of(usize, bool),
     Stuck(usize),

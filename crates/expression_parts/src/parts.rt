@@ -9,7 +9,7 @@ use expression_bytes::{blanks, ids, letters, stands};
 
 // A part of a text: the place and length of its identifier, whether + follows, the same of its exception (of no bytes: none), and where the text
 // goes on behind it and its blanks.
-#[derive(Drop)]
+#[derive(Clone, Copy)]
 pub struct PartAt {
     pub at: usize,
     pub n: usize,
@@ -20,14 +20,14 @@ pub struct PartAt {
 }
 
 // A part, or the place of the first byte that cannot go on.
-#[derive(Drop)]
+#[derive(Clone, Copy)]
 pub enum Got {
     Part(PartAt),
     Bad(usize),
 }
 
 // Where the text goes on, or the place of the first byte that cannot.
-#[derive(Drop)]
+#[derive(Clone, Copy)]
 pub enum Went {
     At(usize),
     Bad(usize),

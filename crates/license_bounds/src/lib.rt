@@ -1,6 +1,7 @@
 // The bounds search: each index is a view whose one bound moves, and every scoring is charged.
 // From detection/license.rs of spdx 0.13.6 (Copyright 2018 Amazon.com, Inc. or its affiliates. All Rights Reserved.
 // SPDX-License-Identifier: Apache-2.0), changed. Assumes nothing.
+#![tactic(auto)]
 ghost use Rattle.std.specs.Prelude.{◌≡◌, ◌+◌, ◌-◌, ◌≤◌, ◌<◌};
 ghost use Rattle.rules.specs.Search.{higher, sweep_from, sweep, search};
 ghost use Rattle.preproc_table.specs.Entries.{lines_at};
@@ -12,21 +13,21 @@ use license_views::view_table;
 use rules::{Bounds, Index, View};
 
 // What a search that charges each scoring yields: the budget is out, or the index found and the scorings left.
-#[derive(Drop)]
+#[derive(Clone, Copy)]
 pub enum Searched {
     Out,
     Found(Index, Scorings),
 }
 
 // The same of bounds.
-#[derive(Drop)]
+#[derive(Clone, Copy)]
 pub enum Ranged {
     Out,
     Found(Bounds, Scorings),
 }
 
 // A search over one bound of a view: the note's bytes and lines, which bound moves, and where the other stands.
-#[derive(Drop)]
+#[derive(Clone, Copy)]
 pub struct Task {
     pub n: usize,
     pub lines: usize,

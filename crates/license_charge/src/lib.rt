@@ -1,6 +1,7 @@
 // The scorings left of a budget, and the one function that scores: it charges.
 // From detection/license.rs of spdx 0.13.6 (Copyright 2018 Amazon.com, Inc. or its affiliates. All Rights Reserved.
 // SPDX-License-Identifier: Apache-2.0), changed: `match_score`. Assumes nothing.
+#![tactic(auto)]
 ghost use Rattle.std.specs.Prelude.{◌≡◌, true, ◌-◌, ◌<◌};
 ghost use Rattle.rules.specs.Table.{value_of};
 ghost use Rattle.rules.specs.Book.{shaped, entries_of};
@@ -18,7 +19,7 @@ use rules::Value;
 
 // The scorings that a budget still pays. Its number is private, so no code elsewhere counts: one comes from `scorings_of`, where a job begins, or
 // from `charge`, one less. That a function hands on what its last scoring left, and not an older one that it still holds, is in its contract.
-#[derive(Drop)]
+#[derive(Clone, Copy)]
 pub struct Scorings {
     count: u64,
 }
@@ -45,7 +46,7 @@ pub fn count_of(left: Scorings) -> u64
 }
 
 // One scoring: what it yields, and the scorings left.
-#[derive(Drop)]
+#[derive(Clone, Copy)]
 pub struct Charged {
     pub value: Value,
     pub left: Scorings,

@@ -1,6 +1,7 @@
 // A view's table in the lent areas.
 // From detection/license.rs of spdx 0.13.6 (Copyright 2018 Amazon.com, Inc. or its affiliates. All Rights Reserved.
 // SPDX-License-Identifier: Apache-2.0), changed: `with_view`. Assumes nothing.
+#![tactic(auto)]
 ghost use Rattle.std.specs.Prelude.{◌≡◌, ◌≤◌};
 ghost use Rattle.rules.specs.Table.{view_table};
 ghost use Rattle.rules.specs.Search.{viewed};
@@ -18,7 +19,7 @@ use rules::View;
 use slices::ends::ByteSpan;
 
 // A view's processed text, area[start..end], and its table's size.
-#[derive(Drop)]
+#[derive(Clone, Copy)]
 pub struct Viewed {
     pub start: usize,
     pub end: usize,

@@ -1,6 +1,7 @@
 // Where a bigram of a text stands to one of a stored table, byte by byte.
 // From detection/ngram.rs of spdx 0.13.6 (Copyright 2018 Amazon.com, Inc. or its affiliates. All Rights Reserved.
 // SPDX-License-Identifier: Apache-2.0), changed: the order that its map of strings does not need. Assumes nothing.
+#![tactic(auto)]
 ghost use Rattle.std.specs.Prelude.{◌≡◌, length, drop};
 ghost use Prim.Native.Nat.{◌≤◌, compare};
 ghost use Rattle.std.proofs.Math.Seq.{slice};
@@ -11,7 +12,7 @@ ghost use Rattle.ngram_order.specs.Sides.{side_of};
 use sort_order::{ends_part, marks_left};
 
 // Where one byte string stands to another.
-#[derive(Drop)]
+#[derive(Clone, Copy)]
 pub enum Side {
     Before,
     Same,

@@ -1,6 +1,7 @@
 // The table of a processed text: where its bigrams start, sorted and counted in a lent slice of numbers.
 // From detection/ngram.rs of spdx 0.13.6 (Copyright 2018 Amazon.com, Inc. or its affiliates. All Rights Reserved.
 // SPDX-License-Identifier: Apache-2.0), changed. Assumes nothing: any text has bigrams, split at byte 32 alone.
+#![tactic(auto)]
 ghost use Rattle.std.specs.Prelude.{◌≡◌, ◌+◌, ◌≤◌, ◌<◌, length, take, drop};
 ghost use Rattle.rules.specs.Table as words;
 ghost use Rattle.sort_tally.specs.Group.{parts_at};
@@ -9,7 +10,7 @@ ghost use Rattle.ngram_table.specs.Tables.{table_at};
 use sort_tally::tally_parts;
 
 // How many bigrams a table counts, and how many of them are distinct.
-#[derive(Drop)]
+#[derive(Clone, Copy)]
 pub struct TableSize {
     pub total: usize,
     pub distinct: usize,

@@ -1,6 +1,7 @@
 // Which of the listed prefixes is stripped: the one that was seen most often, first seen on ties, where enough lines have it.
 // From detection/preproc.rs of spdx 0.13.6 (Copyright 2018-2019 Amazon.com, Inc. or its affiliates. All Rights Reserved.
 // SPDX-License-Identifier: Apache-2.0), changed: its map is a sorted table, and ties go to the first seen. Assumes nothing.
+#![tactic(auto)]
 ghost use Rattle.std.specs.Prelude.{◌≡◌, true, false, List, ℕ, ◌+◌, ◌≤◌, ◌<◌, length, take, drop, get_or};
 ghost use Rattle.std.proofs.Math.Seq.{slice};
 ghost use Rattle.rules.specs.Prefix.{reached};
@@ -17,7 +18,7 @@ use sort_parts::sort_parts;
 use sort_tally::group_parts;
 
 // What is stripped: nothing, or the bytes from a start up to an end.
-#[derive(Drop)]
+#[derive(Clone, Copy)]
 pub enum Common {
     Nothing,
     Prefix(usize, usize),

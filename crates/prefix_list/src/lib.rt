@@ -1,6 +1,7 @@
 // The common prefixes of a view's adjacent lines, listed behind all lines; and where in the lines one was taken from.
 // From detection/preproc.rs of spdx 0.13.6 (Copyright 2018-2019 Amazon.com, Inc. or its affiliates. All Rights Reserved.
 // SPDX-License-Identifier: Apache-2.0), changed: its strings are places in lent areas. Assumes nothing.
+#![tactic(auto)]
 ghost use Rattle.std.specs.Prelude.{◌≡◌, ◌+◌, ◌*◌, ◌-◌, ◌≤◌, ◌<◌, length, take, [], ◌∷◌, ◌++◌};
 ghost use Rattle.std.proofs.Math.Seq.{slice};
 ghost use Rattle.rules.specs.Prefix.{prefixes};
@@ -50,7 +51,7 @@ pub fn home(
 }
 
 // How the list stands: k prefixes, up to the byte `end` of the area.
-#[derive(Drop)]
+#[derive(Clone, Copy)]
 pub struct Listed {
     pub k: usize,
     pub end: usize,

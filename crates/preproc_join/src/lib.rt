@@ -2,6 +2,7 @@
 // From detection/preproc.rs and license.rs of spdx 0.13.6 (Copyright 2018-2019 Amazon.com, Inc. or its affiliates. All Rights Reserved.
 // SPDX-License-Identifier: Apache-2.0), changed: its strings are places in one lent area. Assumes that the lent table is that of the
 // classes.
+#![tactic(auto)]
 ghost use Rattle.std.specs.Prelude.{◌+◌, ◌*◌, ◌≤◌, ◌<◌, length};
 ghost use Rattle.preproc_table.specs.Entries.{start_at, end_at};
 ghost use Rattle.rules.specs.Bytes.{join};
@@ -15,7 +16,7 @@ use slices::ends::{ByteSpan, bare};
 use slices_order::starts_with;
 
 // Whether a prefix is to be stripped, and where its bytes stand.
-#[derive(Drop)]
+#[derive(Clone, Copy)]
 pub struct Prefix {
     pub strip: bool,
     pub at: usize,

@@ -1,6 +1,7 @@
 // Passes over code points by their class: some are dropped, others kept, and runs cut short. Each is one walk that writes no faster than it reads.
 // From detection/preproc.rs of spdx 0.13.6 (Copyright 2018-2019 Amazon.com, Inc. or its affiliates. All Rights Reserved.
 // SPDX-License-Identifier: Apache-2.0), changed: its patterns, as walks over lent memory. Assumes nothing.
+#![tactic(auto)]
 ghost use Rattle.std.specs.Prelude.{false, not, ◌≤◌, length, take};
 ghost use Rattle.lists.specs.Wrote.{Wrote, InFront};
 ghost use Rattle.rules.specs.Bytes.{keep, runs};

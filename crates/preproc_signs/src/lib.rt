@@ -1,6 +1,7 @@
 // Line passes 4 and 5 in one walk: each run of gaps, quotes, dashes, opening and closing signs and underscores becomes one byte.
 // From detection/preproc.rs of spdx 0.13.6 (Copyright 2018-2019 Amazon.com, Inc. or its affiliates. All Rights Reserved.
 // SPDX-License-Identifier: Apache-2.0), changed: six patterns, as one walk over lent memory. Assumes nothing.
+#![tactic(auto)]
 ghost use Rattle.std.specs.Prelude.{◌≡◌, false, ◌≤◌, length, take, get_or};
 ghost use Rattle.lists.specs.Wrote.{InFront};
 ghost use Rattle.rules.specs.Bytes.{runs};

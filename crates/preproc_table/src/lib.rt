@@ -1,6 +1,7 @@
 // The line table: two numbers for each line, where it starts and where it ends in the byte area; and lines made blank. Only these functions touch its form.
 // From detection/license.rs of spdx 0.13.6 (Copyright 2018-2019 Amazon.com, Inc. or its affiliates. All Rights Reserved.
 // SPDX-License-Identifier: Apache-2.0), changed: its vector of strings. Assumes nothing.
+#![tactic(auto)]
 ghost use Rattle.std.specs.Prelude.{◌≡◌, ◌+◌, ◌*◌, ◌<◌, ◌≤◌, ◌^◌, length};
 ghost use Rattle.preproc_table.specs.Entries.{table_end, view_start, start_at, end_at, entry_set, blanked, Blanked};
 

@@ -1,6 +1,7 @@
 // The test of a text: too long, not ASCII or, in edition 3, not UTF-8 up to U+00FF, too many lines; and its lines, counted on the same walk.
 // From detection/preproc.rs of spdx 0.13.6 (Copyright 2018-2019 Amazon.com, Inc. or its affiliates. All Rights Reserved.
 // SPDX-License-Identifier: Apache-2.0), changed: its passes take any text. Assumes nothing.
+#![tactic(auto)]
 ghost use Rattle.std.specs.Prelude.{◌≡◌, ◌&&◌, drop};
 ghost use Rattle.rules.specs.Points.{opens};
 ghost use Rattle.preproc_test.specs.Counts.{seconds, taken_lines, AsTested};
@@ -9,7 +10,7 @@ use points::read::{is_lead, is_second};
 use rules::{EDITION_WIDE, LINES_MOST, TEXT_MOST};
 
 // The refusal that comes first, 0 for none; and the number of lines, 0 where the text is refused.
-#[derive(Drop)]
+#[derive(Clone, Copy)]
 pub struct Tested {
     pub refusal: u32,
     pub lines: usize,

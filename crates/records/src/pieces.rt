@@ -7,7 +7,7 @@ ghost use Rattle.records.specs.Places.{form_of, framed, at_of, entry_framed};
 use crate::numbers::{read_u16, read_u32};
 
 // Nothing; a whole piece, by its body's start and length; or one that breaks off.
-#[derive(Drop)]
+#[derive(Clone, Copy)]
 pub enum PieceAt {
     End,
     Whole(usize, usize),
@@ -15,7 +15,7 @@ pub enum PieceAt {
 }
 
 // A record: its kind, its body's start and length.
-#[derive(Drop)]
+#[derive(Clone, Copy)]
 pub enum RecordAt {
     End,
     Whole(u16, usize, usize),
@@ -23,7 +23,7 @@ pub enum RecordAt {
 }
 
 // A table's entry: its count, its bytes' start and length.
-#[derive(Drop)]
+#[derive(Clone, Copy)]
 pub enum EntryAt {
     End,
     Whole(u32, usize, usize),

@@ -7,7 +7,7 @@ ghost use Rattle.records.specs.Places.{at_of};
 
 use crate::pieces::{RecordAt, record_at};
 
-#[derive(Drop)]
+#[derive(Clone, Copy)]
 pub struct Reader<'a> {
     pub book: &'a [u8],
     pub at: usize,

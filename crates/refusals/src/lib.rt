@@ -1,6 +1,7 @@
 // What a job refuses before any work, the first that applies in the rules' order: of lent books, of compile, of score and bounds, and of scan.
 // Added to spdx 0.13.6 (detection/scan.rs, Copyright 2018 Amazon.com, Inc. or its affiliates. All Rights Reserved.
 // SPDX-License-Identifier: Apache-2.0), which refuses nothing. Assumes nothing.
+#![tactic(auto)]
 ghost use Rattle.std.specs.Prelude.{◌≡◌, false, []};
 ghost use Rattle.rules.specs.Book.{differ};
 ghost use Rattle.rules.specs.Jobs.{CheckDone};
@@ -16,7 +17,7 @@ use refusals_rows::{refuse_compile, refuse_scan, refuse_view};
 use rules::{Checked, Limits, Mode, View};
 
 // What is refused, 0 for nothing; and where nothing is, L and N, with the first book's.
-#[derive(Drop)]
+#[derive(Clone, Copy)]
 pub struct Admitted {
     pub refusal: u32,
     pub lines: usize,
@@ -24,7 +25,7 @@ pub struct Admitted {
 }
 
 // What is refused of the lent books, 0 for nothing; and where nothing is, how many texts they store.
-#[derive(Drop)]
+#[derive(Clone, Copy)]
 pub struct BooksAdmitted {
     pub refusal: u32,
     pub texts: Counts,

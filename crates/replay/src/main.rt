@@ -1,6 +1,7 @@
 // Answers recorded questions as the original does (oracle/README.md): its input holds the questions, and what it must write the original's own
 // answers. Each is answered by the proved functions; of a text 2,048 bytes are read, and any other line gets no answer.
 // Assumes nothing but the C library's read and write.
+#![tactic(auto)]
 ghost use Rattle.std.specs.Prelude.{◌≤◌};
 
 mod areas;

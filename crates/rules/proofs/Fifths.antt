@@ -26,12 +26,12 @@ eighty-is : of_bits binary32 0x3f4ccccd ≡ eighty
 unfolding of_bits
 eighty-is = refl
 
-to_unsigned : (x : Float) → T (positive x) → to_unsigned 64 x ≡ min (num x / den x) (2 ^ 64 - 1)
+to_unsigned_lem : (x : Float) → T (positive x) → to_unsigned 64 x ≡ min (num x / den x) (2 ^ 64 - 1)
 unfolding to_unsigned
-to_unsigned nan p = absurd p
-to_unsigned (inf s) p = absurd p
-to_unsigned (fin true m e) p = absurd p
-to_unsigned (fin false m e) p = refl
+to_unsigned_lem nan p = absurd p
+to_unsigned_lem (inf s) p = absurd p
+to_unsigned_lem (fin true m e) p = absurd p
+to_unsigned_lem (fin false m e) p = refl
 
 cut : (N D q : ℕ) → 0 < D → q * D ≤ N → N * 256 ≤ (256 * q + 255) * D → N / D ≡ q
 cut N D q P lo hi =
@@ -83,7 +83,7 @@ truncated L P h =
           let pq = positive_of_value (R q 1) q 1 lv Q in
           rw (mul-one (num x)) at (values_of_le (R q 1) x q 1 (num x) (den x) pq px lv (own_value x px) (low-q L P h))
     ] in
-    to_unsigned x px ∙ ap (λ (z : ℕ). min z (2 ^ 64 - 1)) (cut (num x) (den x) q (den_pos x) lo hi) ∙ under q (omega arith)
+    to_unsigned_lem x px ∙ ap (λ (z : ℕ). min z (2 ^ 64 - 1)) (cut (num x) (den x) q (den_pos x) lo hi) ∙ under q (omega arith)
   where
     under : (q : ℕ) → q ≤ lines_most → min q (2 ^ 64 - 1) ≡ q
     under q h = omega arith

@@ -1,6 +1,7 @@
 // The types that the definitions in specs/ and the code share: a scan's settings, what a scoring, a search and bounds yield, and the six answers.
 // From detection/scan.rs of spdx 0.13.6 (Copyright 2018 Amazon.com, Inc. or its affiliates. All Rights Reserved.
 // SPDX-License-Identifier: Apache-2.0), changed. Assumes nothing.
+#![tactic(auto)]
 
 // The rules' numbers, as specs/Sizes.antt has them. A text: its bytes and its lines.
 pub const TEXT_MOST: usize = 1048576;
@@ -35,21 +36,21 @@ pub const AREA_SPARE: usize = 64;
 pub const RECORD_WIDTH: usize = 6;
 
 // The two limits of a scan. They travel together, by value.
-#[derive(Drop)]
+#[derive(Clone, Copy)]
 pub struct Limits {
     pub threshold: f32,
     pub shallow: f32,
 }
 
 // How to scan: elimination, with optimize or not and at most so many passes; or top-down, with its step.
-#[derive(Drop)]
+#[derive(Clone, Copy)]
 pub enum Mode {
     Elimination(bool, u16),
     TopDown(u64),
 }
 
 // What a scoring yields: the score, m and t.
-#[derive(Drop)]
+#[derive(Clone, Copy)]
 pub struct Value {
     pub score: f32,
     pub m: u32,
@@ -57,21 +58,21 @@ pub struct Value {
 }
 
 // The lines from `start` up to `end`, which is not among them.
-#[derive(Drop)]
+#[derive(Clone, Copy)]
 pub struct View {
     pub start: usize,
     pub end: usize,
 }
 
 // An index that a search scored, and what it found there.
-#[derive(Drop)]
+#[derive(Clone, Copy)]
 pub struct Index {
     pub at: usize,
     pub value: Value,
 }
 
 // A range of lines, from `first` up to `after`, and what it scores.
-#[derive(Drop)]
+#[derive(Clone, Copy)]
 pub struct Bounds {
     pub first: usize,
     pub after: usize,
@@ -79,21 +80,21 @@ pub struct Bounds {
 }
 
 // The answer to `check a book`. A refusal is the rules' number in every answer, and 0 is none.
-#[derive(Drop)]
+#[derive(Clone, Copy)]
 pub struct Checked {
     pub refusal: u32,
     pub texts: u32,
 }
 
 // The answer to `compile a text`: the length of its table body.
-#[derive(Drop)]
+#[derive(Clone, Copy)]
 pub struct Compiled {
     pub refusal: u32,
     pub len: usize,
 }
 
 // The answer to `score a view`: the score, m and t.
-#[derive(Drop)]
+#[derive(Clone, Copy)]
 pub struct Scored {
     pub refusal: u32,
     pub score: f32,
@@ -102,7 +103,7 @@ pub struct Scored {
 }
 
 // The answer to `find bounds`: first line, line after last, what these lines score, and the count of scorings.
-#[derive(Drop)]
+#[derive(Clone, Copy)]
 pub struct Bounded {
     pub refusal: u32,
     pub first: u32,
@@ -114,7 +115,7 @@ pub struct Bounded {
 }
 
 // Where a name stands: in the first or the second of the lent books, from which byte on, and how many bytes. No name: none, at the first's start.
-#[derive(Drop)]
+#[derive(Clone, Copy)]
 pub struct Named {
     pub second: bool,
     pub at: usize,
@@ -123,7 +124,7 @@ pub struct Named {
 
 // The answer to `scan`: the licence's name, zero-filled, and its length; the kind that won, 0 where none is named;
 // the overall score with its m and t, the count of scorings and the number of records; and where the name stands in the lent books.
-#[derive(Drop)]
+#[derive(Clone, Copy)]
 pub struct Scanned {
     pub refusal: u32,
     pub name: [u8; NAME_MOST],
@@ -138,7 +139,7 @@ pub struct Scanned {
 }
 
 // The answer to `name a stored text`: its kind, and where its licence's name stands.
-#[derive(Drop)]
+#[derive(Clone, Copy)]
 pub struct NamedText {
     pub refusal: u32,
     pub kind: u32,

@@ -1,6 +1,7 @@
 // The answer of the job `scan`: the licence that is named, where its name stands, its kind, and the numbers of the run.
 // From detection/scan.rs of spdx 0.13.6 (Copyright 2018 Amazon.com, Inc. or its affiliates. All Rights Reserved.
 // SPDX-License-Identifier: Apache-2.0), changed: `ScanResult`, with refusals and a budget. Assumes nothing.
+#![tactic(auto)]
 ghost use Rattle.std.specs.Prelude.{◌≡◌, cond, ◌≤◌, length, replicate};
 ghost use Rattle.rules.specs.Sizes.{name_most};
 ghost use Rattle.detection_shelf.specs.Shelves.{shelf};

@@ -1,6 +1,7 @@
 // Elimination: the best stored text of the whole note; then, pass by pass, its bounds, a record, the lines in range made blank, the best again.
 // From detection/scan.rs of spdx 0.13.6 (Copyright 2018 Amazon.com, Inc. or its affiliates. All Rights Reserved.
 // SPDX-License-Identifier: Apache-2.0), changed: the mode `Elimination`, with every scoring charged. Assumes nothing.
+#![tactic(auto)]
 ghost use Rattle.std.specs.Prelude.{◌≤◌, length};
 ghost use Rattle.rules.specs.Sizes.{text_most};
 ghost use Rattle.rules.specs.Scan as rules;
@@ -101,7 +102,7 @@ pub fn each_pass<'a>(
 }
 
 // The best text of a note, and how the passes over it ended.
-#[derive(Drop)]
+#[derive(Clone, Copy)]
 pub struct Outcome {
     pub best: Best,
     pub run: Run,

@@ -1,6 +1,7 @@
 // Where the lines of a range stand in the note, in bytes, and a record of the range with these places in the results area.
 // From detection/scan.rs of spdx 0.13.6 (Copyright 2018 Amazon.com, Inc. or its affiliates. All Rights Reserved.
 // SPDX-License-Identifier: Apache-2.0), changed: its vector of matches is a lent area of numbers, and has places (added). Assumes nothing.
+#![tactic(auto)]
 ghost use Rattle.std.specs.Prelude.{◌≡◌, cond, [], ◌∷◌, ◌++◌, ◌+◌, ◌*◌, ◌≤◌, ◌<◌, T, length, take, drop};
 ghost use Rattle.rules.specs.Bytes.{newline};
 ghost use Rattle.rules.specs.Lines.{line_start, range_end};
@@ -12,14 +13,14 @@ use rules::{Bounds, RECORD_WIDTH};
 use slices::lead::line_len;
 
 // A line of the note, and the byte where it starts.
-#[derive(Drop)]
+#[derive(Clone, Copy)]
 pub struct Mark {
     pub line: usize,
     pub at: usize,
 }
 
 // Where a range starts and where it ends.
-#[derive(Drop)]
+#[derive(Clone, Copy)]
 struct Places {
     start: usize,
     end: usize,

@@ -1,6 +1,7 @@
 // What both scans work on, how they end, and what they do with a stored text that they have found: its bounds.
 // From detection/scan.rs of spdx 0.13.6 (Copyright 2018 Amazon.com, Inc. or its affiliates. All Rights Reserved.
 // SPDX-License-Identifier: Apache-2.0), changed: its matches are counted. Assumes nothing.
+#![tactic(auto)]
 ghost use Rattle.std.specs.Prelude.{◌≡◌, ◌≤◌};
 ghost use Rattle.std.proofs.Math.Option.{none, some};
 ghost use Rattle.rules.specs.Search.{view};
@@ -13,7 +14,7 @@ use license_charge::{Scorings, count_of};
 use rules::{Limits, View};
 
 // What a scan works on: the note's bytes and lines, how many texts the books store, and the limits.
-#[derive(Drop)]
+#[derive(Clone, Copy)]
 pub struct Scope {
     pub n: usize,
     pub lines: usize,
@@ -22,7 +23,7 @@ pub struct Scope {
 }
 
 // How a scan ended: whether the budget was out, how many ranges are recorded, and the scorings left, 0 where it was out.
-#[derive(Drop)]
+#[derive(Clone, Copy)]
 pub struct Run {
     pub out: bool,
     pub records: u32,

@@ -1,6 +1,7 @@
 // Top-down: from line c on, the latest view that reaches the threshold is bounded and recorded, and c goes on behind its last line.
 // From detection/scan.rs of spdx 0.13.6 (Copyright 2018 Amazon.com, Inc. or its affiliates. All Rights Reserved.
 // SPDX-License-Identifier: Apache-2.0), changed: the mode `TopDown`, with every scoring charged. Assumes nothing.
+#![tactic(auto)]
 ghost use Rattle.std.specs.Prelude.{◌≤◌, ◌<◌, length};
 ghost use Rattle.rules.specs.Sizes.{text_most};
 ghost use Rattle.rules.specs.Scan as rules;
@@ -21,7 +22,7 @@ use scan_view::{Latest, Walked};
 use scan_views::walk_starts;
 
 // What a round finds: the budget is out; nothing; or a text and its range. With the scorings left.
-#[derive(Drop)]
+#[derive(Clone, Copy)]
 pub enum Contained {
     Out,
     Nothing(Scorings),

@@ -1,6 +1,7 @@
 // Top-down's walk at one view: the best text of it, and what the latest view that reached the threshold then is.
 // From detection/scan.rs of spdx 0.13.6 (Copyright 2018 Amazon.com, Inc. or its affiliates. All Rights Reserved.
 // SPDX-License-Identifier: Apache-2.0), changed: the inner loop's body of `topdown_find_contained_license`, with every scoring charged. Assumes nothing.
+#![tactic(auto)]
 ghost use Rattle.std.specs.Prelude.{◌≡◌, [], ◌∷◌, ◌≤◌};
 ghost use Rattle.detection_shelf.specs.Shelves.{shelf};
 ghost use Rattle.scan_ranges.specs.Run.{Scanning};
@@ -13,14 +14,14 @@ use rules::View;
 use scan_ranges::Scope;
 
 // The latest view that reached the threshold, and its best text: found, or none yet.
-#[derive(Drop)]
+#[derive(Clone, Copy)]
 pub enum Latest {
     Nothing,
     Pair(View, Shelved),
 }
 
 // A walk over views: the budget is out; or it goes on; or a score below the threshold has ended it. With the latest pair and the scorings left.
-#[derive(Drop)]
+#[derive(Clone, Copy)]
 pub enum Walked {
     Out,
     On(Latest, Scorings),

@@ -9,7 +9,7 @@ use crate::class::in_class;
 use crate::lead::run_len;
 
 // The bytes from start up to end.
-#[derive(Drop)]
+#[derive(Clone, Copy)]
 pub struct ByteSpan {
     pub start: usize,
     pub end: usize,

@@ -1,6 +1,7 @@
 // Two byte strings: whether one starts with the other, what they have in common, and their order.
 // From detection/preproc.rs of spdx 0.13.6 (Copyright 2018-2019 Amazon.com, Inc. or its affiliates. All Rights Reserved.
 // SPDX-License-Identifier: Apache-2.0), changed: what it has of the standard library. Assumes nothing.
+#![tactic(auto)]
 ghost use Rattle.std.specs.Prelude.{◌≡◌, length, drop};
 ghost use Rattle.rules.specs.Bytes.{starts, order, same, rises};
 ghost use Rattle.rules.specs.Prefix.{common};
