@@ -1,6 +1,6 @@
 -- What two lines have in common, as bytes of the first (`shared-there`); and the prefixes of a view's lines, line after line.
 -- Assumes nothing.
-use mathlib.Core.Path.{◌≡◌, refl, sym, ap, ◌∙◌}
+use mathlib.Core.Path.{◌≡◌, refl, sym, ap, subst, ◌∙◌}
 use mathlib.Core.Bool.{Bool, true, false, cond}
 use mathlib.Core.List.{List, [], ◌∷◌, ◌++◌}
 use Prim.Native.Nat.{ℕ, zero, suc, ◌+◌, ◌-◌, ◌*◌, ◌≤◌, ◌<◌}
@@ -104,7 +104,10 @@ module _ (area table : List ℕ) (i stop : ℕ) where
       ap (λ (z : ℕ). prefixes (lines_from area table i z)) e ∙ go m ∙ ap (λ (z : ℕ). first ++ prefixes (lines_from area table (i + 1) z)) (sym f)
     where
       go : (m : ℕ) → prefixes (lines_from area table i (suc (suc m))) ≡ first ++ prefixes (lines_from area table (i + 1) (suc m))
-      go m = rw (add-one i)
+      go m =
+          let b : ℕ → List ℕ = λ k. trim (common (line_at area table i) (line_at area table k)) in
+          let P : ℕ → Type 0 = λ k. prefixes (lines_from area table i (suc (suc m))) ≡ cond (ltb 3 (length (encoded (b k)))) (b k ∷ []) [] ++ prefixes (lines_from area table k (suc m)) in
+          subst P (sym (add-one i)) refl
 
   pub prefixes-done : stop ≤ i + 1 → rest area table stop i ≡ []
   unfolding lines_from prefixes
