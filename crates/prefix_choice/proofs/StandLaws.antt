@@ -1,6 +1,6 @@
 -- The list that stands is read back as the prefixes, by their starts (`tabled`); and the lines are as they were.
 -- Assumes nothing.
-use mathlib.Core.Path.{◌≡◌, refl, sym, ap, ap₂, ◌∙◌}
+use mathlib.Core.Path.{◌≡◌, refl, sym, ap, ap₂, subst, ◌∙◌}
 use mathlib.Core.Logic.{◌⊎◌, inl, inr}
 use mathlib.Core.Bool.{Bool, true, false, cond}
 use mathlib.Core.List.{List, [], ◌∷◌, ◌++◌, append_assoc, append-nil}
@@ -38,7 +38,7 @@ parts-listed before (q ∷ qs) a e h =
     parts-listed here qs (a + length q + 1) l (and_right (plain q) (plain_lines qs) h) in
     ap₂ (λ (p : List ℕ) (ps : List (List ℕ)). p ∷ ps)
     (rw (drop_at before (q ++ 10 ∷ listed qs) a e) (part-whole q (listed qs) (and_left (plain q) (plain_lines qs) h)))
-    (rw t ih)
+    (subst (λ (z : List ℕ). parts_at 10 1 z (starts_from (a + length q + 1) qs) ≡ qs) (sym t) ih)
 
 climbing-starts : (a : ℕ) (qs : List (List ℕ)) → Climbing (starts_from a qs)
 unfolding starts_from InOrder Leads
