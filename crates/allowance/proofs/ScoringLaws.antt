@@ -6,7 +6,6 @@ use mathlib.Core.List.{List, ◌∷◌, ◌++◌, map}
 use mathlib.Core.Option.{none}
 use Prim.Native.Nat.{ℕ, suc, ◌+◌, ◌≤◌, ◌<◌}
 use native.Mathlib.Omega.{arith}
-use lib.Dec.{eqb}
 use lib.ListN.{length, length-append}
 use borrow.Author.Tests.{lt-ltb, eqb-false}
 use Rattle.rules.specs.declared.Limits.{Limits}

@@ -1,6 +1,7 @@
 // What comes before a scan that is charged to an allowance: its refusal where more is used than the cap, and its second book. Nothing like it is in the original.
 // Assumes nothing.
 #![tactic(auto)]
+
 ghost use Rattle.std.specs.Prelude.{◌≡◌, cond, []};
 ghost use Rattle.detection_shelf.specs.Shelves.{shelf, books_of, Lends};
 ghost use Rattle.rules.specs.Refusal.{refusal, before_scan};

@@ -1,6 +1,7 @@
 // The answers of the jobs as C has them: structs of plain numbers, and of a scan one length for the name and its part; and a scan's mode, which comes from C as
 // numbers. Assumes nothing.
 #![tactic(auto)]
+
 ghost use Rattle.std.specs.Prelude.{◌≡◌, cond, ◌≤◌};
 ghost use Rattle.rules.specs.Sizes.{name_most};
 ghost use Rattle.rules.specs.declared.Mode.TheVariants.{Elimination, TopDown};

@@ -1,6 +1,7 @@
 // The edition that a book's bytes say: that of a whole first record of kind 6, and the first where there is none. The original has one edition
 // only, so no file of it is followed here. Assumes nothing.
 #![tactic(auto)]
+
 ghost use Rattle.std.specs.Prelude.{◌≡◌};
 ghost use Rattle.rules.specs.Book.{sound_edition, said_by, edition};
 

@@ -2,6 +2,7 @@
 // From detection.rs of spdx 0.13.6 (Copyright 2018 Amazon.com, Inc. or its affiliates. All Rights Reserved.
 // SPDX-License-Identifier: Apache-2.0), changed: names are parts of the books. Assumes nothing.
 #![tactic(auto)]
+
 ghost use Rattle.std.specs.Prelude.{◌≡◌, cond, ◌+◌, ◌≤◌, leb, length, take, drop};
 ghost use Rattle.rules.specs.Book.{part_in};
 ghost use Rattle.detection_part.specs.Parts.{fitting, place_in};

@@ -2,6 +2,7 @@
 // From detection.rs of spdx 0.13.6 (Copyright 2018 Amazon.com, Inc. or its affiliates. All Rights Reserved.
 // SPDX-License-Identifier: Apache-2.0), changed: the store is two books of records. Assumes nothing.
 #![tactic(auto)]
+
 ghost use Rattle.std.specs.Prelude.{◌≡◌, ◌+◌, ◌*◌, ◌<◌};
 ghost use Rattle.rules.specs.Sizes.{stored_most};
 ghost use Rattle.detection_shelf.specs.Shelves.{shelf, CountsOf, BeforeOn, Stands, body_in, first_spot, after_on};

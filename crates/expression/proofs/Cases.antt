@@ -1,13 +1,12 @@
 -- What the definitions compute on the marked texts. The answers are the annex's, read by hand, and a chart parser's that was written apart.
 -- Assumes nothing.
-use Prim.Native.Nat.{ℕ, ◌+◌}
+use Prim.Native.Nat.{ℕ}
 use Prim.Native.String.{String}
 use mathlib.Core.Path.{◌≡◌, refl}
-use mathlib.Core.Bool.{Bool, true, false, cond}
-use mathlib.Core.List.{List, [], ◌∷◌, ◌++◌, map}
-use lib.ListN.{length, replicate}
-use lib.Dec.{eqb, leb, ltb, compare_is_eq}
-use Rattle.rules.specs.Bytes.{text, same, order, split, on_first, within, starts, among}
+use mathlib.Core.Bool.{Bool, true, false}
+use mathlib.Core.List.{List, [], ◌∷◌, ◌++◌}
+use lib.ListN.{replicate}
+use Rattle.rules.specs.Bytes.{text, same, order, split, on_first, within, starts}
 use Rattle.expression.specs.Reading as reading
 use Rattle.expression.specs.Writing as writing
 use Rattle.expression.specs.Reading.{Verdict, accepted, refused, verdict, and_word, or_word, with_word, license_ref, document_ref}

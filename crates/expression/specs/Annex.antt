@@ -1,9 +1,9 @@
 -- The grammar of the SPDX 2.3 annex as it stands, over bytes, and the same by precedence with the tree that it gives: + binds before WITH, WITH before
 -- AND, AND before OR. A room d leaves d parentheses to be open at once.
 -- Assumes nothing.
-use Rattle.std.specs.Prelude.{ℕ, zero, suc, ◌+◌, ◌<◌, ◌≡◌, Bool, true, false, cond, List, [], ◌∷◌, ◌++◌, length, replicate}
+use Rattle.std.specs.Prelude.{ℕ, suc, ◌<◌, ◌≡◌, Bool, true, false, cond, List, [], ◌∷◌, ◌++◌, length, replicate}
 use Rattle.rules.specs.Bytes.{starts, every}
-use Rattle.expression.specs.Reading.{id_byte, and_word, or_word, with_word, is_word, license_ref, document_ref, Part, part, Tree, leaf, and, or}
+use Rattle.expression.specs.Reading.{id_byte, and_word, or_word, with_word, is_word, license_ref, document_ref, part, Tree, leaf, and, or}
 
 -- ---- idstring = 1*(ALPHA / DIGIT / "-" / ".")
 pub record Idstring (w : List ℕ) : Type 0 where

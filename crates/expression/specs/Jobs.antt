@@ -1,7 +1,7 @@
 -- The public calls on expressions: for every input the answer, and what the output holds after it. A refusal's answer is its number and place, all
 -- else zero.
 -- Assumes nothing.
-use Rattle.std.specs.Prelude.{ℕ, ◌≡◌, Bool, true, false, cond, List, [], ◌∷◌, ◌++◌, ltb, length}
+use Rattle.std.specs.Prelude.{ℕ, ◌≡◌, false, cond, List, ltb, length}
 use Rattle.rules.specs.Jobs.{over}
 use Rattle.expression.specs.declared.Satisfied.{Satisfied}
 use Rattle.expression.specs.declared.Spelled.{Spelled}

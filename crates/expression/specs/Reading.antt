@@ -1,7 +1,7 @@
 -- What a text is, read byte by byte as a licence expression of the SPDX 2.3 annex: accepted with its tree, or refused with the place of the first
 -- byte that cannot go on. `read_annex` says that this is the annex's grammar, `first_bad` that the place is that byte's.
 -- Assumes nothing.
-use Rattle.std.specs.Prelude.{ℕ, zero, suc, ◌+◌, Bool, true, false, ◌||◌, cond, List, [], ◌∷◌, ◌++◌, ltb, eqb, length}
+use Rattle.std.specs.Prelude.{ℕ, ◌+◌, Bool, true, false, ◌||◌, cond, List, [], ◌∷◌, ◌++◌, ltb, eqb, length}
 use Rattle.std.proofs.Math.Option.{Option, none, some}
 use Rattle.rules.specs.Bytes.{within, starts, same}
 

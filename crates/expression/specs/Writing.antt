@@ -1,6 +1,6 @@
 -- What a tree of an expression amounts to: how it is written, and whether a list of accepted parts satisfies it.
 -- Assumes nothing.
-use Rattle.std.specs.Prelude.{ℕ, ◌+◌, Bool, true, false, ◌&&◌, ◌||◌, cond, List, [], ◌∷◌, ◌++◌, map, eqb}
+use Rattle.std.specs.Prelude.{ℕ, ◌+◌, Bool, true, false, ◌&&◌, ◌||◌, cond, List, [], ◌∷◌, ◌++◌, map}
 use Rattle.rules.specs.Bytes.{within, same, split}
 use Rattle.expression.specs.Reading.{Part, part, Tree, leaf, and, or, Verdict, accepted, refused, verdict}
 

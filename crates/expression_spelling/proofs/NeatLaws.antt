@@ -14,7 +14,7 @@ use Rattle.rules.proofs.BoolLaws.{and_left, and_right, and_both}
 use Rattle.rules.proofs.PrefixLaws.{same_self, same_true}
 use Rattle.expression.specs.Reading.{part, Tree, id_byte, and_word, or_word, with_word}
 use Rattle.expression.specs.Writing.{spell, spell_part, wrap, is_or}
-use Rattle.expression.specs.Annex.{Simple, ExceptionId, Ends, Begins, Rank, operand, ands, ors, Reads, plussed, blanks, excepted}
+use Rattle.expression.specs.Annex.{Simple, ExceptionId, Ends, Begins, Rank, ors, Reads, plussed, blanks, excepted}
 use Rattle.expression.proofs.WordLaws.{id_not}
 use Rattle.expression.proofs.PartLaws.{Strange, part-last, exc-last, part-plain, part-exc}
 use Rattle.expression_spelling.specs.Flat.{apart, spaced_out}

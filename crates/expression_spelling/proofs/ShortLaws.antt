@@ -11,7 +11,7 @@ use lib.Dec.{eqb}
 use Rattle.rules.specs.Bytes.{within}
 use Rattle.expression.specs.Reading.{part, Tree, id_byte, and_word, or_word}
 use Rattle.expression.specs.Writing.{spell, spell_part, wrap, is_or}
-use Rattle.expression.specs.Annex.{Simple, ExceptionId, Ends, Begins, Rank, operand, ands, ors, Reads, plussed, blanks, excepted}
+use Rattle.expression.specs.Annex.{Simple, ExceptionId, Ends, Begins, Rank, ors, Reads, plussed, blanks, excepted}
 use Rattle.expression.proofs.WordLaws.{id_not}
 use Rattle.expression.proofs.PartLaws.{Strange, shuts, shuts_strange, part-last, ends_last, part-plain, part-exc}
 use Rattle.expression_spelling.proofs.EndLaws.{first, last, first_of, last-of, some, plussed-some, part-first, begins_first, longer, clash}

@@ -6,7 +6,7 @@ use lib.Dec.{T}
 use lib.Ieee.{Float, le}
 use lib.Ieee.Fits.{and_l}
 use Rattle.rules.specs.declared.Value.{Value}
-use Rattle.rules.specs.Table.{nought, one, score}
+use Rattle.rules.specs.Table.{nought, one}
 use Rattle.rules.specs.Refusal.{unit}
 use Rattle.rules.proofs.FloatOrder.{le_not}
 use Rattle.floors.specs.declared.Floor.{Floor}

@@ -3,7 +3,7 @@
 use Rattle.std.specs.Prelude.{◌≡◌, Bool, true, not, cond, T, Float}
 use Rattle.std.specs.Float.Ieee.{lt}
 use Rattle.rules.specs.declared.Value.{Value}
-use Rattle.rules.specs.Table.{nought, score}
+use Rattle.rules.specs.Table.{nought}
 use Rattle.rules.specs.Refusal.{unit}
 use Rattle.floors.specs.declared.Floor.{Floor}
 

@@ -2,6 +2,7 @@
 // From detection/ngram.rs of spdx 0.13.6 (Copyright 2018 Amazon.com, Inc. or its affiliates. All Rights Reserved.
 // SPDX-License-Identifier: Apache-2.0), changed: the order that its map of strings does not need. Assumes nothing.
 #![tactic(auto)]
+
 ghost use Rattle.std.specs.Prelude.{◌≡◌, length, drop};
 ghost use Prim.Native.Nat.{◌≤◌, compare};
 ghost use Rattle.std.proofs.Math.Seq.{slice};

@@ -3,6 +3,7 @@
 // SPDX-License-Identifier: Apache-2.0), changed: its strings are places in one lent area. Assumes that the lent table is that of the
 // classes.
 #![tactic(auto)]
+
 ghost use Rattle.std.specs.Prelude.{◌+◌, ◌*◌, ◌≤◌, ◌<◌, length};
 ghost use Rattle.preproc_table.specs.Entries.{start_at, end_at};
 ghost use Rattle.rules.specs.Bytes.{join};

@@ -2,6 +2,7 @@
 // From detection/preproc.rs of spdx 0.13.6 (Copyright 2018-2019 Amazon.com, Inc. or its affiliates. All Rights Reserved.
 // SPDX-License-Identifier: Apache-2.0), changed: the pattern `title`, written out. Assumes that the lent table is that of the classes.
 #![tactic(auto)]
+
 ghost use Rattle.std.specs.Prelude.{◌≡◌, ◌≤◌, length, drop};
 ghost use Rattle.rules.specs.Passes.{title_end, title_rest, title_line, without_title};
 ghost use Rattle.slices.specs.Classes.{Classes};

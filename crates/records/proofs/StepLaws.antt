@@ -11,7 +11,7 @@ use lib.Seq.{drop-drop}
 use Rattle.rules.specs.Prefix.{Counted}
 use Rattle.rules.specs.Book.{number, Form, Piece, Front, front, also, go_on, pieces, record_form, record_of, records_of, At, placed, record_at, entry_form, entry_of}
 use Rattle.rules.proofs.Steps.{pieces_step}
-use Rattle.records.specs.Places.{framed, entry_framed}
+use Rattle.records.specs.Places.{entry_framed}
 use Rattle.records.specs.declared.pieces.EntryAt.TheVariants as entry
 use Rattle.records.proofs.FrontLaws.{Here, here_of, head-number, number-take, record-placed, entry-framed}
 

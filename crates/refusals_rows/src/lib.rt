@@ -2,6 +2,7 @@
 // Added to spdx 0.13.6 (detection/scan.rs, Copyright 2018 Amazon.com, Inc. or its affiliates. All Rights Reserved.
 // SPDX-License-Identifier: Apache-2.0), which refuses nothing. Assumes nothing.
 #![tactic(auto)]
+
 ghost use Rattle.std.specs.Prelude.{◌≡◌, ◌&&◌, ◌||◌, ◌≤◌, ltb, leb};
 ghost use Rattle.rules.specs.Sizes.{text_most, lines_most, byte_area, word_area};
 ghost use Rattle.rules.specs.Refusal.{refusal, unit, step_zero, records_most, results_need};

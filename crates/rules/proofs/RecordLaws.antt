@@ -6,7 +6,7 @@ use mathlib.Core.Path.{◌≡◌, refl, sym, ap, ◌∙◌, subst}
 use mathlib.Core.Bool.{Bool, true, false, not, ◌||◌, cond}
 use mathlib.Core.List.{List, [], ◌∷◌, ◌++◌}
 use mathlib.Core.Option.{Option, none, some}
-use Prim.Native.Nat.{ℕ, zero, suc, ◌+◌, ◌-◌, ◌<◌}
+use Prim.Native.Nat.{ℕ, zero, suc, ◌<◌}
 use native.Mathlib.Nat.{not-suc-le-zero}
 use native.Mathlib.Omega.{arith}
 use lib.Dec.{eqb}
@@ -18,7 +18,7 @@ use Rattle.rules.specs.declared.Mode.{Mode}
 use Rattle.rules.specs.declared.Mode.TheVariants.{Elimination, TopDown}
 use Rattle.rules.specs.Lines.{lines, line_count}
 use Rattle.rules.specs.Table.{view_table, nought}
-use Rattle.rules.specs.Search.{View, view, whole, viewed, blank, Stored, no_text, scored, Best, no_best, better, best_from, best, bounds}
+use Rattle.rules.specs.Search.{View, whole, viewed, blank, Stored, no_text, scored, Best, no_best, better, best_from, best, bounds}
 use Rattle.rules.specs.Scan.{Event, overall, found, Recorded, after, afford, stops, below, each_pass, elimination, steps, views_of, Pair, latest, contained, top_down, events, records}
 use Rattle.rules.specs.Beside.{Beside}
 use Rattle.rules.specs.Book.{shelved, edition_of}

@@ -17,7 +17,7 @@ use Rattle.rules.specs.declared.Mode.{Mode}
 use Rattle.rules.specs.declared.Mode.TheVariants.{Elimination, TopDown}
 use Rattle.rules.specs.Sizes.{stored_most, lines_most, record_width}
 use Rattle.rules.specs.Table.{nought}
-use Rattle.rules.specs.Search.{View, view, whole, blank, Stored, Scoring, done, Best, best, bounds}
+use Rattle.rules.specs.Search.{View, whole, blank, Stored, Scoring, done, Best, best, bounds}
 use Rattle.rules.specs.Scan.{Event, overall, found, Recorded, after, stops, below, each_pass, elimination, steps, views_of, Pair, latest, settled, contained, down_from, top_down, events, afford, scorings, records, six, numbers}
 use Rattle.rules.specs.Count.{most_for, most_elimination, most_top_down}
 use Rattle.rules.specs.Refusal.{step_zero, records_most, results_need}

@@ -13,7 +13,6 @@ use borrow.Author.Tests.{eqb-true, eqb-false, eq-eqb, ne_eqb, le-leb, leb-true, 
 use Rattle.rules.specs.Bytes.{text, within, among, newline, space, upper, lower, digit, word, every, keep, runs, trim_start, add_front, trim_end, trim, on_first, split, starts, line_len, join}
 use Rattle.rules.specs.Passes.{vertical, lowered, title_line, without_title, hit, without_copyright, passes, aggressive}
 use Rattle.rules.specs.Prefix.{without_prefix}
-use Rattle.rules.specs.Book.{term}
 use Rattle.rules.proofs.BoolLaws.{and_left, and_right, and_both, cond_of}
 use Rattle.rules.proofs.DownLaws.{Each}
 

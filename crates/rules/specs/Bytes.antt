@@ -4,7 +4,6 @@
 use Prim.Native.Nat.{ℕ, suc, compare, Ordering}
 use Prim.Native.Char.{code}
 use Prim.Native.String.{String}
-use Prim.Native.String
 use Rattle.std.specs.Prelude.{Bool, true, false, not, ◌&&◌, ◌||◌, cond, List, [], ◌∷◌, ◌++◌, leb, eqb}
 use Rattle.std.proofs.Math.Dec.{compare_is_eq}
 

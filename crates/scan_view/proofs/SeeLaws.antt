@@ -10,7 +10,6 @@ use lib.ListN.{length}
 use Rattle.rules.specs.declared.View.{View}
 use Rattle.rules.specs.Search as rules
 use Rattle.rules.specs.Search.{Made, Stored, done, view}
-use Rattle.rules.specs.Scan.{Pair}
 use Rattle.preproc_table.specs.Entries.{lines_at}
 use Rattle.license_charge.specs.declared.Scorings.{Scorings}
 use Rattle.license_charge.specs.Pay.{Paid, pay}

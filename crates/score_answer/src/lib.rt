@@ -2,6 +2,7 @@
 // From detection/license.rs of spdx 0.13.6 (Copyright 2018 Amazon.com, Inc. or its affiliates. All Rights Reserved.
 // SPDX-License-Identifier: Apache-2.0), changed: the original answers the score alone, and refuses nothing. Assumes nothing.
 #![tactic(auto)]
+
 ghost use Rattle.std.specs.Prelude.{◌≡◌};
 ghost use Rattle.rules.specs.Jobs.{scored_as};
 ghost use Rattle.score_answer.specs.Answers.{refused_by};

@@ -2,6 +2,7 @@
 // parts with (32, 2) of a processed text, common prefixes parts with (10, 1) of a list of lines. Assumes nothing of the starts: one past the end
 // is an empty part.
 #![tactic(auto)]
+
 ghost use Rattle.std.specs.Prelude.{◌≡◌, ◌+◌, length, drop};
 ghost use Rattle.sort_spread.specs.Sort.{ends_part, marks_left, part_of, part_later};
 

@@ -1,6 +1,7 @@
 // What the programs over the scan write to standard output: numbers, the bits of a score, the records of a results area. A write that
 // fails is not reported: the recorded output then differs. Assumes nothing but the C library's write.
 #![tactic(auto)]
+
 ghost use Rattle.std.specs.Prelude.{◌≡◌, cond, ◌≤◌, length};
 ghost use Rattle.std.specs.Float.Ieee.{le, to_bits};
 ghost use Rattle.std.specs.Float.{binary32};

@@ -1,0 +1,39 @@
+-- `fill_line`: passes 2, 3, and 4 and 5.
+-- Assumes nothing.
+use mathlib.Core.Bool.{not}
+use mathlib.Core.List.{List}
+use Prim.Native.Nat.{ℕ, ◌-◌}
+use native.Mathlib.Omega.{arith}
+use lib.ListN.{length, drop, length-take, length-drop}
+use Rattle.lists.specs.Wrote.{Wrote}
+use Rattle.rules.specs.Bytes.{dropped, keep}
+use Rattle.rules.specs.Points.{points}
+use Rattle.slices.specs.Classes.{dropped_in, space_in}
+use Rattle.slices.proofs.KindLaws.{by_table, dropped-table, space-table}
+use Rattle.preproc_runs.proofs.PassLaws.{drops_as}
+use Rattle.preproc_lines.proofs.LineLaws.{kept-short, urls-room, urls-end-low, urls-end-high, fill_done}
+use Rattle.preproc_lines.proofs.line.fill_line.Goals as goal
+use Rattle.preproc_lines.proofs.line.fill_line.Goals.{After-read_into-n2}
+
+-- once pass 2 has run: what it left in the scratch front
+module _ (k : After-read_into-n2) where
+  abbrev source : List ℕ
+  source = k.args.src.now
+
+  abbrev to : ℕ
+  to = k.args.to
+
+  two : Wrote (keep (λ x. not (dropped x)) (points source)) k.args.area.now k.read_into-n2.result k.read_into-n2.new.dst
+  two = drops_as (by_table dropped_in k.requires.0 dropped-table) (points source) k.read_into-n2.ensures
+
+pub blackbox_urls-end-requires : goal.blackbox_urls-end-requires
+blackbox_urls-end-requires c = (by_table space_in c.requires.0 space-table, omega (arith, kept-short (source (goal.at.blackbox_urls-end-requires c).After-read_into-n2) (to (goal.at.blackbox_urls-end-requires c).After-read_into-n2) c.requires.1 (omega arith) (two (goal.at.blackbox_urls-end-requires c).After-read_into-n2)), urls-room (source (goal.at.blackbox_urls-end-requires c).After-read_into-n2) (to (goal.at.blackbox_urls-end-requires c).After-read_into-n2) c.requires.1 (omega arith) (two (goal.at.blackbox_urls-end-requires c).After-read_into-n2))
+
+pub overflow_sub-n3 : goal.overflow_sub-n3
+overflow_sub-n3 c = urls-end-low (source (goal.at.overflow_sub-n3 c).After-read_into-n2) (to (goal.at.overflow_sub-n3 c).After-read_into-n2) c.requires.1 (omega arith) (two (goal.at.overflow_sub-n3 c).After-read_into-n2) c.blackbox_urls-end.ensures
+
+pub join_signs-n5-requires : goal.join_signs-n5-requires
+join_signs-n5-requires c = (c.requires.0, omega (arith, urls-end-high (source (goal.at.join_signs-n5-requires c).After-read_into-n2) (to (goal.at.join_signs-n5-requires c).After-read_into-n2) c.requires.1 (omega arith) (two (goal.at.join_signs-n5-requires c).After-read_into-n2) c.blackbox_urls-end.ensures, length-take (length c.blackbox_urls-end.new.area - to (goal.at.join_signs-n5-requires c).After-read_into-n2) (drop (to (goal.at.join_signs-n5-requires c).After-read_into-n2) c.blackbox_urls-end.new.area), length-drop (to (goal.at.join_signs-n5-requires c).After-read_into-n2) c.blackbox_urls-end.new.area))
+
+pub returns : goal.returns
+returns c = fill_done (source (goal.at.returns c).After-read_into-n2) (to (goal.at.returns c).After-read_into-n2) c.requires.1 (omega arith) (two (goal.at.returns c).After-read_into-n2) c.blackbox_urls-end.ensures _ _ _ (omega arith) c.join_signs-n5.ensures
