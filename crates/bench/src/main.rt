@@ -7,10 +7,12 @@ ghost use Rattle.rules.specs.Sizes.{record_width};
 
 use detection_check::check_book;
 use detection_texts::texts::stored_at;
-use libc::STDIN_FILENO;
 use rules::{Limits, Mode, RECORD_WIDTH, Scanned};
 use scan_job::scan;
 use telling::{print, print_bits, print_count, print_number, score_bits};
+
+// The number of standard input.
+const STDIN: i32 = 0;
 
 // Room for a note and one byte more, which shows that it is too long; and the areas that a note of 1,024 bytes needs.
 fn note_area() -> [u8; 1025] {
@@ -152,7 +154,7 @@ fn tell_scan(note: &[u8], book: &[u8]) {
 // A note of more than 1,024 bytes is too long for this program: refusal 1, as the rules number a text that is too long.
 fn main() {
     let mut note = note_area();
-    let n = io::read_full(STDIN_FILENO, &mut note);
+    let n = io::read_full(STDIN, &mut note);
     if 1024 < n {
         tell_refusal(1);
         return;

@@ -4,7 +4,6 @@
 ghost use Rattle.std.specs.Prelude.{◌+◌, ◌≤◌, length};
 
 use detection_check::check_book;
-use libc::STDOUT_FILENO;
 use questions::hex::put_byte;
 use questions::numbers::put_number;
 
@@ -28,7 +27,7 @@ fn tell(refusal: u32, texts: u32) {
     let b = put_byte(32, &mut line, a);
     let e = put_number(texts, &mut line, b);
     let n = put_byte(10, &mut line, e);
-    io::write_all(STDOUT_FILENO, &line[..n]);
+    io::write_all(crate::STDOUT, &line[..n]);
 }
 
 // The book of so many texts, and its answer.

@@ -12,8 +12,10 @@ mod limit;
 
 use crate::limit::limit_of_texts;
 use detection_check::check_book;
-use libc::STDOUT_FILENO;
 use rules::Checked;
+
+// The number of standard output.
+pub const STDOUT: i32 = 1;
 
 const BOOK: [u8; 58] = [
     1, 0, 0, 0, 1, 0, 65, 45, 0, 0, 0, 2, 0, 2, 0, 0, 0, 2, 0, 0, 0, 1, 0, 0, 0, 13, 0, 0, 0, 102,
@@ -33,11 +35,11 @@ fn sign(c: Checked) -> u8 {
 
 fn show(book: &[u8]) {
     let line = [sign(check_book(book))];
-    io::write_all(STDOUT_FILENO, &line);
+    io::write_all(STDOUT, &line);
 }
 
 fn new_line() {
-    io::write_all(STDOUT_FILENO, b"\n");
+    io::write_all(STDOUT, b"\n");
 }
 
 // Every cut of the book, from none of it to all.

@@ -8,24 +8,26 @@ ghost use Rattle.std.specs.Float.{binary32};
 ghost use Rattle.rules.specs.Sizes.{record_width};
 ghost use Rattle.rules.specs.Table.{nought};
 
-use libc::STDOUT_FILENO;
 use rules::RECORD_WIDTH;
 
+// The number of standard output.
+const STDOUT: i32 = 1;
+
 pub fn print(s: &[u8]) {
-    io::write_all(STDOUT_FILENO, s);
+    io::write_all(STDOUT, s);
 }
 
 pub fn print_number(x: u32) {
-    io::print_decimal(STDOUT_FILENO, x as u64);
+    io::print_decimal(STDOUT, x as u64);
 }
 
 pub fn print_count(x: u64) {
-    io::print_decimal(STDOUT_FILENO, x);
+    io::print_decimal(STDOUT, x);
 }
 
 // The 8 hex digits of a float's bits.
 pub fn print_bits(bits: u32) {
-    io::print_hex(STDOUT_FILENO, bits as u64, 8);
+    io::print_hex(STDOUT, bits as u64, 8);
 }
 
 // The bits of a score, which is never below 0.0; of anything else 0.
