@@ -2,6 +2,7 @@
 // ranges and the count of scorings as that document prints them for text 2. A refusal is one line `refusal N`.
 // The recorded input is text 2, and the recorded output the rules' three lines. Assumes nothing but the C library's read and write.
 #![tactic(auto)]
+
 ghost use Rattle.std.specs.Prelude.{◌*◌, ◌≤◌, length};
 ghost use Rattle.rules.specs.Sizes.{record_width};
 

@@ -6,6 +6,7 @@
 // The expected lines, in stdout, are not this code's: antt computes them from the definitions `scan` and `results_after` of the crate rules, `allowed`,
 // `allowed_results` and `charged` of the crate allowance (proofs/Expected.antt, `lines_hold`, one equation by `refl`). Assumes nothing but the C library's write.
 #![tactic(auto)]
+
 use allowance_job::scan_within;
 use rules::{Limits, Mode, RECORD_WIDTH, Scanned};
 use scan_job::scan;

@@ -2,6 +2,7 @@
 // two calls on expressions. include/chultarvi.h describes them. Assumes of a C caller that what it lends to be written, slices and the allowance, overlaps
 // nothing else of the same call, and that the allowance is not null.
 #![tactic(auto)]
+
 ghost use Rattle.std.specs.Prelude.{◌≡◌, cond, [], ◌∷◌};
 ghost use Rattle.rules.specs.Search.{view};
 ghost use Rattle.rules.specs.Book.{edition};

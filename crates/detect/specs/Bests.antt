@@ -12,7 +12,6 @@ use Rattle.preproc_table.specs.Entries.{lines_at}
 use Rattle.detection_shelf.specs.Shelves.{Shelf, texts, Stands}
 use Rattle.license_notes.specs.Laid.{Held}
 use Rattle.license_charge.specs.Pay.{Paid, pay}
-use Rattle.detect_best.specs.declared.Best.{Best}
 use Rattle.detect.specs.declared.Chosen.{Chosen}
 use Rattle.detect.specs.declared.Chosen.TheVariants.{Out, Found}
 use Rattle.detect_best.specs.Beats.{best_in}

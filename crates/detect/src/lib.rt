@@ -2,6 +2,7 @@
 // From detection/detect.rs of spdx 0.13.6 (Copyright 2018 Amazon.com, Inc. or its affiliates. All Rights Reserved.
 // SPDX-License-Identifier: Apache-2.0), changed: the sort in `analyze` is a running best. Assumes nothing.
 #![tactic(auto)]
+
 ghost use Rattle.std.specs.Prelude.{◌≤◌};
 ghost use Rattle.slices.specs.Classes.{Classes};
 ghost use Rattle.detection_shelf.specs.Shelves.{shelf, CountsOf};

@@ -2,6 +2,7 @@
 // From detection.rs of spdx 0.13.6 (Copyright 2018 Amazon.com, Inc. or its affiliates. All Rights Reserved.
 // SPDX-License-Identifier: Apache-2.0), changed: the store is a book of records. Assumes nothing.
 #![tactic(auto)]
+
 ghost use Rattle.std.specs.Prelude.{◌≡◌, ◌&&◌, ◌≤◌, eqb, ltb, length, drop};
 ghost use Rattle.rules.specs.Bytes.{within as within_b, split, rises};
 ghost use Rattle.rules.specs.Book.{number, two_terms, entries_of, sound_table, sound_name};

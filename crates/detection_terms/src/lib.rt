@@ -2,6 +2,7 @@
 // From detection.rs of spdx 0.13.6 (Copyright 2018 Amazon.com, Inc. or its affiliates. All Rights Reserved.
 // SPDX-License-Identifier: Apache-2.0), changed: the store is a book of records, and what it holds is tested. Assumes nothing.
 #![tactic(auto)]
+
 ghost use Rattle.std.specs.Prelude.{◌≡◌, ◌≤◌, drop};
 ghost use Rattle.rules.specs.Bytes.{within as within_b, split};
 ghost use Rattle.rules.specs.Book.{two_terms};

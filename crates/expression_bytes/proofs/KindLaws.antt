@@ -1,7 +1,7 @@
 -- The kind of an identifier, from the letters at its front.
 -- Assumes nothing.
 use mathlib.Core.Path.{◌≡◌, refl, sym, ap, ◌∙◌}
-use Prim.Native.Nat.{ℕ, zero, suc, ◌+◌, ◌≤◌, ◌<◌}
+use Prim.Native.Nat.{ℕ, suc}
 use mathlib.Core.Bool.{Bool, true, false, cond, ◌||◌, ◌&&◌, and-true, and-false, or-false}
 use mathlib.Core.List.{List, [], ◌∷◌}
 use native.Mathlib.Omega.{arith}
@@ -9,7 +9,7 @@ use borrow.Author.Tests.{eqb-true, eq-eqb, ne_eqb}
 use lib.Dec.{eqb}
 use lib.ListN.{length, take}
 use lib.Seq.{take-length}
-use Rattle.rules.specs.Bytes.{lead, starts, same, within, order}
+use Rattle.rules.specs.Bytes.{lead, starts, same, within}
 use Rattle.expression.specs.Reading.{id_byte, and_word, or_word, with_word, is_word, Kind, bare, license, reference, document, kind_of, license_ref, document_ref}
 use Rattle.expression.proofs.WordLaws.{same-is, same_self, word-is}
 use Rattle.expression_bytes.specs.Front.{spelt}

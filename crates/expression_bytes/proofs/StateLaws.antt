@@ -1,15 +1,15 @@
 -- What a run does from each state, by what stands at the front of the rest of the text.
 -- Assumes nothing.
-use mathlib.Core.Path.{◌≡◌, refl, sym, ap, ◌∙◌}
-use Prim.Native.Nat.{ℕ, zero, suc, ◌+◌, ◌≤◌, ◌<◌}
+use mathlib.Core.Path.{◌≡◌, refl, ◌∙◌}
+use Prim.Native.Nat.{ℕ, suc, ◌+◌, ◌≤◌, ◌<◌}
 use mathlib.Core.Bool.{Bool, true, false, cond}
 use mathlib.Core.List.{List, [], ◌∷◌, ◌++◌, append_assoc, append-nil}
 use native.Mathlib.Omega.{arith}
-use borrow.Author.Tests.{eqb-true, ne_eqb}
+use borrow.Author.Tests.{eqb-true}
 use lib.Dec.{eqb}
 use lib.ListN.{length, drop, take}
 use Rattle.rules.specs.Bytes.{lead, within}
-use Rattle.expression.specs.Reading.{id_byte, is_word, Kind, kind_of, part, Tree, Level, Ctl, Move, dead, deep, to, Verdict, accepted, refused, opening, closing, whole, at_ended, at_done, at_simple, leave, next, finish, of_kind, stop, follow, run, license_ref}
+use Rattle.expression.specs.Reading.{id_byte, is_word, Kind, kind_of, part, Tree, Level, Ctl, dead, to, refused, at_ended, at_done, at_simple, leave, next, of_kind, stop, follow, run, license_ref}
 use Rattle.expression_bytes.specs.Front.{head_is, head_id, spelt, ending}
 use Rattle.expression_bytes.proofs.FrontLaws.{false_true}
 

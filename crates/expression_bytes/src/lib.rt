@@ -1,6 +1,7 @@
 // Leaves on the bytes of an expression: what stands at a place, and how far it goes. They ask of their caller at most that the place is in the text.
 // Assumes nothing.
 #![tactic(auto)]
+
 ghost use Rattle.std.specs.Prelude.{◌≡◌, ◌+◌, ◌≤◌, eqb, length, drop};
 ghost use Rattle.rules.specs.Bytes.{lead, within as is_within};
 ghost use Rattle.expression.specs.Reading.{id_byte};

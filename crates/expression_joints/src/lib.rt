@@ -1,6 +1,7 @@
 // What stands between the operands of an expression and round them: operators and parentheses, and the value that is told of what is read.
 // Assumes nothing.
 #![tactic(auto)]
+
 ghost use Rattle.std.specs.Prelude.{◌≡◌, Bool, true, not, ◌&&◌, ◌||◌, cond, false, List, [], ◌∷◌, ◌++◌, ℕ, ◌+◌, ◌≤◌, length, drop};
 ghost use Rattle.expression.specs.Reading.{anded, ored};
 ghost use Rattle.expression.specs.Writing.{wrap as wrapped};

@@ -1,6 +1,7 @@
 // The bytes of an expression, put over a lent output as far as it reaches; each writer answers the place behind, which stops at 2^64 - 1.
 // So a run with an output of any size tells the length. Assumes nothing.
 #![tactic(auto)]
+
 ghost use Rattle.std.specs.Prelude.{◌≡◌, cond, [], ◌∷◌, ◌+◌, ◌≤◌, min, length, take, drop};
 ghost use Rattle.expression.specs.Reading.{part};
 ghost use Rattle.expression.specs.Writing.{spell_exc, spell_part};

@@ -4,6 +4,7 @@
 // The expected lines, in stdout, are not this code's: antt computes them from the definitions of the crate expression (proofs/Expected.antt,
 // `lines_hold`, one equation by `refl`). Assumes nothing but the C library's write.
 #![tactic(auto)]
+
 ghost use Rattle.std.specs.Prelude.{◌≤◌, ◌<◌, length};
 
 use expression::Spelled;

@@ -2,6 +2,7 @@
 // Added to spdx 0.13.6 (detection.rs, Copyright 2018 Amazon.com, Inc. or its affiliates. All Rights Reserved.
 // SPDX-License-Identifier: Apache-2.0), whose store hands out names. Assumes nothing.
 #![tactic(auto)]
+
 ghost use Rattle.std.specs.Prelude.{◌≡◌, [], ◌∷◌};
 ghost use Rattle.detection_shelf.specs.Shelves.{shelf, books_of, Lends};
 ghost use Rattle.rules.specs.Jobs.{NameDone};

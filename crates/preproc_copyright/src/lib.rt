@@ -3,6 +3,7 @@
 // From detection/preproc.rs of spdx 0.13.6 (Copyright 2018-2019 Amazon.com, Inc. or its affiliates. All Rights Reserved.
 // SPDX-License-Identifier: Apache-2.0), changed: the pattern `copyright`, written out. Assumes that the lent table is that of the classes.
 #![tactic(auto)]
+
 ghost use Rattle.std.specs.Prelude.{◌≡◌, ◌+◌, ◌≤◌, length, drop};
 ghost use Rattle.rules.specs.Bytes.{digit, lead, holds};
 ghost use Rattle.rules.specs.Passes.{paragraph, hit_a, hit_b, item, spaced, items, hit_c, hit};

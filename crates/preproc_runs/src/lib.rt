@@ -2,6 +2,7 @@
 // From detection/preproc.rs of spdx 0.13.6 (Copyright 2018-2019 Amazon.com, Inc. or its affiliates. All Rights Reserved.
 // SPDX-License-Identifier: Apache-2.0), changed: its patterns, as walks over lent memory. Assumes nothing.
 #![tactic(auto)]
+
 ghost use Rattle.std.specs.Prelude.{false, not, ◌≤◌, length, take};
 ghost use Rattle.lists.specs.Wrote.{Wrote, InFront};
 ghost use Rattle.rules.specs.Bytes.{keep, runs};

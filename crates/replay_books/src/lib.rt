@@ -1,6 +1,7 @@
 // The book that the questions fill: one record more at its end, in a lent array. A record that does not fit, or a text that is refused,
 // leaves the book as it was. Assumes nothing.
 #![tactic(auto)]
+
 ghost use Rattle.std.specs.Prelude.{◌≡◌, ◌++◌, ◌+◌, ◌-◌, ◌≤◌, ◌<◌, length, take};
 ghost use Rattle.lists.specs.Wrote.{InFront};
 ghost use Rattle.rules.specs.Book.{compiled};

@@ -1,6 +1,7 @@
 // Answers questions `table TEXT` as the original does (oracle/README.md): a text's table, made by the job compile. Of a text 2,048 bytes are read;
 // any other line gets no answer. Assumes nothing.
 #![tactic(auto)]
+
 ghost use Rattle.std.specs.Prelude.{◌≡◌, length};
 ghost use Rattle.lists.specs.Wrote.{InFront};
 ghost use Rattle.replay_tables.specs.Told.{table_for, table_asked, answer_of};

@@ -1,6 +1,7 @@
 // Answers questions `view START END TEXT` as the original does (oracle/README.md): the view after all aggressive passes, in hex. Of a text
 // 2,048 bytes are read; any other line gets no answer. Assumes that the lent table is that of the classes.
 #![tactic(auto)]
+
 ghost use Rattle.std.specs.Prelude.{◌≡◌, ◌+◌, ◌*◌, ◌≤◌, length};
 ghost use Rattle.lists.specs.Wrote.{InFront};
 ghost use Rattle.rules.specs.Points.{encoded};

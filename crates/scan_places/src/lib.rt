@@ -2,6 +2,7 @@
 // From detection/scan.rs of spdx 0.13.6 (Copyright 2018 Amazon.com, Inc. or its affiliates. All Rights Reserved.
 // SPDX-License-Identifier: Apache-2.0), changed: its vector of matches is a lent area of numbers, and has places (added). Assumes nothing.
 #![tactic(auto)]
+
 ghost use Rattle.std.specs.Prelude.{◌≡◌, cond, [], ◌∷◌, ◌++◌, ◌+◌, ◌*◌, ◌≤◌, ◌<◌, T, length, take, drop};
 ghost use Rattle.rules.specs.Bytes.{newline};
 ghost use Rattle.rules.specs.Lines.{line_start, range_end};

@@ -2,6 +2,7 @@
 // From detection/license.rs of spdx 0.13.6 (Copyright 2018 Amazon.com, Inc. or its affiliates. All Rights Reserved.
 // SPDX-License-Identifier: Apache-2.0), changed: `match_score` of a view. Assumes what holds of all that is let through (`ViewThrough`).
 #![tactic(auto)]
+
 ghost use Rattle.std.specs.Prelude.{◌≡◌, get_or};
 ghost use Rattle.rules.specs.Lines.{lines};
 ghost use Rattle.rules.specs.Search.{no_text, score_view};

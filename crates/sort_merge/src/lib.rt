@@ -1,5 +1,6 @@
 // Two sorted halves of starts merged into one, as `merged` of sort_spread's specs. Assumes nothing.
 #![tactic(auto)]
+
 ghost use Rattle.std.specs.Prelude.{◌≡◌, true, false, ◌+◌, ◌-◌, ◌≤◌, ◌<◌, length, take, drop, get_or};
 ghost use Rattle.std.proofs.Math.Seq.{slice};
 ghost use Rattle.sort_spread.specs.Sort.{part_later, right_next, merged};

@@ -1,5 +1,6 @@
 // Parts of a text, sorted in a lent slice of their starts: a stable merge sort, equal to `msorted` of sort_spread's specs. Assumes nothing.
 #![tactic(auto)]
+
 ghost use Rattle.std.specs.Prelude.{◌≡◌, ◌⊎◌, ◌+◌, ◌≤◌, length, take, drop};
 ghost use Rattle.std.proofs.Math.Seq.{paste};
 ghost use Rattle.sort_spread.specs.Sort.{part_later, msorted};

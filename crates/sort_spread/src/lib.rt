@@ -2,6 +2,7 @@
 // last byte first. Nothing is promised of the order, since the sort behind it gives that; promised is that the starts stay the same ones.
 // Assumes nothing of the starts: where a text has no byte, the byte is 0.
 #![tactic(auto)]
+
 ghost use Rattle.std.specs.Prelude.{◌≡◌, ◌⊎◌, ◌+◌, ◌≤◌, ◌<◌, length, take, drop};
 ghost use Rattle.std.proofs.Math.Seq.{slice};
 ghost use Rattle.sort_spread.specs.Spread.{byte_from, keyed, keyed_below, added, Counters, Shuffled};

@@ -1,5 +1,6 @@
 // Sorted parts of a text grouped and counted: each distinct part's start, and behind them the counts. Assumes nothing.
 #![tactic(auto)]
+
 ghost use Rattle.std.specs.Prelude.{◌≡◌, ◌+◌, ◌≤◌, ◌<◌, length, take, drop, set};
 ghost use Rattle.rules.specs.Table.{tallied};
 ghost use Rattle.sort_tally.specs.Group.{groups, Grouped, entries_at, parts_at};

@@ -5,6 +5,7 @@
 // The expected lines, in stdout, are not this code's: antt computes them from the definitions of the crate rules (proofs/Expected.antt,
 // `lines_hold`, one equation by `refl`). Assumes nothing but the C library's write.
 #![tactic(auto)]
+
 use bounds_job::bounds_both;
 use detection_part::name_part;
 use rules::{Limits, Mode, Named, Scanned, View};

@@ -1,0 +1,12 @@
+-- `detection_bodies::walk_table` meets its contract: entry by entry. The loop's invariant is `EntryRun`: the rest of the entries, after those that were read, is what the body is worth.
+-- Assumes nothing.
+use Rattle.detection_bodies.proofs.EntryLaws.{EntryRun}
+use lib.ListN.{length}
+use Prim.Native.Nat.{◌-◌}
+use Rattle.detection_bodies.proofs.walk_table.Given as goal
+
+abbrev pub invariant-loop-count : goal.invariant-loop-count
+invariant-loop-count l = EntryRun l.wide l.body l.at l.last l.sum l.entries
+
+abbrev pub decreases-loop-count : goal.decreases-loop-count
+decreases-loop-count l = length l.body - l.at

@@ -1,0 +1,34 @@
+-- `and_word`: two letters, and what stands behind them.
+-- Assumes nothing.
+use mathlib.Core.Path.{◌≡◌, sym, ◌∙◌, ap}
+use mathlib.Core.Bool.{true, not}
+use mathlib.Core.List.{List, [], ◌∷◌}
+use Prim.Native.Nat.{ℕ, ◌+◌}
+use native.Mathlib.Omega.{arith}
+use lib.ListN.{drop}
+use borrow.Author.Tests.{not-true, not-false}
+use Rattle.expression_bytes.specs.Front.{head_is}
+use Rattle.expression_joints.proofs.JointLaws as laws
+use Rattle.expression_joints.proofs.and_word.Goals as goal
+use Rattle.expression_joints.proofs.and_word.Goals.{Else-not-stands}
+
+pub returns-then-not-stands : goal.returns-then-not-stands
+returns-then-not-stands c = laws.letter_bad c.args.text.now c.args.at 78 (68 ∷ []) (sym c.stands.ensures ∙ not-true _ (ap not c.if-not-stands.true))
+
+-- the N stands
+module _ (e : Else-not-stands) where
+  abbrev text : List ℕ
+  text = e.args.text.now
+
+  abbrev at : ℕ
+  at = e.args.at
+
+  n-here : head_is 78 (drop at text) ≡ true
+  n-here = sym e.stands.ensures ∙ not-false _ (ap not e.if-not-stands.false)
+
+pub returns-then-not-stands-2 : goal.returns-then-not-stands-2
+returns-then-not-stands-2 c = laws.letter_on (text (goal.at.returns-then-not-stands-2 c).Else-not-stands) (at (goal.at.returns-then-not-stands-2 c).Else-not-stands) 78 (68 ∷ []) (n-here (goal.at.returns-then-not-stands-2 c).Else-not-stands) (laws.letter_bad (text (goal.at.returns-then-not-stands-2 c).Else-not-stands) (at (goal.at.returns-then-not-stands-2 c).Else-not-stands + 1) 68 [] (sym c.stands-2.ensures ∙ not-true _ (ap not c.if-not-stands-2.true)))
+
+pub returns : goal.returns
+returns c = laws.letter_on (text (goal.at.returns c).Else-not-stands) (at (goal.at.returns c).Else-not-stands) 78 (68 ∷ []) (n-here (goal.at.returns c).Else-not-stands)
+    (laws.letter_on (text (goal.at.returns c).Else-not-stands) (at (goal.at.returns c).Else-not-stands + 1) 68 [] (sym c.stands-2.ensures ∙ not-false _ (ap not c.if-not-stands-2.false)) (laws.at_place [] (omega arith) c.after_word.ensures))

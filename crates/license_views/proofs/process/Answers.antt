@@ -1,0 +1,67 @@
+-- `license_views::process` meets its contract: pass 1 chooses, the areas still hold the lines, and the other passes go on from there.
+-- Assumes nothing.
+use mathlib.Core.Path.{◌≡◌}
+use mathlib.Core.List.{List}
+use Prim.Native.Nat.{ℕ}
+use lib.ListN.{length}
+use borrow.Author.Rules.{rules}
+use Rattle.rules.specs.declared.View.{View}
+use Rattle.slices.specs.declared.ends.ByteSpan.{ByteSpan}
+use Rattle.preproc_view.specs.Whole as view
+use Rattle.license_notes.specs.Laid.{Held}
+use Rattle.license_views.specs.Tabled.{Processed}
+use Rattle.license_views.proofs.ProcessLaws.{held_below, view-ready, strips_none, strips_span, chose_none, chose_span, process_done}
+use Rattle.license_views.proofs.process.Goals as goal
+use Rattle.license_views.proofs.process.Goals.{After-common_prefix-common}
+
+-- what is known once pass 1 has chosen
+module _ (k : After-common_prefix-common) where
+  abbrev n : ℕ
+  n = k.args.n
+
+  abbrev lines : ℕ
+  lines = k.args.lines
+
+  abbrev v : View
+  v = k.args.v
+
+  abbrev area₀ : List ℕ
+  area₀ = k.args.area.now
+
+  abbrev words₀ : List ℕ
+  words₀ = k.args.words.now
+
+  abbrev area₁ : List ℕ
+  area₁ = k.common_prefix-common.new.area
+
+  abbrev words₁ : List ℕ
+  words₁ = k.common_prefix-common.new.words
+
+  held : Held n lines area₀ words₀ area₁ words₁
+  held =
+      held_below n lines area₀ words₀ area₁ words₁ k.requires.classes.1 (search rules) (search rules) k.common_prefix-common.ensures.area k.common_prefix-common.ensures.words
+
+  ready : view.Ready k.args.class.now area₁ words₁ n v
+  ready = view-ready n lines _ area₁ words₁ v k.requires.classes.0 held.laid k.requires.start_le_end.0 k.requires.start_le_end.1
+
+  done : (area : List ℕ) (r : ByteSpan) → length area ≡ length area₁ → view.ViewProcessed (view.view_at area₁ words₁ v) n area₁ r area →
+      Processed n lines v area₀ words₀ r area words₁
+  done area r long p = process_done n lines v area₀ words₀ area₁ words₁ area r k.requires.start_le_end.0 k.requires.start_le_end.1 held long p
+
+pub process_plain-requires : goal.process_plain-requires
+process_plain-requires c = let e = strips_none (n (goal.at.process_plain-requires c).After-common_prefix-common) _ (area₁ (goal.at.process_plain-requires c).After-common_prefix-common) c.common_prefix-common.result c.common_prefix-common.ensures.strips c.in-Nothing.is in
+    (ready (goal.at.process_plain-requires c).After-common_prefix-common, chose_none (n (goal.at.process_plain-requires c).After-common_prefix-common) (lines (goal.at.process_plain-requires c).After-common_prefix-common) (v (goal.at.process_plain-requires c).After-common_prefix-common) (area₀ (goal.at.process_plain-requires c).After-common_prefix-common) (words₀ (goal.at.process_plain-requires c).After-common_prefix-common) (area₁ (goal.at.process_plain-requires c).After-common_prefix-common) (words₁ (goal.at.process_plain-requires c).After-common_prefix-common) c.requires.start_le_end.0 c.requires.start_le_end.1 (held (goal.at.process_plain-requires c).After-common_prefix-common) e)
+
+pub process_stripped-requires : goal.process_stripped-requires
+process_stripped-requires c = let e = strips_span (n (goal.at.process_stripped-requires c).After-common_prefix-common) _ (area₁ (goal.at.process_stripped-requires c).After-common_prefix-common) c.common_prefix-common.result c.in-Prefix.s c.in-Prefix.e c.common_prefix-common.ensures.strips c.in-Prefix.is in (
+  ready (goal.at.process_stripped-requires c).After-common_prefix-common,
+  e.2,
+  e.3,
+  chose_span (n (goal.at.process_stripped-requires c).After-common_prefix-common) (lines (goal.at.process_stripped-requires c).After-common_prefix-common) (v (goal.at.process_stripped-requires c).After-common_prefix-common) (area₀ (goal.at.process_stripped-requires c).After-common_prefix-common) (words₀ (goal.at.process_stripped-requires c).After-common_prefix-common) (area₁ (goal.at.process_stripped-requires c).After-common_prefix-common) (words₁ (goal.at.process_stripped-requires c).After-common_prefix-common) c.requires.start_le_end.0 c.requires.start_le_end.1 (held (goal.at.process_stripped-requires c).After-common_prefix-common) _ e.0,
+)
+
+pub returns-in-Nothing : goal.returns-in-Nothing
+returns-in-Nothing c = done (goal.at.returns-in-Nothing c).After-common_prefix-common _ _ (search rules) c.process_plain.ensures
+
+pub returns-in-Prefix : goal.returns-in-Prefix
+returns-in-Prefix c = done (goal.at.returns-in-Prefix c).After-common_prefix-common _ _ (search rules) c.process_stripped.ensures

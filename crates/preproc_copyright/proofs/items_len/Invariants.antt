@@ -1,0 +1,12 @@
+-- `items_len`: what is left from i on takes the rest of what the whole takes.
+-- Assumes nothing.
+use Prim.Native.Nat.{◌-◌}
+use lib.ListN.{length}
+use Rattle.preproc_copyright.proofs.HitCaseLaws.{ItemWalk}
+use Rattle.preproc_copyright.proofs.items_len.Given as goal
+
+abbrev pub invariant-loop-at : goal.invariant-loop-at
+invariant-loop-at l = ItemWalk l.s l.at l.i
+
+abbrev pub decreases-loop-at : goal.decreases-loop-at
+decreases-loop-at l = length l.s - l.i

@@ -1,0 +1,86 @@
+-- `paragraph_len`: case by case.
+-- Assumes nothing.
+use mathlib.Core.Path.{◌≡◌, sym, ◌∙◌}
+use mathlib.Core.Bool.{true, not}
+use mathlib.Core.List.{List}
+use Prim.Native.Nat.{ℕ, ◌+◌, ◌≤◌}
+use native.Mathlib.Omega.{arith}
+use lib.Dec.{lit<, eqb}
+use lib.ListN.{length, drop}
+use Rattle.rules.specs.Bytes.{text, newline, line_len, starts}
+use Rattle.slices.proofs.LeafLaws.{word-within, run-within}
+use Rattle.preproc_copyright.proofs.HitCaseLaws.{paragraph-other, paragraph_open, paragraph-there}
+use Rattle.preproc_copyright.proofs.paragraph_len.Goals as goal
+use Rattle.preproc_copyright.proofs.paragraph_len.Goals.{After-line_len-n, Start, Then-starts_with, Then-starts_with-2}
+
+module _ (c : Start) where
+  abbrev S : List ℕ
+  S = c.args.s.now
+
+  abbrev place : ℕ
+  place = c.args.at
+
+-- `copyright` begins the line
+module _ (c : Then-starts_with) where
+  abbrev S' : List ℕ
+  S' = c.args.s.now
+
+  abbrev place' : ℕ
+  place' = c.args.at
+
+  word : starts (text "copyright") (drop (place' + c.args.k + c.byte_run-blank.result) (S')) ≡ true
+  unfolding text
+  word = sym c.starts_with.ensures ∙ c.if-starts_with.true
+
+-- the line's end
+module _ (c : After-line_len-n) where
+  abbrev S'' : List ℕ
+  S'' = c.args.s.now
+
+  abbrev place'' : ℕ
+  place'' = c.args.at
+
+  ends : place'' + c.args.k + c.line_len-n.result ≤ length (S'')
+  unfolding line_len
+  ends = omega (arith, c.line_len-n.ensures, run-within (λ x. not (newline x)) (S'') (place'' + c.args.k) c.requires)
+
+module _ (c : Then-starts_with-2) where
+  abbrev S''' : List ℕ
+  S''' = c.args.s.now
+
+  abbrev place''' : ℕ
+  place''' = c.args.at
+
+  two : starts (text "\n\n") (drop (place''' + c.args.k + c.line_len-n.result) (S''')) ≡ true
+  unfolding text
+  two = sym c.starts_with-then-starts_with.ensures ∙ c.if-starts_with-2.true
+
+  room : place''' + c.args.k + c.line_len-n.result + 2 ≤ length (S''')
+  unfolding text
+  room = word-within (text "\n\n") (S''') (place''' + c.args.k + c.line_len-n.result) two (lit< tt)
+
+pub overflow_add-l-2 : goal.overflow_add-l-2
+overflow_add-l-2 c = omega (arith, c.byte_run-blank.ensures, run-within (eqb 32) (S (goal.at.overflow_add-l-2 c).Start) (place (goal.at.overflow_add-l-2 c).Start + c.args.k) c.requires)
+
+pub overflow_add-l-then-starts_with : goal.overflow_add-l-then-starts_with
+overflow_add-l-then-starts_with c = omega (arith, ends (goal.at.overflow_add-l-then-starts_with c).After-line_len-n)
+
+pub overflow_add-result : goal.overflow_add-result
+overflow_add-result c = omega (arith, room (goal.at.overflow_add-result c).Then-starts_with-2)
+
+pub overflow_add-result-then-starts_with-2 : goal.overflow_add-result-then-starts_with-2
+overflow_add-result-then-starts_with-2 c = omega (arith, room (goal.at.overflow_add-result-then-starts_with-2 c).Then-starts_with-2)
+
+pub returns-then-starts_with-2 : goal.returns-then-starts_with-2
+returns-then-starts_with-2 c = let b = c.byte_run-blank.ensures in
+    sym (paragraph-there _ _ _ _ _ b c.line_len-n.ensures (word (goal.at.returns-then-starts_with-2 c).Then-starts_with) (two (goal.at.returns-then-starts_with-2 c).Then-starts_with-2))
+
+pub returns-then-starts_with : goal.returns-then-starts_with
+unfolding text
+returns-then-starts_with c = let b = c.byte_run-blank.ensures in
+    sym (paragraph_open _ _ _ _ _ b c.line_len-n.ensures (word (goal.at.returns-then-starts_with c).Then-starts_with) (sym c.starts_with-then-starts_with.ensures ∙ c.if-starts_with-2.false))
+
+pub returns : goal.returns
+unfolding text
+returns c = let b = c.byte_run-blank.ensures in
+    sym (paragraph-other _ _ _ _ 0 b (sym c.starts_with.ensures ∙ c.if-starts_with.false))
