@@ -1,6 +1,7 @@
 // The scan that is charged to an allowance: over plain numbers, which every other caller takes, and lent by `&mut`. Nothing like it is in the original.
 // Assumes nothing.
 #![tactic(auto)]
+
 ghost use Rattle.detection_shelf.specs.Shelves.{shelf, books_of, Lends};
 ghost use Rattle.allowance.specs.Allowed.{charged, AllowedDone};
 

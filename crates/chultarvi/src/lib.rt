@@ -1,5 +1,5 @@
-// The library's face for C: the six jobs with plain types, the scan as two calls, since an enum does not cross, the scan that is charged to an allowance, and the
-// two calls on expressions. include/chultarvi.h describes them. Assumes of a C caller that what it lends to be written, slices and the allowance, overlaps
+// The library's face, which the crate chultarvi_c exports to C: the six jobs with plain types, the scan as two calls, since an enum does not cross, the scan that
+// is charged to an allowance, and the two calls on expressions. include/chultarvi.h describes them. Assumes of a C caller that what it lends to be written, slices and the allowance, overlaps
 // nothing else of the same call, and that the allowance is not null.
 #![tactic(auto)]
 
@@ -30,8 +30,7 @@ use rules::{Limits, Mode, View};
 use scan_job::{scan, scan_both};
 use score_job::{score_both, score_view};
 
-#[unsafe(no_mangle)]
-pub extern "C" fn chultarvi_check_book(book: &[u8]) -> BookChecked
+pub fn chultarvi_check_book(book: &[u8]) -> BookChecked
     ensures { (result.refusal ≡ (check book.now).refusal) × (result.texts ≡ (check book.now).texts) }
 {
     let checked = check_book(book);
@@ -39,16 +38,14 @@ pub extern "C" fn chultarvi_check_book(book: &[u8]) -> BookChecked
 }
 
 // The edition of any bytes: of a sound book, its own.
-#[unsafe(no_mangle)]
-pub extern "C" fn chultarvi_edition(book: &[u8]) -> u32
+pub fn chultarvi_edition(book: &[u8]) -> u32
     ensures { result ≡ edition book.now }
 {
     edition_of(book)
 }
 
 // A wide edition, so that a caller's 65,538 is refused and not cut to 2.
-#[unsafe(no_mangle)]
-pub extern "C" fn chultarvi_compile(
+pub fn chultarvi_compile(
     text: &[u8],
     edition: u32,
     area: &mut [u8],
@@ -62,8 +59,7 @@ pub extern "C" fn chultarvi_compile(
 }
 
 // The view [start, end) of the text's lines against the stored text `number`.
-#[unsafe(no_mangle)]
-pub extern "C" fn chultarvi_score(
+pub fn chultarvi_score(
     text: &[u8],
     book: &[u8],
     start: usize,
@@ -79,8 +75,7 @@ pub extern "C" fn chultarvi_score(
     scored_for_c(scored)
 }
 
-#[unsafe(no_mangle)]
-pub extern "C" fn chultarvi_bounds(
+pub fn chultarvi_bounds(
     text: &[u8],
     book: &[u8],
     start: usize,
@@ -96,8 +91,7 @@ pub extern "C" fn chultarvi_bounds(
     bounded_for_c(bounded)
 }
 
-#[unsafe(no_mangle)]
-pub extern "C" fn chultarvi_eliminate(
+pub fn chultarvi_eliminate(
     text: &[u8],
     book: &[u8],
     threshold: f32,
@@ -117,8 +111,7 @@ pub extern "C" fn chultarvi_eliminate(
     scanned_for_c(s)
 }
 
-#[unsafe(no_mangle)]
-pub extern "C" fn chultarvi_top_down(
+pub fn chultarvi_top_down(
     text: &[u8],
     book: &[u8],
     threshold: f32,
@@ -138,8 +131,7 @@ pub extern "C" fn chultarvi_top_down(
 }
 
 // The kind of the stored text `number`, and where its licence's name stands.
-#[unsafe(no_mangle)]
-pub extern "C" fn chultarvi_name_stored(book: &[u8], number: u32) -> TextNamed
+pub fn chultarvi_name_stored(book: &[u8], number: u32) -> TextNamed
     ensures { NameDone (book.now ∷ []) number (named_of result) }
 {
     let named = name_of(book, number);
@@ -147,8 +139,7 @@ pub extern "C" fn chultarvi_name_stored(book: &[u8], number: u32) -> TextNamed
 }
 
 // The same five over two books, whose texts count on from the first into the second.
-#[unsafe(no_mangle)]
-pub extern "C" fn chultarvi_score_both<'a>(
+pub fn chultarvi_score_both<'a>(
     text: &[u8],
     book: &'a [u8],
     second: &'a [u8],
@@ -165,8 +156,7 @@ pub extern "C" fn chultarvi_score_both<'a>(
     scored_for_c(scored)
 }
 
-#[unsafe(no_mangle)]
-pub extern "C" fn chultarvi_bounds_both<'a>(
+pub fn chultarvi_bounds_both<'a>(
     text: &[u8],
     book: &'a [u8],
     second: &'a [u8],
@@ -183,16 +173,14 @@ pub extern "C" fn chultarvi_bounds_both<'a>(
     bounded_for_c(bounded)
 }
 
-#[unsafe(no_mangle)]
-pub extern "C" fn chultarvi_name_stored_both(book: &[u8], second: &[u8], number: u32) -> TextNamed
+pub fn chultarvi_name_stored_both(book: &[u8], second: &[u8], number: u32) -> TextNamed
     ensures { NameDone (book.now ∷ second.now ∷ []) number (named_of result) }
 {
     let named = name_both(book, second, number);
     named_for_c(named)
 }
 
-#[unsafe(no_mangle)]
-pub extern "C" fn chultarvi_eliminate_both<'a>(
+pub fn chultarvi_eliminate_both<'a>(
     text: &[u8],
     book: &'a [u8],
     second: &'a [u8],
@@ -215,8 +203,7 @@ pub extern "C" fn chultarvi_eliminate_both<'a>(
     scanned_for_c(s)
 }
 
-#[unsafe(no_mangle)]
-pub extern "C" fn chultarvi_top_down_both<'a>(
+pub fn chultarvi_top_down_both<'a>(
     text: &[u8],
     book: &'a [u8],
     second: &'a [u8],
@@ -279,8 +266,7 @@ fn scan_numbers<'a>(
 }
 
 // One scan for both modes and for one book or two, charged to the allowance in place: each function that is lent a struct is proved by hand.
-#[unsafe(no_mangle)]
-pub extern "C" fn chultarvi_scan_allowed<'a>(
+pub fn chultarvi_scan_allowed<'a>(
     text: &[u8],
     book: &'a [u8],
     second: &'a [u8],
@@ -320,16 +306,14 @@ pub extern "C" fn chultarvi_scan_allowed<'a>(
 }
 
 // Whether a list of accepted parts, one a line, satisfies a licence expression.
-#[unsafe(no_mangle)]
-pub extern "C" fn chultarvi_satisfy(text: &[u8], list: &[u8]) -> Satisfied
+pub fn chultarvi_satisfy(text: &[u8], list: &[u8]) -> Satisfied
     ensures { result ≡ satisfied text.now list.now }
 {
     satisfy(text, list)
 }
 
 // A licence expression written back with single spaces and only the parentheses that it needs.
-#[unsafe(no_mangle)]
-pub extern "C" fn chultarvi_write_expression(text: &[u8], out: &mut [u8]) -> Spelled
+pub fn chultarvi_write_expression(text: &[u8], out: &mut [u8]) -> Spelled
     ensures { WriteDone text.now out.old out.new result }
 {
     write_expression(text, out)

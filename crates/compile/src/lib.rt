@@ -2,6 +2,7 @@
 // From detection/license.rs and ngram.rs of spdx 0.13.6 (Copyright 2018 Amazon.com, Inc. or its affiliates. All Rights Reserved.
 // SPDX-License-Identifier: Apache-2.0), changed: the table goes to lent memory as bytes. Assumes nothing.
 #![tactic(auto)]
+
 ghost use Rattle.std.specs.Prelude.{◌≡◌, ◌≤◌, ltb, length, replicate};
 ghost use Rattle.rules.specs.Sizes.{byte_area, word_area};
 ghost use Rattle.rules.specs.Book.{table_out, compiled};

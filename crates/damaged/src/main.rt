@@ -6,6 +6,7 @@
 // of books below (all cuts; for each place all 256 values; the made books) one equation `signs of the books = a list of numbers` was
 // stated, the books and the numbers written out, and antt accepted each by `refl` with every definition unfolded. Assumes nothing.
 #![tactic(auto)]
+
 ghost use Rattle.std.specs.Prelude.{◌<◌};
 
 mod limit;

@@ -21,7 +21,7 @@ use Rattle.rules.specs.Sizes.{book_most, stored_most, name_most}
 use Rattle.rules.specs.Points.{wide}
 use Rattle.rules.specs.Search.{Stored, no_text}
 use Rattle.rules.specs.Bytes.{within, rises}
-use Rattle.rules.specs.Book.{number, Record, records_of, also, entries_of, sound_body, stored_kind, follows, sound_records, table_in, stored_in, stored_of, stored_from, stored, names_in, no_part, names_of, edition, filled, sound, At, record_at, next_place}
+use Rattle.rules.specs.Book.{Record, records_of, also, entries_of, sound_body, stored_kind, follows, sound_records, table_in, stored_in, stored_of, stored_from, stored, names_in, no_part, names_of, edition, filled, sound, At, record_at, next_place}
 use Rattle.rules.specs.declared.Named.{Named}
 use Rattle.rules.proofs.BoolLaws.{and_left, and_right}
 use Rattle.rules.proofs.DownLaws.{each_at}

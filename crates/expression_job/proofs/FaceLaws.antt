@@ -7,8 +7,8 @@
 --     room-enough        so an output of n + n/5 bytes is never too short
 -- Assumes nothing.
 use mathlib.Core.Path.{◌≡◌, refl, sym, ap, ◌∙◌}
-use Prim.Native.Nat.{ℕ, ◌+◌, ◌/◌, ◌≤◌, ◌<◌}
-use mathlib.Core.Bool.{Bool, true, false, cond}
+use Prim.Native.Nat.{ℕ, ◌+◌, ◌/◌, ◌≤◌}
+use mathlib.Core.Bool.{Bool, true, false}
 use mathlib.Core.List.{List, ◌++◌}
 use mathlib.Core.Logic.{◌⊎◌, inl, inr}
 use native.Mathlib.Omega.{arith}
@@ -21,7 +21,7 @@ use Rattle.rules.specs.Jobs.{over}
 use Rattle.expression.specs.declared.Satisfied.{Satisfied}
 use Rattle.expression.specs.declared.Spelled.{Spelled}
 use Rattle.expression.specs.Reading.{Tree, Verdict, accepted, refused, verdict}
-use Rattle.expression.specs.Writing.{spell, satisfied, neat, neat_as}
+use Rattle.expression.specs.Writing.{spell, neat, neat_as}
 use Rattle.expression.specs.Jobs.{satisfy_as, satisfy, spelled_as, written_as, WriteDone}
 use Rattle.expression.proofs.WordLaws.{same_self}
 use Rattle.expression_place.proofs.PlaceLaws.{refused-number}

@@ -3,20 +3,19 @@
 use mathlib.Core.Path.{◌≡◌, refl, sym, ap, ◌∙◌}
 use Prim.Native.Nat.{ℕ, ◌+◌, ◌≤◌, ◌<◌}
 use mathlib.Core.Bool.{Bool, true, false, cond, and-true, and-false}
-use mathlib.Core.List.{List, [], ◌∷◌, ◌++◌}
+use mathlib.Core.List.{List, [], ◌∷◌}
 use native.Mathlib.Omega.{arith}
 use borrow.Author.Tests.{lt-ltb, le-ltb, eq-eqb, ne_eqb}
 use lib.Dec.{eqb, ltb}
 use lib.ListN.{length, drop, length-drop}
 use Rattle.rules.specs.Jobs.{over}
 use Rattle.expression.specs.declared.Satisfied.{Satisfied}
-use Rattle.expression.specs.declared.Spelled.{Spelled}
 use Rattle.expression.specs.Reading.{Tree, Level, fresh, whole as amounts, and_of, or_of, Ctl, Verdict, accepted, refused, closing, at_ended, at_done, next, finish, stop, follow, run, verdict}
-use Rattle.expression.specs.Writing.{spell, satisfied, neat, neat_as}
+use Rattle.expression.specs.Writing.{spell, neat, neat_as}
 use Rattle.expression.specs.Jobs.{satisfy_as, satisfy, spelled_as, written_as, WriteDone}
 use Rattle.expression_bytes.specs.Front.{head_is}
 use Rattle.expression_bytes.proofs.FrontLaws.{false_true}
-use Rattle.expression_output.specs.Output.{overlay, capped, Put}
+use Rattle.expression_output.specs.Output.{overlay}
 use Rattle.expression_output.proofs.OutputLaws.{overlay-front}
 use Rattle.expression_joints.specs.declared.Value.{Value}
 use Rattle.expression_levels.specs.declared.Read.{Read}
@@ -25,7 +24,7 @@ use Rattle.expression_levels.specs.Levels.{only_fresh, Valued}
 use Rattle.expression_levels.proofs.LevelLaws.{Tree-read, Tree-none, put-length}
 use Rattle.expression_spelling.specs.Flat.{spaced_out}
 use Rattle.expression_spelling.proofs.SpellingLaws.{neat-is}
-use Rattle.expression_job.specs.Whole.{Whole, whole, none, Learnt}
+use Rattle.expression_job.specs.Whole.{Whole, whole, none}
 
 -- ---- behind the last operand
 stuck : (s : List ℕ) (t : Tree) (p : ℕ) → 0 < length s → head_is 32 s ≡ false → head_is 65 s ≡ false → head_is 79 s ≡ false → refused 13 p ≡ run s (Ctl.done t) fresh [] p

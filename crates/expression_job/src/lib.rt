@@ -1,5 +1,6 @@
 // The public calls on licence expressions: does a list of accepted parts satisfy one, write one back, is one written so already? Assumes nothing.
 #![tactic(auto)]
+
 ghost use Rattle.std.specs.Prelude.{◌≡◌};
 ghost use Rattle.expression.specs.Jobs.{WriteDone, satisfy as satisfied};
 ghost use Rattle.expression.specs.Writing.{neat as is_neat};

@@ -1,25 +1,23 @@
 -- Chains: what AND and OR have joined so far, kept by each turn of a level's loop. A tree stands for what is read; the code has its value only.
 -- Assumes nothing.
 use mathlib.Core.Path.{◌≡◌, refl, sym, ap, ◌∙◌}
-use Prim.Native.Nat.{ℕ, zero, suc, ◌+◌, ◌≤◌, ◌<◌}
-use mathlib.Core.Bool.{Bool, true, false, not, ◌&&◌, ◌||◌, cond}
-use mathlib.Core.List.{List, [], ◌∷◌, ◌++◌, append_assoc, append-nil}
+use Prim.Native.Nat.{ℕ, ◌+◌, ◌≤◌, ◌<◌}
+use mathlib.Core.Bool.{Bool, true, false, not, ◌&&◌, ◌||◌}
+use mathlib.Core.List.{List, [], ◌∷◌, ◌++◌, append_assoc}
 use mathlib.Core.Option.{Option, none, some}
 use native.Mathlib.Omega.{arith}
-use lib.Dec.{eqb}
 use lib.ListN.{length, drop}
-use Rattle.expression.specs.Reading.{Tree, leaf, and, or, Part, and_of, or_of, Level, fresh, whole, anded, ored, Ctl, Verdict, accepted, refused, next, stop, follow, run, at_done, at_ended, closing, finish}
+use Rattle.expression.specs.Reading.{Tree, and_of, or_of, Level, fresh, whole, anded, ored, Ctl, refused, next, stop, follow, run, at_done, at_ended}
 use Rattle.expression.specs.Writing.{is_or, wrap, spell, satisfied}
 use Rattle.expression_bytes.specs.Front.{head_is}
-use Rattle.expression_bytes.proofs.FrontLaws.{false_true}
-use Rattle.expression_output.specs.Output.{overlay, capped, Put}
+use Rattle.expression_output.specs.Output.{Put}
 use Rattle.expression_output.proofs.OutputLaws.{put_then, overlay-length, overlay-none, capped_fits}
 use Rattle.expression_joints.specs.declared.Value.{Value}
 use Rattle.expression_joints.specs.Joints.{Lays, and_text, or_text}
 use Rattle.expression_joints.proofs.JointLaws.{Onward as Goes_on}
 use Rattle.expression_levels.specs.declared.Read.{Read}
 use Rattle.expression_levels.specs.declared.Read.TheVariants.{Of, No}
-use Rattle.expression_levels.specs.Levels.{Stops, only_any, only_fresh, Valued, Onward, Told, told, no}
+use Rattle.expression_levels.specs.Levels.{only_any, only_fresh, Valued, Onward, Told, told, no}
 
 -- ---- where no blank and no AND stands, what AND joins is one tree; and where no OR stands too, a level is
 pub and-done : (s : List ℕ) (t : Tree) (any all : Option Tree) (fs : List Level) (p : ℕ) → head_is 32 s ≡ false → head_is 65 s ≡ false → run s (Ctl.done (and_of all t)) (only_any any) fs p ≡ run s (Ctl.done t) (record { any = any; all = all }) fs p

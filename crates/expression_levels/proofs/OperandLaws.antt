@@ -1,9 +1,9 @@
 -- Operands: a part, or a group that a level fills.
 -- Assumes nothing.
 use mathlib.Core.Path.{◌≡◌, refl, sym, ap, ◌∙◌}
-use Prim.Native.Nat.{ℕ, zero, suc, ◌+◌, ◌≤◌, ◌<◌}
-use mathlib.Core.Bool.{Bool, true, false}
-use mathlib.Core.List.{List, [], ◌∷◌, ◌++◌}
+use Prim.Native.Nat.{ℕ, suc, ◌+◌, ◌≤◌, ◌<◌}
+use mathlib.Core.Bool.{true, false}
+use mathlib.Core.List.{List, [], ◌∷◌}
 use native.Mathlib.Omega.{arith}
 use native.Mathlib.Numerals.{add-one}
 use borrow.Author.Tests.{lt-ltb, le-ltb}
@@ -17,16 +17,13 @@ use Rattle.expression_bytes.proofs.StateLaws as state
 use Rattle.expression_parts.specs.declared.parts.PartAt.{PartAt}
 use Rattle.expression_parts.specs.declared.parts.Got.{Got}
 use Rattle.expression_parts.specs.declared.parts.Got.TheVariants.{Part as PartGot, Bad as NoPart}
-use Rattle.expression_parts.specs.declared.parts.Went.{Went}
-use Rattle.expression_parts.specs.declared.parts.Went.TheVariants.{At, Bad}
 use Rattle.expression_parts.specs.Parts.{part_of, Inside, Reads, reads, stuck}
 use Rattle.expression_parts.proofs.AnswerLaws as answer
 use Rattle.expression_output.specs.Output.{Put}
 use Rattle.expression_joints.specs.declared.Value.{Value}
-use Rattle.expression_joints.specs.Joints.{Shut, shut, halted}
 use Rattle.expression_levels.specs.declared.Read.{Read}
 use Rattle.expression_levels.specs.declared.Read.TheVariants.{Of, No}
-use Rattle.expression_levels.specs.Levels.{Stops, only_fresh, Valued, Onward, Told, told, no}
+use Rattle.expression_levels.specs.Levels.{only_fresh, Told, told, no}
 use Rattle.expression_levels.proofs.LevelLaws.{Tree-read, Tree-none}
 
 -- ---- the blanks before an operand

@@ -1,6 +1,7 @@
 // The levels of an expression: OR level calls AND level calls the operand, which calls the OR level inside parentheses; bytes left fall. Chains loop,
 // so that the stack has at most 33 of each for any text. Each tells what it read and writes it, as far as the output reaches. Assumes nothing.
 #![tactic(auto)]
+
 ghost use Rattle.std.specs.Prelude.{◌≡◌, false, [], ◌∷◌, ◌≤◌, length, drop};
 ghost use Rattle.expression.specs.Reading.{depth_most};
 ghost use Rattle.expression_bytes.specs.Front.{head_is};

@@ -1,6 +1,7 @@
 // Whether a list of accepted parts, a part a line, has a part of a text. One pass over the list: each line is compared as far as it is like the
 // part, and its end looked for. Assumes nothing.
 #![tactic(auto)]
+
 ghost use Rattle.std.specs.Prelude.{◌≡◌, ◌&&◌, ◌+◌, ◌≤◌, length, drop, take};
 ghost use Rattle.rules.specs.Bytes.{split};
 ghost use Rattle.expression.specs.Reading.{part as part_from};

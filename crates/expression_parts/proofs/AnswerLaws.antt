@@ -1,22 +1,22 @@
 -- What the functions that read a part answer, from the tests that led there.
 -- Assumes nothing.
 use mathlib.Core.Path.{◌≡◌, refl, sym, ap, ◌∙◌}
-use Prim.Native.Nat.{ℕ, zero, suc, ◌+◌, ◌≤◌, ◌<◌}
+use Prim.Native.Nat.{ℕ, ◌+◌, ◌≤◌, ◌<◌}
 use mathlib.Core.Bool.{Bool, true, false}
-use mathlib.Core.List.{List, [], ◌∷◌, ◌++◌}
+use mathlib.Core.List.{List, [], ◌∷◌}
 use native.Mathlib.Nat.{le_refl}
 use native.Mathlib.Omega.{arith}
 use lib.Dec.{eqb}
 use lib.ListN.{length, drop, take, length-drop}
 use lib.Seq.{drop-drop}
 use Rattle.rules.specs.Bytes.{lead}
-use Rattle.expression.specs.Reading.{id_byte, is_word, Part, part, Tree, leaf, Level, Ctl, to, Verdict, refused, next, stop, run, at_done, at_ended}
-use Rattle.expression_bytes.specs.Front.{head_is, head_id, spelt, ending}
+use Rattle.expression.specs.Reading.{id_byte, Tree, leaf, Level, Ctl, to, Verdict, refused, next, stop, run, at_done, at_ended}
+use Rattle.expression_bytes.specs.Front.{head_is, spelt, ending}
 use Rattle.expression_bytes.proofs.FrontLaws.{drop-one, head-within, head-none, spelt-most, blanks-high, blanks-stop}
 use Rattle.expression_bytes.proofs.StateLaws as state
 use Rattle.expression_parts.specs.declared.parts.PartAt.{PartAt}
 use Rattle.expression_parts.specs.declared.parts.Got.{Got}
-use Rattle.expression_parts.specs.declared.parts.Got.TheVariants.{Part as PartGot, Bad as NoPart}
+use Rattle.expression_parts.specs.declared.parts.Got.TheVariants.{Part as PartGot}
 use Rattle.expression_parts.specs.declared.parts.Went.{Went}
 use Rattle.expression_parts.specs.declared.parts.Went.TheVariants.{At, Bad}
 use Rattle.expression_parts.specs.Parts.{part_of, Inside, Reads, reads, stuck, Goes, Behind, goes, halts}

@@ -1,6 +1,6 @@
 -- A simple expression at the front of a text: how many bytes its identifier has and whether + follows; or how many bytes can go on to one.
 -- Assumes nothing.
-use Rattle.std.specs.Prelude.{ℕ, ◌+◌, Bool, true, false, cond, List, eqb, drop, take}
+use Rattle.std.specs.Prelude.{ℕ, ◌+◌, false, cond, List, eqb, drop, take}
 use Rattle.rules.specs.Bytes.{lead}
 use Rattle.expression.specs.Reading.{id_byte, Kind, bare, license, reference, document, kind_of, license_ref}
 use Rattle.expression_bytes.specs.Front.{head_is, spelt}

@@ -2,6 +2,7 @@
 // answers. Each is answered by the proved functions; of a text 2,048 bytes are read, and any other line gets no answer.
 // Assumes nothing but the C library's read and write.
 #![tactic(auto)]
+
 ghost use Rattle.std.specs.Prelude.{◌≤◌};
 
 mod areas;

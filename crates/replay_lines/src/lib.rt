@@ -1,6 +1,7 @@
 // Answers questions `lines TEXT` as the original does (oracle/README.md): the lines of the text, normalised, as UTF-8 in hex. Of a text
 // 2,048 bytes are read; any other line gets no answer. Assumes that the lent table is that of the classes.
 #![tactic(auto)]
+
 ghost use Rattle.std.specs.Prelude.{◌≡◌, cond, ◌++◌, ◌+◌, ◌*◌, ◌<◌, ◌≤◌, ltb, length, take};
 ghost use Rattle.lists.specs.Wrote.{Wrote, InFront};
 ghost use Rattle.rules.specs.Points.{encoded};

@@ -1,6 +1,7 @@
 // Answers questions `score START END TEXT LICENCE` as the original does (oracle/README.md): the score of a view against a licence, which the job
 // compile makes a table of. Of a text 2,048 bytes are read; any other line gets no answer. Assumes that the lent table is that of the classes.
 #![tactic(auto)]
+
 ghost use Rattle.std.specs.Prelude.{◌≡◌, ◌≤◌, length};
 ghost use Rattle.lists.specs.Wrote.{InFront};
 ghost use Rattle.slices.specs.Classes.{class_table};

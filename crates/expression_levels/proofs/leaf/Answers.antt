@@ -1,0 +1,40 @@
+-- `leaf`: a part is told and written.
+-- Assumes nothing.
+use mathlib.Core.Path.{refl}
+use mathlib.Core.List.{List}
+use Prim.Native.Nat.{ℕ, ◌+◌}
+use lib.ListN.{drop}
+use Rattle.expression.specs.Reading.{Ctl, run}
+use Rattle.expression_parts.specs.declared.parts.PartAt.{PartAt}
+use Rattle.expression_parts.specs.Parts.{part_of}
+use Rattle.expression_levels.specs.Levels.{no}
+use Rattle.expression_levels.proofs.OperandLaws.{Part-read, part-read, part_none, part-told}
+use Rattle.expression_levels.proofs.leaf.Goals as goal
+use Rattle.expression_levels.proofs.leaf.Goals.{In-Part}
+
+-- the part that stands there
+module _ (a : In-Part) where
+  abbrev text : List ℕ
+  text = a.args.text.now
+
+  abbrev at : ℕ
+  at = a.args.at
+
+  abbrev it : PartAt
+  it = a.in-Part.p
+
+  found : Part-read text (at + 1) (λ l fs. run (drop at text) Ctl.want l fs at) it
+  found = part-read text (at + 1) (λ l fs. run (drop at text) Ctl.want l fs at) a.in-Part.is a.read_part.ensures
+
+pub put_part-end-requires : goal.put_part-end-requires
+put_part-end-requires c = ((found (goal.at.put_part-end-requires c).In-Part).in_text.name, (found (goal.at.put_part-end-requires c).In-Part).in_text.exc)
+
+pub part_in-requires : goal.part_in-requires
+part_in-requires c = ((found (goal.at.part_in-requires c).In-Part).in_text.name, (found (goal.at.part_in-requires c).In-Part).in_text.exc)
+
+pub returns-in-Bad : goal.returns-in-Bad
+returns-in-Bad c = λ depth. no (λ l fs h. part_none c.args.text.now (c.args.at + 1) (λ l fs. run (drop c.args.at c.args.text.now) Ctl.want l fs c.args.at) c.in-Bad.is c.read_part.ensures l fs) refl
+
+pub returns-in-Part : goal.returns-in-Part
+unfolding part_of
+returns-in-Part c = λ depth. part-told c.args.list.now (text (goal.at.returns-in-Part c).In-Part) (at (goal.at.returns-in-Part c).In-Part) depth _ c.args.o (found (goal.at.returns-in-Part c).In-Part) refl c.part_in.ensures refl c.put_part-end.ensures

@@ -1,0 +1,147 @@
+-- `document`: colon, letters and idstring, one after the other.
+-- Assumes nothing.
+use mathlib.Core.Path.{◌≡◌, sym, ap, ◌∙◌}
+use mathlib.Core.Bool.{true, not}
+use mathlib.Core.List.{List}
+use Prim.Native.Nat.{ℕ, ◌+◌, ◌≤◌}
+use native.Mathlib.Omega.{arith}
+use lib.ListN.{length, drop}
+use lib.Seq.{drop-drop}
+use borrow.Author.Tests.{not-true, not-false, eq-eqb, ne_eqb}
+use Rattle.expression.specs.Reading.{license_ref}
+use Rattle.expression_bytes.specs.Front.{head_is}
+use Rattle.expression_bytes.proofs.FrontLaws.{head-within, letters_in, ids_in, spelt-most, drop-one}
+use Rattle.expression_parts.specs.Simple.{after_document, after_colon, idstring}
+use borrow.Author.Rules.{rules}
+use Rattle.expression_parts.proofs.names.document.Goals as goal
+use Rattle.expression_parts.proofs.names.document.Goals.{After-ids-m, After-letters-k, Else-k-lt11, Else-not-stands}
+
+-- the colon stands
+module _ (i : Else-not-stands) where
+  abbrev text : List ℕ
+  text = i.args.text.now
+
+  abbrev end : ℕ
+  end = i.args.at + i.args.n
+
+  colon : head_is 58 (drop end text) ≡ true
+  colon = sym i.stands.ensures ∙ not-false _ (ap not i.if-not-stands.false)
+
+  inside : end + 1 ≤ length text
+  inside = let h = head-within text end 58 colon in omega arith
+
+pub returns-then-not-stands : goal.returns-then-not-stands
+unfolding after_document
+returns-then-not-stands c = rw (sym c.stands.ensures ∙ not-true _ (ap not c.if-not-stands.true))
+
+-- the letters of LicenseRef- that stand there
+module _ (f : After-letters-k) where
+  abbrev text' : List ℕ
+  text' = f.args.text.now
+
+  abbrev end' : ℕ
+  end' = f.args.at + f.args.n
+
+  colon' : head_is 58 (drop end' text') ≡ true
+  colon' = sym f.stands.ensures ∙ not-false _ (ap not f.if-not-stands.false)
+
+  inside' : end' + 1 ≤ length text'
+  inside' = let h = head-within text' end' 58 colon' in omega arith
+
+  abbrev k : ℕ
+  k = f.letters-k.result
+
+  within : end' + 1 + k ≤ length (text')
+  within = letters_in (text') (end' + 1) k license_ref (inside') f.letters-k.ensures
+
+-- all of them: an idstring is due
+module _ (e : Else-k-lt11) where
+  abbrev text'' : List ℕ
+  text'' = e.args.text.now
+
+  abbrev end'' : ℕ
+  end'' = e.args.at + e.args.n
+
+  colon'' : head_is 58 (drop end'' text'') ≡ true
+  colon'' = sym e.stands.ensures ∙ not-false _ (ap not e.if-not-stands.false)
+
+  inside'' : end'' + 1 ≤ length text''
+  inside'' = let h = head-within text'' end'' 58 colon'' in omega arith
+
+  abbrev k'' : ℕ
+  k'' = e.letters-k.result
+
+  within'' : end'' + 1 + k'' ≤ length (text'')
+  within'' = letters_in (text'') (end'' + 1) k'' license_ref (inside'') e.letters-k.ensures
+
+  all : k'' ≡ 11
+  all = omega (arith, e.if-k-lt11.false, e.letters-k.ensures, spelt-most license_ref (drop (end'' + 1) (text'')))
+
+  there : drop 11 (drop (end'' + 1) (text'')) ≡ drop (end'' + 12) (text'')
+  there =
+      let q : end'' + 1 + 11 ≡ end'' + 12 = omega arith in
+      drop-drop 11 (end'' + 1) (text'') ∙ ap (λ (m : ℕ). drop m (text'')) q
+
+  twelve : end'' + 12 ≤ length (text'')
+  twelve = omega (arith, within'', all)
+
+pub overflow_add-end-2 : goal.overflow_add-end-2
+overflow_add-end-2 c = let h = inside (goal.at.overflow_add-end-2 c).Else-not-stands in search rules
+
+pub letters-k-requires : goal.letters-k-requires
+letters-k-requires c = inside (goal.at.letters-k-requires c).Else-not-stands
+
+pub overflow_add-result : goal.overflow_add-result
+overflow_add-result c = let h = within (goal.at.overflow_add-result c).After-letters-k in search rules
+
+pub overflow_add-result-then-k-lt11 : goal.overflow_add-result-then-k-lt11
+overflow_add-result-then-k-lt11 c = let h = within (goal.at.overflow_add-result-then-k-lt11 c).After-letters-k in search rules
+
+pub returns-then-k-lt11 : goal.returns-then-k-lt11
+unfolding after_document after_colon
+returns-then-k-lt11 c = rw (colon (goal.at.returns-then-k-lt11 c).Else-not-stands, drop-one (end (goal.at.returns-then-k-lt11 c).Else-not-stands) (text (goal.at.returns-then-k-lt11 c).Else-not-stands), ← c.letters-k.ensures, ne_eqb (k (goal.at.returns-then-k-lt11 c).After-letters-k) 11 (λ e. omega (arith, e, c.if-k-lt11.true)))
+
+pub overflow_add-end-3 : goal.overflow_add-end-3
+overflow_add-end-3 c = let h = twelve (goal.at.overflow_add-end-3 c).Else-k-lt11 in search rules
+
+pub overflow_add-result-then-m-eq0 : goal.overflow_add-result-then-m-eq0
+overflow_add-result-then-m-eq0 c = let h = twelve (goal.at.overflow_add-result-then-m-eq0 c).Else-k-lt11 in search rules
+
+-- what stands behind the letters
+module _ (j : After-ids-m) where
+  abbrev text''' : List ℕ
+  text''' = j.args.text.now
+
+  abbrev end''' : ℕ
+  end''' = j.args.at + j.args.n
+
+  colon''' : head_is 58 (drop end''' text''') ≡ true
+  colon''' = sym j.stands.ensures ∙ not-false _ (ap not j.if-not-stands.false)
+
+  abbrev k''' : ℕ
+  k''' = j.letters-k.result
+
+  all''' : k''' ≡ 11
+  all''' = omega (arith, j.if-k-lt11.false, j.letters-k.ensures, spelt-most license_ref (drop (end''' + 1) (text''')))
+
+  there''' : drop 11 (drop (end''' + 1) (text''')) ≡ drop (end''' + 12) (text''')
+  there''' =
+      let q : end''' + 1 + 11 ≡ end''' + 12 = omega arith in
+      drop-drop 11 (end''' + 1) (text''') ∙ ap (λ (m : ℕ). drop m (text''')) q
+
+  behind : after_document j.args.n (drop (end''') (text''')) ≡ idstring j.args.n j.ids-m.result
+  unfolding after_document after_colon
+  behind =
+      rw (colon''', drop-one (end''') (text'''), ← j.letters-k.ensures, eq-eqb (k''') 11 (all'''), there''', ← j.ids-m.ensures)
+
+pub returns-then-m-eq0 : goal.returns-then-m-eq0
+unfolding idstring
+returns-then-m-eq0 c = sym (behind (goal.at.returns-then-m-eq0 c).After-ids-m ∙ rw (eq-eqb c.ids-m.result 0 c.if-m-eq0.true))
+
+pub overflow_add-result-3 : goal.overflow_add-result-3
+overflow_add-result-3 c = let h = ids_in (text (goal.at.overflow_add-result-3 c).Else-not-stands) (end (goal.at.overflow_add-result-3 c).Else-not-stands + 12) c.ids-m.result (twelve (goal.at.overflow_add-result-3 c).Else-k-lt11) c.ids-m.ensures in
+    search rules
+
+pub returns : goal.returns
+unfolding idstring
+returns c = sym (behind (goal.at.returns c).After-ids-m ∙ rw (ne_eqb c.ids-m.result 0 c.if-m-eq0.false))

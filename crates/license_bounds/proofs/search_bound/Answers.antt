@@ -1,0 +1,185 @@
+use mathlib.Core.Path.{◌≡◌, refl, ◌∙◌}
+use mathlib.Core.List.{List}
+use Prim.Native.Nat.{ℕ, ◌+◌, ◌*◌, ◌/◌, ◌<◌}
+use native.Mathlib.Omega.{arith}
+use lib.ListN.{length}
+use borrow.Author.Rules.{rules}
+use Rattle.rules.specs.declared.Value.{Value}
+use Rattle.rules.specs.Search.{Made, Stored, sweep}
+use Rattle.license_bounds.specs.declared.Task.{Task}
+use Rattle.preproc_table.specs.Entries.{lines_at}
+use Rattle.license_bounds.specs.Ready.{Kept, OfBody, score_at}
+use Rattle.license_bounds.proofs.ReadyLaws.{once, spans_in, kept-none, kept_more}
+use Rattle.license_bounds.proofs.RoundLaws.{Thirds, thirds, Paired, score-same, found-same, search-ends, search-stops, search-stops-one, search-left, search-right}
+use Rattle.license_bounds.proofs.search_bound.Goals as goal
+use Rattle.license_bounds.proofs.search_bound.Goals.{After-score_index-a, After-score_index-b, At-loop-r, In-loop-r}
+
+-- ---- the places that the answers speak of, each named from one near it
+-- the loop's head, and what scores an index
+module _ (h : At-loop-r) where
+  abbrev task : Task
+  task = h.args.task
+
+  abbrev scores : Stored → ℕ → Made Value
+  scores s = score_at (lines_at h.args.area.now h.args.words.now task.lines) s task.ends task.fixed
+
+  each-once : (s : Stored) (i : ℕ) → length (scores s i).list ≡ 1
+  each-once s i = once _ s task.ends task.fixed i
+
+  -- what stays, seen from here
+  abbrev KeptIn : List ℕ → List ℕ → Type 0
+  KeptIn area words =
+      Kept task.n task.lines h.args.class.now h.args.area.now h.args.words.now area words h.args.body.now
+
+-- a turn, and where it scores
+module _ (t : In-loop-r) where
+  small : t.args.to < 65538
+  small = t.requires.sought.small
+
+  third : Thirds t.loop-r.l t.loop-r.r ((2 * t.loop-r.l + t.loop-r.r) / 3) ((t.loop-r.l + 2 * t.loop-r.r) / 3)
+  third = thirds t.loop-r.l t.loop-r.r t.loop-r-test.true
+
+-- its first scoring is made
+module _ (o : After-score_index-a) where
+  abbrev task' : Task
+  task' = o.args.task
+
+  abbrev KeptIn' : List ℕ → List ℕ → Type 0
+  KeptIn' area words =
+      Kept task'.n task'.lines o.args.class.now o.args.area.now o.args.words.now area words o.args.body.now
+
+  paid : 0 < o.loop-r.left.count
+  paid = o.spent.ensures.some_left o.if-spent.false
+
+  kept-one : KeptIn' o.score_index-a.new.area o.score_index-a.new.words
+  kept-one = kept_more o.loop-r.invariant.0 o.score_index-a.ensures.kept
+
+-- and its second
+module _ (w : After-score_index-b) where
+  abbrev task'' : Task
+  task'' = w.args.task
+
+  abbrev scores'' : Stored → ℕ → Made Value
+  scores'' s = score_at (lines_at w.args.area.now w.args.words.now task''.lines) s task''.ends task''.fixed
+
+  abbrev KeptIn'' : List ℕ → List ℕ → Type 0
+  KeptIn'' area words =
+      Kept task''.n task''.lines w.args.class.now w.args.area.now w.args.words.now area words w.args.body.now
+
+  paid'' : 0 < w.loop-r.left.count
+  paid'' = w.spent.ensures.some_left w.if-spent.false
+
+  kept-one'' : KeptIn'' w.score_index-a.new.area w.score_index-a.new.words
+  kept-one'' = kept_more w.loop-r.invariant.0 w.score_index-a.ensures.kept
+
+  kept-two : KeptIn'' w.score_index-b.new.area w.score_index-b.new.words
+  kept-two = kept_more (kept-one'') w.score_index-b.ensures.kept
+
+  paired : OfBody w.args.body.now
+      (λ s. Paired (scores'' s) w.loop-r.l w.loop-r.r w.loop-r.left.count w.score_index-a.result.left.count
+      w.score_index-b.result.left.count w.score_index-a.result.value w.score_index-b.result.value)
+  paired s e = record {
+    far = w.loop-r-test.true;
+    paid = paid'';
+    one_less = w.score_index-a.ensures.left;
+    paid_again = w.spent-in-loop-r.ensures.some_left w.if-spent-2.false;
+    two_less = w.score_index-b.ensures.left;
+    at_low = score-same w.loop-r.invariant.0.same s (task'').ends (task'').fixed _ (w.score_index-a.ensures.value s e);
+    at_high = score-same (kept-one'').same s (task'').ends (task'').fixed _ (w.score_index-b.ensures.value s e);
+  }
+
+pub loop-r-init : goal.loop-r-init
+loop-r-init c = (kept-none c.requires.sought.working, omega arith, c.requires.from_le_to, omega arith, λ s e. refl)
+
+pub overflow_sub-r : goal.overflow_sub-r
+overflow_sub-r c = c.loop-r.invariant.2
+
+pub overflow_mul-low : goal.overflow_mul-low
+overflow_mul-low c = let fits = small (goal.at.overflow_mul-low c).In-loop-r in
+    search rules
+
+pub overflow_add-low : goal.overflow_add-low
+overflow_add-low c = let fits = small (goal.at.overflow_add-low c).In-loop-r in
+    search rules
+
+pub overflow_mul-high : goal.overflow_mul-high
+overflow_mul-high c = let fits = small (goal.at.overflow_mul-high c).In-loop-r in
+    search rules
+
+pub overflow_add-high : goal.overflow_add-high
+overflow_add-high c = let fits = small (goal.at.overflow_add-high c).In-loop-r in
+    search rules
+
+pub returns-then-spent : goal.returns-then-spent
+returns-then-spent c = let none_left = c.spent.ensures.none_left c.if-spent.true in
+    record {
+      found = λ s e. search-stops _ (each-once (goal.at.returns-then-spent c).At-loop-r s) c.loop-r.l c.loop-r.r c.loop-r.left.count c.loop-r-test.true none_left (c.loop-r.invariant.4 s e);
+      kept = c.loop-r.invariant.0;
+    }
+
+pub score_index-a-requires : goal.score_index-a-requires
+score_index-a-requires c = let low = (2 * c.loop-r.l + c.loop-r.r) / 3 in
+    let k = third (goal.at.score_index-a-requires c).In-loop-r in record { working = c.loop-r.invariant.0.working; spans = spans_in _ (task (goal.at.score_index-a-requires c).At-loop-r).ends _ _ _ low low c.requires.sought.spans (omega arith) (omega arith); count_nonzero = c.spent.ensures.some_left c.if-spent.false }
+
+pub returns-then-spent-2 : goal.returns-then-spent-2
+returns-then-spent-2 c = let none_left = c.spent-in-loop-r.ensures.none_left c.if-spent-2.true in
+    record {
+      found = λ s e.
+          search-stops-one _ (each-once (goal.at.returns-then-spent-2 c).At-loop-r s) c.loop-r.l c.loop-r.r c.loop-r.left.count c.score_index-a.result.left.count c.loop-r-test.true (paid (goal.at.returns-then-spent-2 c).After-score_index-a)
+          c.score_index-a.ensures.left none_left (c.loop-r.invariant.4 s e);
+      kept = kept-one (goal.at.returns-then-spent-2 c).After-score_index-a;
+    }
+
+pub score_index-b-requires : goal.score_index-b-requires
+score_index-b-requires c = let high = (c.loop-r.l + 2 * c.loop-r.r) / 3 in
+    let k = third (goal.at.score_index-b-requires c).In-loop-r in record { working = (kept-one (goal.at.score_index-b-requires c).After-score_index-a).working; spans = spans_in _ (task (goal.at.score_index-b-requires c).At-loop-r).ends _ _ _ high high c.requires.sought.spans (omega (arith, c.loop-r.invariant.1)) (omega (arith, c.loop-r.invariant.3)); count_nonzero = c.spent-in-loop-r.ensures.some_left c.if-spent-2.false }
+
+pub overflow_sub-r-then-b-a : goal.overflow_sub-r-then-b-a
+overflow_sub-r-then-b-a c = let k = third (goal.at.overflow_sub-r-then-b-a c).In-loop-r in
+    omega arith
+
+pub loop-r-smaller-then-b-a : goal.loop-r-smaller-then-b-a
+loop-r-smaller-then-b-a c = (third (goal.at.loop-r-smaller-then-b-a c).In-loop-r).left_less
+
+pub loop-r-preserved-then-b-a : goal.loop-r-preserved-then-b-a
+loop-r-preserved-then-b-a c = let k = third (goal.at.loop-r-preserved-then-b-a c).In-loop-r in (
+  kept-two (goal.at.loop-r-preserved-then-b-a c).After-score_index-b,
+  c.loop-r.invariant.1,
+  omega (arith, k.high-from),
+  omega (arith, k.high-to, c.loop-r.invariant.3),
+  λ s e.
+      search-left _ (each-once (goal.at.loop-r-preserved-then-b-a c).At-loop-r s) c.loop-r.l c.loop-r.r c.loop-r.left.count (paired (goal.at.loop-r-preserved-then-b-a c).After-score_index-b s e) c.if-b-a.true ∙ c.loop-r.invariant.4 s e,
+)
+
+pub overflow_add-l : goal.overflow_add-l
+overflow_add-l c = let k = third (goal.at.overflow_add-l c).In-loop-r in
+    let fits = small (goal.at.overflow_add-l c).In-loop-r in
+    search rules
+
+pub loop-r-smaller : goal.loop-r-smaller
+loop-r-smaller c = (third (goal.at.loop-r-smaller c).In-loop-r).right_less
+
+pub loop-r-preserved : goal.loop-r-preserved
+loop-r-preserved c = let k = third (goal.at.loop-r-preserved c).In-loop-r in (
+  kept-two (goal.at.loop-r-preserved c).After-score_index-b,
+  omega (arith, k.low-from, c.loop-r.invariant.1),
+  omega (arith, k.low-to),
+  c.loop-r.invariant.3,
+  λ s e.
+      search-right _ (each-once (goal.at.loop-r-preserved c).At-loop-r s) c.loop-r.l c.loop-r.r c.loop-r.left.count (paired (goal.at.loop-r-preserved c).After-score_index-b s e) c.if-b-a.false ∙ c.loop-r.invariant.4 s e,
+)
+
+pub sweep_all-requires : goal.sweep_all-requires
+sweep_all-requires c = let sought = c.requires.sought in
+    let spans = spans_in _ (task (goal.at.sweep_all-requires c).At-loop-r).ends _ _ _ c.loop-r.l c.loop-r.r sought.spans c.loop-r.invariant.1 c.loop-r.invariant.3 in
+    record { sought = record { working = c.loop-r.invariant.0.working; spans = spans; small = omega arith }; from_le_to = c.loop-r.invariant.2 }
+
+pub returns : goal.returns
+returns c = let near = c.sweep_all.ensures in
+    record {
+      found = λ s e.
+          search-ends _ (each-once (goal.at.returns c).At-loop-r s) c.loop-r.l c.loop-r.r c.loop-r.left.count c.loop-r-test.false
+          (found-same c.loop-r.invariant.0.same s (task (goal.at.returns c).At-loop-r).ends (task (goal.at.returns c).At-loop-r).fixed (λ f. sweep f (record { left = c.loop-r.l; right = c.loop-r.r })) c.loop-r.left.count (near.found s e))
+          (c.loop-r.invariant.4 s e);
+      kept = kept_more c.loop-r.invariant.0 near.kept;
+    }
