@@ -1,5 +1,5 @@
--- The lines that this program must write, as antt computes them from the definitions `scan` and `results_after`, `allowed`, `allowed_results` and `charged` alone:
--- `lines_hold` has the program's calls on its left, and the text of the file `stdout` on its right.
+-- The lines that this program must write, as antt computes them from the definitions `scan` and `results_after` alone: `lines_hold` has the
+-- program's calls on its left, and the text of the file `stdout` on its right.
 -- Assumes nothing.
 use mathlib.Core.Path.{◌≡◌, refl}
 use mathlib.Core.Bool.{true}
@@ -10,15 +10,12 @@ use lib.ListN.{drop, get_or, replicate}
 use Rattle.rules.specs.declared.Limits.{Limits}
 use Rattle.rules.specs.declared.Mode.{Mode}
 use Rattle.rules.specs.declared.Mode.TheVariants.{Elimination, TopDown}
-use Rattle.rules.specs.declared.Scanned.{Scanned}
 use Rattle.rules.specs.Sizes.{record_width}
 use Rattle.rules.specs.Bytes.{text}
 use Rattle.rules.specs.Book.{written, compiled}
 use Rattle.rules.specs.Refusal.{Areas}
 use Rattle.rules.specs.Jobs.{scan, results_after}
 use Rattle.rules.proofs.Opened.{opened}
-use Rattle.allowance.specs.declared.Allowance.{Allowance}
-use Rattle.allowance.specs.Allowed.{of_allowed, allowed, allowed_results, charged}
 use Rattle.questions.specs.Hex.{hex_glyph, hex_pairs}
 use Rattle.questions.specs.Numbers.{digits, decimal, four_bytes}
 
@@ -39,30 +36,15 @@ records_of (suc n) r =
     text " ; " ++ decimal (get_or r 0 0) ++ text " " ++ decimal (get_or r 1 0) ++ text " " ++ decimal (get_or r 2 0) ++ text " " ++
     hex_pairs (four_bytes (get_or r 3 0)) ++ text " " ++ decimal (get_or r 4 0) ++ text " " ++ decimal (get_or r 5 0) ++ records_of n (drop record_width r)
 
--- an answer and the results, without the end of its line
-told : Scanned → List ℕ → List ℕ
-told a r = decimal a.refusal ++ text " " ++ decimal a.count ++ text " " ++ decimal a.records ++ records_of a.records r
-
-no_results : List ℕ
-no_results = replicate (20 * record_width) 0
-
 line : List ℕ → Limits → Mode → ℕ → List ℕ
 line t lim mode budget =
-    told (scan t (book ∷ []) lim mode budget areas (20 * record_width)) (results_after t (book ∷ []) lim mode budget areas no_results) ++ 10 ∷ []
-
-text_two : List ℕ
-text_two = text "copyright 20xx me irl\n// My First License\nfn hello() {\n ..."
+    let a = scan t (book ∷ []) lim mode budget areas (20 * record_width) in
+    decimal a.refusal ++ text " " ++ decimal a.count ++ text " " ++ decimal a.records ++
+    records_of a.records (results_after t (book ∷ []) lim mode budget areas (replicate (20 * record_width) 0)) ++ 10 ∷ []
 
 pub second : ℕ → List ℕ
-second budget = line text_two (limits 0x3f666666 0x3f7d70a4) (Elimination true 10) budget
-
--- a scan of text 2 that is charged to an allowance
-pub within : ℕ → ℕ → List ℕ
-within cap used =
-    let x : Allowance = record { cap = cap; used = used } in
-    let lim = limits 0x3f666666 0x3f7d70a4 in
-    let a = allowed text_two (book ∷ []) lim (Elimination true 10) x areas (20 * record_width) in
-    told a (allowed_results text_two (book ∷ []) lim (Elimination true 10) x areas no_results) ++ text " used " ++ decimal (charged x a).used ++ 10 ∷ []
+second budget =
+    line (text "copyright 20xx me irl\n// My First License\nfn hello() {\n ...") (limits 0x3f666666 0x3f7d70a4) (Elimination true 10) budget
 
 pub copies : ℕ → ℕ → List ℕ
 copies step budget =
@@ -70,8 +52,7 @@ copies step budget =
 
 pub lines_hold :
     second 0 ++ second 1 ++ second 8 ++ second 9 ++ second 19 ++ second 20 ++ second 18446744073709551615 ++
-    copies 1 18446744073709551615 ++ copies 1 19 ++ copies 18446744073709551615 18446744073709551615 ++
-    within 50 0 ++ within 50 20 ++ within 50 40 ++ within 5 5 ++ within 5 6 ≡
-    text "12 0 0\n12 1 0\n12 8 0\n12 9 1 ; 0 1 2 3f800000 22 41\n12 19 1 ; 0 1 2 3f800000 22 41\n0 20 1 ; 0 1 2 3f800000 22 41\n0 20 1 ; 0 1 2 3f800000 22 41\n0 20 3 ; 0 0 1 3f800000 0 16 ; 0 2 3 3f800000 21 37 ; 0 4 5 3f800000 42 58\n12 19 2 ; 0 0 1 3f800000 0 16 ; 0 2 3 3f800000 21 37\n0 1 0\n0 20 1 ; 0 1 2 3f800000 22 41 used 20\n0 20 1 ; 0 1 2 3f800000 22 41 used 40\n12 10 1 ; 0 1 2 3f800000 22 41 used 50\n12 0 0 used 5\n17 0 0 used 6\n"
-unfolding second copies within line told no_results text_two records_of limits areas book of_allowed allowed allowed_results charged digits decimal four_bytes hex_pairs hex_glyph opened
+    copies 1 18446744073709551615 ++ copies 1 19 ++ copies 18446744073709551615 18446744073709551615 ≡
+    text "12 0 0\n12 1 0\n12 8 0\n12 9 1 ; 0 1 2 3f800000 22 41\n12 19 1 ; 0 1 2 3f800000 22 41\n0 20 1 ; 0 1 2 3f800000 22 41\n0 20 1 ; 0 1 2 3f800000 22 41\n0 20 3 ; 0 0 1 3f800000 0 16 ; 0 2 3 3f800000 21 37 ; 0 4 5 3f800000 42 58\n12 19 2 ; 0 0 1 3f800000 0 16 ; 0 2 3 3f800000 21 37\n0 1 0\n"
+unfolding second copies line records_of limits areas book digits decimal four_bytes hex_pairs hex_glyph opened
 lines_hold = refl

@@ -1,14 +1,12 @@
 // Runs the scan of the rules' marked case 10 on text 2 with each budget that matters, and top-down over three copies of a licence with
-// lines between, with the smallest and the largest step. Then three scans of text 2 in turn, charged to one allowance, one at its cap and
-// one above it. It writes a line for each answer: refusal, count, number of records, and the records: ` ; NUMBER FIRST AFTER BITS START END`;
-// and with an allowance what is then used: ` used N`.
+// lines between, with the smallest and the largest step. It writes a line for each answer: refusal, count, number of records, and the
+// records: ` ; NUMBER FIRST AFTER BITS START END`.
 //
-// The expected lines, in stdout, are not this code's: antt computes them from the definitions `scan` and `results_after` of the crate rules, `allowed`,
-// `allowed_results` and `charged` of the crate allowance (proofs/Expected.antt, `lines_hold`, one equation by `refl`). Assumes nothing but the C library's write.
+// The expected lines, in stdout, are not this code's: antt computes them from the definitions `scan` and `results_after` of the crate rules
+// (proofs/Expected.antt, `lines_hold`, one equation by `refl`). Assumes nothing but the C library's write.
 #![tactic(auto)]
 
-use allowance_job::scan_within;
-use rules::{Limits, Mode, RECORD_WIDTH, Scanned};
+use rules::{Limits, Mode, RECORD_WIDTH};
 use scan_job::scan;
 use telling::{print, print_count, print_number, print_records};
 
@@ -23,16 +21,6 @@ fn word_area() -> [u32; 1600] {
 
 fn results_area() -> [u32; 20 * RECORD_WIDTH] {
     [0; 20 * RECORD_WIDTH]
-}
-
-// An answer, without the end of its line.
-fn tell_answer(answer: Scanned, results: &[u32]) {
-    print_number(answer.refusal);
-    print(b" ");
-    print_count(answer.count);
-    print(b" ");
-    print_number(answer.records);
-    print_records(results, answer.records);
 }
 
 // The answer to a scan, in one line.
@@ -50,7 +38,12 @@ fn tell(text: &[u8], limits: Limits, mode: Mode, budget: u64) {
         &mut words,
         &mut results,
     );
-    tell_answer(answer, &results);
+    print_number(answer.refusal);
+    print(b" ");
+    print_count(answer.count);
+    print(b" ");
+    print_number(answer.records);
+    print_records(&results, answer.records);
     print(b"\x0a");
 }
 
@@ -84,36 +77,6 @@ fn three_copies(step: u64, budget: u64) {
     );
 }
 
-// Tells the same scan of text 2, charged to an allowance, and hands back what is then used. The second book is none, and not lent.
-fn charged(cap: u64, used: u64) -> u64 {
-    let mut area = byte_area();
-    let mut words = word_area();
-    let mut results = results_area();
-    let limits = Limits {
-        threshold: 0.9,
-        shallow: 0.99,
-    };
-    let spent = scan_within(
-        b"copyright 20xx me irl\x0a// My First License\x0afn hello() {\x0a ...",
-        b"\x01\x00\x00\x00\x01\x00A-\x00\x00\x00\x02\x00\x02\x00\x00\x00\x02\x00\x00\x00\x01\x00\x00\x00\x0d\x00\x00\x00first license\x01\x00\x00\x00\x08\x00\x00\x00my first",
-        b"no book",
-        false,
-        limits,
-        Mode::Elimination(true, 10),
-        cap,
-        used,
-        &mut area,
-        &mut words,
-        &mut results,
-    );
-    let answer = spent.answer;
-    tell_answer(answer, &results);
-    print(b" used ");
-    print_count(spent.used);
-    print(b"\x0a");
-    spent.used
-}
-
 fn main() {
     second_text(0);
     second_text(1);
@@ -125,9 +88,4 @@ fn main() {
     three_copies(1, 18446744073709551615);
     three_copies(1, 19);
     three_copies(18446744073709551615, 18446744073709551615);
-    let first = charged(50, 0);
-    let next = charged(50, first);
-    charged(50, next);
-    charged(5, 5);
-    charged(5, 6);
 }

@@ -1,0 +1,2 @@
+-- The recorded output, computed from the definitions.
+pub mod Expected
