@@ -87,7 +87,7 @@ pub fn scan_within<'a>(
     }
 }
 
-// Charges the allowance in place. The only function here that is lent it, since such a one is proved by hand.
+// Charges the allowance in place. The only function here that is lent it: sums and tests stand in the one of plain numbers.
 pub fn scan_allowed<'a>(
     text: &[u8],
     book: &'a [u8],

@@ -265,7 +265,7 @@ fn scan_numbers<'a>(
     }
 }
 
-// One scan for both modes and for one book or two, charged to the allowance in place: each function that is lent a struct is proved by hand.
+// One scan for both modes and for one book or two, charged to the allowance in place.
 pub fn chultarvi_scan_allowed<'a>(
     text: &[u8],
     book: &'a [u8],

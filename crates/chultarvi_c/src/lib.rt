@@ -205,7 +205,7 @@ pub extern "C" fn chultarvi_top_down_both<'a>(
     )
 }
 
-// One scan for both modes and for one book or two, charged to the allowance in place: each function that is lent a struct is proved by hand.
+// One scan for both modes and for one book or two, charged to the allowance in place.
 #[unsafe(no_mangle)]
 pub extern "C" fn chultarvi_scan_allowed<'a>(
     text: &[u8],

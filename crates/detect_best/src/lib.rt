@@ -45,6 +45,7 @@ pub fn no_best() -> Best
 
 // Whether the next text is the better one: where it scores strictly higher, and on equal scores where its kind goes before; only then the earlier
 // one stays. Its answer is no struct, since most texts do not win, and the best would be copied for each.
+#[tactic(auto, using(crate::proofs::BetterLaws::wins_lower, crate::proofs::BetterLaws::wins_tied))]
 pub fn wins(best: Best, next: Best) -> bool
     ensures { Wins best next result }
 {
