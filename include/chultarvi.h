@@ -66,10 +66,10 @@ extern "C" {
 
 /* 0.6.0: three answers have grown by m and t, so callers compile anew. 0.6.1: on equal scores a text's kind decides before its place. 0.7.0: a record has
    six numbers, so results grow; callers compile anew. 0.8.0: chultarvi_top_down_results takes the threshold too, so callers compile anew; above 0.0
-   top-down needs half the results. 0.9.0: scans by an allowance, and refusal 17, which is theirs alone; callers of the other calls need not change. */
-#define CHULTARVI_VERSION "0.9.0"
+   top-down needs half the results. */
+#define CHULTARVI_VERSION "0.8.0"
 #define CHULTARVI_VERSION_MAJOR 0
-#define CHULTARVI_VERSION_MINOR 9
+#define CHULTARVI_VERSION_MINOR 8
 #define CHULTARVI_VERSION_PATCH 0
 
 #define CHULTARVI_TEXT_MOST 1048576u   /* bytes of a text */
@@ -145,8 +145,6 @@ static inline const char *chultarvi_refusal_text(uint32_t refusal)
         "the text is no licence expression",
         "more than 32 parentheses are open",
         "the two books are of differing editions",
-        "unknown", /* 16 is no refusal */
-        "more is used of the allowance than its cap",
     };
     return refusal < sizeof refusal_texts / sizeof *refusal_texts ? refusal_texts[refusal] : "unknown";
 }
