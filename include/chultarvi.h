@@ -118,7 +118,7 @@ enum chultarvi_refusal {
     CHULTARVI_REFUSED_VIEW = 8,
     CHULTARVI_REFUSED_NUMBER = 9, /* a stored number of N or more */
     CHULTARVI_REFUSED_AREA_SMALL = 10,
-    CHULTARVI_REFUSED_OVERDRAWN = 17, /* of scans by an allowance: used is above cap */
+    CHULTARVI_REFUSED_OVERDRAWN = 17, /* of scans by an allowance: used is above cap; chultarvi_refusal_text has no words for it yet */
     CHULTARVI_REFUSED_OUTPUT_SHORT = 11,
     CHULTARVI_STOPPED_BY_BUDGET = 12,
     CHULTARVI_REFUSED_NO_EXPRESSION = 13,
