@@ -1,9 +1,10 @@
 /* Chultarvi for C and C++: a licence-note scanner whose every answer is proved. examples/embed.c is a whole caller to copy; host/cli/ is a larger one,
    and host/tests/face.c and expressions.c call everything here. host/install.sh puts header, archive, pkg-config file and CMake config in place.
 
-   Platform. libchultarvi.a is x86-64 code (ELF, the System V ABI: Linux and the BSDs, not Windows). Of other libraries it calls memcpy and memset only.
-   It has no unwind tables: a debugger or profiler cannot walk the stack through it; no exception can pass, since it calls nothing that throws. Floating
-   point must round to nearest, as it does when a program starts. A call takes less than 8 KiB of stack, one on a licence expression less than 16 KiB.
+   Platform. libchultarvi.a is x86-64 code of the level x86-64-v2, which has SSE4 (ELF, the System V ABI: Linux and the BSDs, not Windows). Of other
+   libraries it calls memcpy and memset only. It has no unwind tables: a debugger or profiler cannot walk the stack through it; no exception can pass,
+   since it calls nothing that throws. Floating point must round to nearest, as it does when a program starts. A call takes less than 8 KiB of stack,
+   one on a licence expression less than 16 KiB.
 
    Arguments. A slice is two arguments, a pointer and a count of elements (not bytes: for uint32_t one element is four bytes). A pointer may
    be null only where its count is 0; that is an empty slice. Pointers to uint32_t are aligned as C has it.

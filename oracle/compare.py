@@ -252,7 +252,8 @@ class Trial:
         self.keep = keep
         wanted = self.needed()
         for crate in wanted:
-            shutil.copytree(os.path.join(REPOSITORY, "crates", crate), os.path.join(self.folder, "crates", crate), ignore=shutil.ignore_patterns("out"))
+            source, copy = (os.path.join(top, "crates", crate) for top in (REPOSITORY, self.folder))
+            shutil.copytree(source, copy, ignore=shutil.ignore_patterns("out"))
         with open(os.path.join(self.folder, "crates.txt"), "w") as out:
             out.writelines(f"{crate}: {' '.join(deps)}\n" for crate, deps in wanted.items())
             out.write(f"trial: {' '.join(self.crates)}\n")
