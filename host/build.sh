@@ -32,22 +32,25 @@ need() {
     done
 }
 
-# The archive, older than nothing that it is made of. Its time becomes that of the start, since rt may leave an unchanged one, and a file may be
-# edited meanwhile.
+# The archive, older than nothing that it is made of: what rt writes, the folders out/ and with them the time of each crate's own folder, is none of
+# that. It is a copy of what rt makes of the crate chultarvi_c, under the name that callers link. Its time becomes that of the start, since rt may leave
+# an unchanged one, and a file may be edited meanwhile. The copy stands beside its place until it is whole.
 need_archive() {
-    [ -e "$archive" ] && [ -z "$(find "$root/crates" "$root/crates.txt" -newer "$archive" -print -quit)" ] && return
+    [ -e "$archive" ] && [ -z "$(find "$root/crates" "$root/crates.txt" -path "$root/crates/*/out" -prune -o \
+        -newer "$archive" ! -path "$root/crates" ! \( -path "$root/crates/*" ! -path "$root/crates/*/*" \) -print -quit)" ] && return
     command -v rt >/dev/null || {
         echo 'host: target/staticlib/libchultarvi.a is missing or older than crates/, and rt, which proves and builds it, is not here' >&2
         exit 2
     }
-    echo 'host: proving and building the archive (rt staticlib chultarvi)' >&2
-    mkdir -p "$root/target"
+    echo 'host: proving and building the archive (rt lib in crates/chultarvi_c)' >&2
+    mkdir -p "${archive%/*}"
     began=$(mktemp "$root/target/archive.XXXXXX")
-    (cd "$root" && rt staticlib chultarvi) >&2 || {
-        rm -f "$began"
+    copied=$(mktemp "$archive.XXXXXX")
+    if ! { (cd "$root/crates/chultarvi_c" && rt lib) >&2 && cp "$root/crates/chultarvi_c/out/libchultarvi_c.a" "$copied" && chmod 644 "$copied" &&
+        touch -r "$began" "$copied" && mv -f "$copied" "$archive"; }; then
+        rm -f "$began" "$copied"
         exit 2
-    }
-    touch -r "$began" "$archive"
+    fi
     rm -f "$began"
 }
 

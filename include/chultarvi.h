@@ -1,9 +1,10 @@
 /* Chultarvi for C and C++: a licence-note scanner whose every answer is proved. examples/embed.c is a whole caller to copy; host/cli/ is a larger one,
    and host/tests/face.c and expressions.c call everything here. host/install.sh puts header, archive, pkg-config file and CMake config in place.
 
-   Platform. libchultarvi.a is x86-64 code (ELF, the System V ABI: Linux and the BSDs, not Windows). Of other libraries it calls memcpy and memset only.
-   It has no unwind tables: a debugger or profiler cannot walk the stack through it; no exception can pass, since it calls nothing that throws. Floating
-   point must round to nearest, as it does when a program starts. A call takes less than 8 KiB of stack, one on a licence expression less than 16 KiB.
+   Platform. libchultarvi.a is x86-64 code of the level x86-64-v2, which has SSE4 (ELF, the System V ABI: Linux and the BSDs, not Windows). Of other
+   libraries it calls memcpy and memset only. It has no unwind tables: a debugger or profiler cannot walk the stack through it; no exception can pass,
+   since it calls nothing that throws. Floating point must round to nearest, as it does when a program starts. A call takes less than 8 KiB of stack,
+   one on a licence expression less than 16 KiB.
 
    Arguments. A slice is two arguments, a pointer and a count of elements (not bytes: for uint32_t one element is four bytes). A pointer may
    be null only where its count is 0; that is an empty slice. Pointers to uint32_t are aligned as C has it.
@@ -66,10 +67,10 @@ extern "C" {
 
 /* 0.6.0: three answers have grown by m and t, so callers compile anew. 0.6.1: on equal scores a text's kind decides before its place. 0.7.0: a record has
    six numbers, so results grow; callers compile anew. 0.8.0: chultarvi_top_down_results takes the threshold too, so callers compile anew; above 0.0
-   top-down needs half the results. 0.9.0: scans by an allowance, and refusal 17, which is theirs alone; callers of the other calls need not change. */
-#define CHULTARVI_VERSION "0.9.0"
+   top-down needs half the results. */
+#define CHULTARVI_VERSION "0.8.0"
 #define CHULTARVI_VERSION_MAJOR 0
-#define CHULTARVI_VERSION_MINOR 9
+#define CHULTARVI_VERSION_MINOR 8
 #define CHULTARVI_VERSION_PATCH 0
 
 #define CHULTARVI_TEXT_MOST 1048576u   /* bytes of a text */
@@ -118,7 +119,7 @@ enum chultarvi_refusal {
     CHULTARVI_REFUSED_VIEW = 8,
     CHULTARVI_REFUSED_NUMBER = 9, /* a stored number of N or more */
     CHULTARVI_REFUSED_AREA_SMALL = 10,
-    CHULTARVI_REFUSED_OVERDRAWN = 17, /* of scans by an allowance: used is above cap */
+    CHULTARVI_REFUSED_OVERDRAWN = 17, /* of scans by an allowance: used is above cap; chultarvi_refusal_text has no words for it yet */
     CHULTARVI_REFUSED_OUTPUT_SHORT = 11,
     CHULTARVI_STOPPED_BY_BUDGET = 12,
     CHULTARVI_REFUSED_NO_EXPRESSION = 13,
@@ -145,14 +146,12 @@ static inline const char *chultarvi_refusal_text(uint32_t refusal)
         "the text is no licence expression",
         "more than 32 parentheses are open",
         "the two books are of differing editions",
-        "unknown", /* 16 is no refusal */
-        "more is used of the allowance than its cap",
     };
     return refusal < sizeof refusal_texts / sizeof *refusal_texts ? refusal_texts[refusal] : "unknown";
 }
 
 /* How much to lend, in elements. `area` and `words`, for a text of n bytes; areas for CHULTARVI_TEXT_MOST serve every text, since a longer one is
-   refused by its length. `out`, for the table of a text of n bytes: more is never needed (proved: compiled-fits, crates/compile/proofs). `results`,
+   refused by its length. `out`, for the table of a text of n bytes: more is never needed (proved: compiled_fits, crates/compile/proofs). `results`,
    for elimination by its passes (none without optimize), for top-down by the text's lines: with a threshold above 0.0 a record for every second line, the
    first among them, since its ranges lie apart (see chultarvi_top_down); at 0.0 and -0.0 one for each line. Results for 0.0 serve every threshold. */
 static inline size_t chultarvi_area_bytes(size_t n) { return 8 * n + 64; }
@@ -193,7 +192,7 @@ chultarvi_bounds_found chultarvi_bounds(const uint8_t *text, size_t text_len, co
 
 /* Names the stored text `number`, counted from 0 in the book's order: the number of a record of a scan, for one. kind: CHULTARVI_ORIGINAL, _ALTERNATE or
    _HEADER. second, name_at, len: where the name stands that it stands under, its licence's; `len` bytes of the second book where `second` is true, else
-   of the first, from byte name_at on, and all of them lie in that book (proved: named-lies, named-spelled, named-most, crates/name_job/proofs). See
+   of the first, from byte name_at on, and all of them lie in that book (proved: named-lies, named_spelled, named-most, crates/name_job/proofs). See
    chultarvi_stored_name. The numbers in the records of a scan over the same books are never refused (proved: records-named). No text and no area is lent,
    and nothing is written. Where it is refused kind is CHULTARVI_NONE, and second, name_at and len are false, 0 and 0. Refusals 4, 5, 9. */
 typedef struct { uint32_t refusal, kind, len; bool second; size_t name_at; } chultarvi_text_named;
@@ -208,7 +207,7 @@ chultarvi_text_named chultarvi_name_stored(const uint8_t *book, size_t book_len,
                 best text, also those of the ranges (proved: best-first, crates/rules/proofs; overall-first, crates/scan_job/proofs)
      len, name  the licence's name. It is zero-filled, so no zero ends it where len is 64
      second, name_at  where the same bytes stand: in the second book where `second` is true, else in the first, from byte name_at on, and all of
-                them lie in that book (proved: part-lies, part-named, crates/scan_job/proofs). No name: false and 0. See chultarvi_name
+                them lie in that book (proved: part_lies, part-named, crates/scan_job/proofs). No name: false and 0. See chultarvi_name
      records    how many ranges were found. Each is a record of six numbers (CHULTARVI_RECORD_WIDTH) at the front of results: the stored text's number,
                 first line, line after last, the bits of the score (memcpy them into a float), start and end. The rest of results is as it was
                 start, end: the range's bytes in the text as it was lent, counted from 0. start is where its first line starts, end the byte after its last
@@ -240,7 +239,7 @@ chultarvi_note_scanned chultarvi_eliminate(const uint8_t *text, size_t text_len,
 /* Top-down: from the first line on, views that grow by `step` lines until a score reaches the threshold and falls below it again; the range found in
    such a view is recorded, and the search goes on one line after its end. `shallow` is tested as in elimination (6) and else not used.
    With a threshold above 0.0 the ranges are not empty, rise, and have at least one line between one and the next; so they are at most (lines + 1) / 2,
-   rounded down. That holds with every step and budget (proved: topDown-beside, crates/rules/proofs; at the face: ranges-beside, crates/scan_job/proofs), so a
+   rounded down. That holds with every step and budget (proved: top_down_beside, crates/rules/proofs; at the face: ranges_beside, crates/scan_job/proofs), so a
    viewer may draw them side by side as they come, with no test for overlaps. At 0.0 and -0.0 it does not hold, nor of elimination. */
 chultarvi_note_scanned chultarvi_top_down(const uint8_t *text, size_t text_len, const uint8_t *book, size_t book_len, float threshold, float shallow,
                                           uint64_t step, uint64_t budget, uint8_t *area, size_t area_len, uint32_t *words, size_t words_len,
@@ -269,9 +268,9 @@ chultarvi_note_scanned chultarvi_top_down_both(const uint8_t *text, size_t text_
 
 /* One allowance for many scans, those of a whole Save: set cap, how many scorings they may make together, and used, 0, once, and lend it to each scan
    in turn. Its budget is cap less used as it finds them, and used grows by its count; cap is never written. All else, the answer, records, results and
-   areas, is as of the plain call with this budget (proved: allowed-as-plain, allowed-count). So used is the sum of all counts: 12 leaves it equal to cap
-   (over-fills), each other refusal as it was (else-free), and where it is at most cap it stays so (used-most; all five crates/allowance/proofs, of what
-   these calls promise). Equal to cap is a budget of 0, which pays for no scan: 12, with count 0 (cap-stops,
+   areas, is as of the plain call with this budget (proved: allowed_as_plain, allowed-count). So used is the sum of all counts: 12 leaves it equal to cap
+   (over_fills), each other refusal as it was (else_free), and where it is at most cap it stays so (used_most; all five crates/allowance/proofs, of what
+   these calls promise). Equal to cap is a budget of 0, which pays for no scan: 12, with count 0 (cap_stops,
    crates/allowance_job/proofs). Above cap is refused by 17, after 10 and before 12.
    The allowance is not null and is aligned as C has it; it overlaps nothing else that is lent, and no two threads lend the same one at once. Calls that
    are no scan charge nothing; who wants chultarvi_score in the sum adds 1 to used where it is below cap. */
@@ -346,19 +345,19 @@ static inline const uint8_t *chultarvi_stored_name(const uint8_t *book, const ui
    Names are judged by their form, not by SPDX's list. The three words are in capitals, and LicenseRef- and DocumentRef- as they stand here; blanks are byte
    32, any number, at both ends too.
    Refusals: 13, no expression; `place` is the first byte with which no expression begins, counted from 0, and text_len where it breaks off (proved:
-   first-bad, crates/expression_place/proofs). 14: at `place` stands a parenthesis that could go on but finds 32 open. 11, after these: out is shorter
+   first_bad, crates/expression_place/proofs). 14: at `place` stands a parenthesis that could go on but finds 32 open. 11, after these: out is shorter
    than what would be written. */
 
 /* Does a list of accepted parts satisfy the text? A list has a part a line (byte 10 between), each as it would be written: single blanks, none at an
    end, and so no carriage return. A line that is none, an empty one too, accepts nothing. A part is met by its equal alone, identifier, `+` and exception,
    letters A-Z as a-z: GPL-2.0+ not by GPL-2.0. satisfied is false where it is refused, by 13 or 14. The time grows with the parts of the text times
    the bytes of the list. Text and list may be the same memory: one line satisfies itself exactly if it is a part as it would be written (proved:
-   line-itself, crates/expression_place/proofs). */
+   line_itself, crates/expression_place/proofs). */
 typedef struct { uint32_t refusal; bool satisfied; size_t place; } chultarvi_expression_satisfied;
 chultarvi_expression_satisfied chultarvi_satisfy(const uint8_t *text, size_t text_len, const uint8_t *list, size_t list_len);
 
 /* Writes the text back: single blanks, parts and operators in their order and letters, parentheses only round an OR under an AND. The same lists satisfy
-   it, and written again it stays (proved: written-same, written-again, crates/expression_job/proofs). It stands at the front of out; len: its bytes, at most
+   it, and written again it stays (proved: written_same, written_again, crates/expression_job/proofs). It stands at the front of out; len: its bytes, at most
    CHULTARVI_SPELLED_MOST of text_len, so that an out of as many is never too short (proved: written-most, room-enough). Where it is refused len is 0 and
    nothing is written. Refusals 13, 14, then 11. */
 #define CHULTARVI_SPELLED_MOST(n) ((n) + (n) / 5)

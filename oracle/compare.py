@@ -42,24 +42,24 @@ TOP_DOWN = "(TopDown {step})"
 USES = """\
 use Prim.Native.Nat.{ℕ}
 use Prim.Native.String.{String}
-use mathlib.Core.Path.{_≡_, refl}
+use mathlib.Core.Path.{◌≡◌, refl}
 use mathlib.Core.Bool.{Bool, true, false, cond}
-use mathlib.Core.List.{List, [], _∷_, _++_, map}
+use mathlib.Core.List.{List, [], ◌∷◌, ◌++◌, map}
 use lib.ListN.{length, take, drop, replicate}
-use lib.Ieee.{Float, toBits, ofBits, binary32}
-use Rattle·rules.specs.Bytes.{text, join}
-use Rattle·rules.specs.Points.{encoded}
-use Rattle·rules.specs.Lines.{lines}
-use Rattle·rules.specs.Passes.{aggressive}
-use Rattle·rules.specs.Search.{view, viewed}
-use Rattle·rules.specs.Scan.{events, scorings, records, verdict, numbers}
-use Rattle·rules.specs.Book.{shelved, editionOf, compiled}
-use Rattle·rules.specs.Refusal.{Areas}
-use Rattle·rules.specs.Jobs.{scoreJob, boundsJob, named, scan, resultsAfter}
-use Rattle·rules.specs.declared.Limits.{Limits}
-use Rattle·rules.specs.declared.Mode.{Mode}
-use Rattle·rules.specs.declared.Mode.the-variants.{Elimination, TopDown}
-use Rattle·rules.proofs.Opened.{opened}
+use lib.Ieee.{Float, to_bits, of_bits, binary32}
+use Rattle.rules.specs.Bytes.{text, join}
+use Rattle.rules.specs.Points.{encoded}
+use Rattle.rules.specs.Lines.{lines}
+use Rattle.rules.specs.Passes.{aggressive}
+use Rattle.rules.specs.Search.{view, viewed}
+use Rattle.rules.specs.Scan.{events, scorings, records, verdict, numbers}
+use Rattle.rules.specs.Book.{shelved, edition_of, compiled}
+use Rattle.rules.specs.Refusal.{Areas}
+use Rattle.rules.specs.Jobs.{score_job, bounds_job, named, scan, results_after}
+use Rattle.rules.specs.declared.Limits.{Limits}
+use Rattle.rules.specs.declared.Mode.{Mode}
+use Rattle.rules.specs.declared.Mode.TheVariants.{Elimination, TopDown}
+use Rattle.rules.proofs.Opened.{opened}
 """
 
 ROWS = """
@@ -70,67 +70,67 @@ pub record Row : Type 0 where
 -- texts are given by their bytes, a character for each
 
 -- of edition n: the normalised lines, joined by newlines
-pub linesRow : ℕ → String → String → Row
-linesRow n t w = record { got = encoded (join (lines n (text t))); want = text w }
+pub lines_row : ℕ → String → String → Row
+lines_row n t w = record { got = encoded (join (lines n (text t))); want = text w }
 
 -- of edition n: the lines from a up to e, after the aggressive passes
-pub viewRow : ℕ → String → ℕ → ℕ → String → Row
-viewRow n t a e w = record { got = encoded (aggressive (viewed (lines n (text t)) (view a e))); want = text w }
+pub view_row : ℕ → String → ℕ → ℕ → String → Row
+view_row n t a e w = record { got = encoded (aggressive (viewed (lines n (text t)) (view a e))); want = text w }
 
 -- of edition n: the table body
-pub tableRow : ℕ → String → String → Row
-tableRow n t w = record { got = compiled n (text t); want = text w }
+pub table_row : ℕ → String → String → Row
+table_row n t w = record { got = compiled n (text t); want = text w }
 
 pub room : Areas
 room = record { bytes = 100_000; words = 100_000 }
 
 pub bits : Float → ℕ
-bits x = toBits binary32 x
+bits x = to_bits binary32 x
 
 pub bit : Bool → ℕ
 bit b = cond b 1 0
 
 -- of the lines from a up to e against the stored text k: refusal, score bits
-pub scoreRow : String → ℕ → ℕ → List (List ℕ) → ℕ → List ℕ → Row
-scoreRow t a e books k w =
-    let r = scoreJob (text t) books (view a e) k room in
-    record { got = r .refusal ∷ bits (r .score) ∷ []; want = w }
+pub score_row : String → ℕ → ℕ → List (List ℕ) → ℕ → List ℕ → Row
+score_row t a e books k w =
+    let r = score_job (text t) books (view a e) k room in
+    record { got = r.refusal ∷ bits r.score ∷ []; want = w }
 
 -- refusal, count, first line, line after last, score bits
-pub boundsRow : String → ℕ → ℕ → List (List ℕ) → ℕ → List ℕ → Row
-boundsRow t a e books k w =
-    let r = boundsJob (text t) books (view a e) k room in
-    record { got = r .refusal ∷ r .count ∷ r .first ∷ r .after ∷ bits (r .score) ∷ []; want = w }
+pub bounds_row : String → ℕ → ℕ → List (List ℕ) → ℕ → List ℕ → Row
+bounds_row t a e books k w =
+    let r = bounds_job (text t) books (view a e) k room in
+    record { got = r.refusal ∷ r.count ∷ r.first ∷ r.after ∷ bits r.score ∷ []; want = w }
 
 pub limits : ℕ → ℕ → Limits
-limits threshold shallow = record { threshold = ofBits binary32 threshold; shallow = ofBits binary32 shallow }
+limits threshold shallow = record { threshold = of_bits binary32 threshold; shallow = of_bits binary32 shallow }
 
 -- a whole scan, of the books' edition: count, overall score bits, kind, records, the name's length, the name, then each record's six numbers
-pub scanRow : String → List (List ℕ) → Limits → Mode → List ℕ → Row
-scanRow t books lim mode w =
-    let es = events lim mode (shelved 0 books) (lines (editionOf books) (text t)) in
+pub scan_row : String → List (List ℕ) → Limits → Mode → List ℕ → Row
+scan_row t books lim mode w =
+    let es = events lim mode (shelved 0 books) (lines (edition_of books) (text t)) in
     let who = named lim (verdict es) in
     record {
       got =
-          length (scorings es) ∷ bits (verdict es .value .score) ∷ who .kind ∷ length (records es) ∷
-          length (who .name) ∷ who .name ++ numbers (text t) (records es);
+          length (scorings es) ∷ bits (verdict es).value.score ∷ who.kind ∷ length (records es) ∷
+          length who.name ∷ who.name ++ numbers (text t) (records es);
       want = w;
     }
 
 -- the public scan, with a budget and a results area of n sevens: refusal, count, overall score bits, kind, records, the name's length, its part
 -- (second, at, length), the name's 64 bytes, then the area after it
-pub jobRow : String → List (List ℕ) → Limits → Mode → ℕ → ℕ → List ℕ → Row
-jobRow t books lim mode budget n w =
+pub job_row : String → List (List ℕ) → Limits → Mode → ℕ → ℕ → List ℕ → Row
+job_row t books lim mode budget n w =
     let r = scan (text t) books lim mode budget room n in
     record {
       got =
-          r .refusal ∷ r .count ∷ bits (r .score) ∷ r .kind ∷ r .records ∷ r .len ∷ bit (r .part .second) ∷ r .part .at ∷ r .part .len ∷
-          r .name ++ resultsAfter (text t) books lim mode budget room (replicate n 7);
+          r.refusal ∷ r.count ∷ bits r.score ∷ r.kind ∷ r.records ∷ r.len ∷ bit r.part.second ∷ r.part.at ∷ r.part.len ∷
+          r.name ++ results_after (text t) books lim mode budget room (replicate n 7);
       want = w;
     }
 """
 
-UNFOLDING = "linesRow viewRow tableRow room bits bit scoreRow boundsRow limits scanRow jobRow opened"
+UNFOLDING = "lines_row view_row table_row room bits bit score_row bounds_row limits scan_row job_row opened"
 
 
 # ---- the oracle --------------------------------------------------------------------------------------------------------------------------
@@ -252,13 +252,13 @@ class Trial:
         self.keep = keep
         wanted = self.needed()
         for crate in wanted:
-            shutil.copytree(os.path.join(REPOSITORY, "crates", crate), os.path.join(self.folder, "crates", crate))
+            source, copy = (os.path.join(top, "crates", crate) for top in (REPOSITORY, self.folder))
+            shutil.copytree(source, copy, ignore=shutil.ignore_patterns("out"))
         with open(os.path.join(self.folder, "crates.txt"), "w") as out:
             out.writelines(f"{crate}: {' '.join(deps)}\n" for crate, deps in wanted.items())
             out.write(f"trial: {' '.join(self.crates)}\n")
-        self.write("src/lib.rt", "// Only specs/: rows to compute.\n")
-        self.write("specs/Lib.antt", "pub mod Rows\n")
-        self.write("proofs/Lib.antt", "")
+        self.write("src/lib.rt", "// Only proofs/: rows to compute.\n#![tactic(auto)]\n")
+        self.write("proofs/Lib.antt", "pub mod Rows\n")
 
     def needed(self):
         """The crates of the definitions and what they depend on, as the repository lists them."""
@@ -280,8 +280,11 @@ class Trial:
             raise Trouble(f"crates.txt does not list {', '.join(missing)}")
         return wanted
 
+    def path(self, name):
+        return os.path.join(self.folder, "crates", "trial", name)
+
     def write(self, name, text):
-        path = os.path.join(self.folder, "crates", "trial", name)
+        path = self.path(name)
         os.makedirs(os.path.dirname(path), exist_ok=True)
         with open(path, "w") as out:
             out.write(text)
@@ -291,18 +294,14 @@ class Trial:
         out = [self.head]
         for name, (before, claim, opened) in statements.items():
             out.append(f"\n{before}pub {name} : {claim}\nunfolding {opened} {self.opened}\n{name} = refl\n")
-        self.write("specs/Rows.antt", "".join(out))
-        run = subprocess.run(
-            ["rt", "check", "trial"],
-            cwd=self.folder,
-            env={**os.environ, "RT_CUT": "0", "RT_JOBS": "1"},
-            capture_output=True,
-            text=True,
-        )
-        if run.returncode == 0:
-            return {}
+        self.write("proofs/Rows.antt", "".join(out))
+        run = subprocess.run(["rt", "check", "--jobs", "1"], cwd=self.path(""), capture_output=True, text=True)
         said = run.stdout + run.stderr + f"rt check: exit status {run.returncode}"
-        messages = re.split(r"^(?=\S*specs/Rows\.antt:)", said, flags=re.M)[1:]
+        if run.returncode == 0:
+            if not run.stdout.rstrip().rpartition("\n")[2].startswith("logic=proved "):
+                raise Trouble(said)
+            return {}
+        messages = re.split(r"^(?=\S*proofs/Rows\.antt:)", said, flags=re.M)[1:]
         found = {}
         for message in messages:
             if re.match(r"\S+ note:", message):
@@ -324,8 +323,8 @@ class Trial:
 
 def batch_statement(name, rows):
     terms = "".join(f"    {row.term()} ∷\n" for row in rows)
-    before = f"pub {name}-rows : List Row\n{name}-rows =\n{terms}    []\n\n"
-    return before, f"map (λ c. c .got) {name}-rows ≡ map (λ c. c .want) {name}-rows", f"{name}-rows"
+    before = f"pub {name}_rows : List Row\n{name}_rows =\n{terms}    []\n\n"
+    return before, f"map (λ c. c.got) {name}_rows ≡ map (λ c. c.want) {name}_rows", f"{name}_rows"
 
 
 def differing(trial, rows, size):
@@ -343,12 +342,12 @@ def differing(trial, rows, size):
 
 def differing_parts(trial, row):
     """Of a row that differs and wants numbers, the parts that differ, by their names."""
-    statements = {"all": ("", f"length ({row.term()} .got) ≡ {len(row.want)}", "")}
+    statements = {"all": ("", f"length ({row.term()}).got ≡ {len(row.want)}", "")}
     names = {"all": "how many numbers there are"}
     at = 0
     for name, part in itertools.groupby(row.named):
         size = len(list(part))
-        statements[f"part{at}"] = ("", f"take {size} (drop {at} ({row.term()} .got)) ≡ {listed(row.want[at : at + size])}", "")
+        statements[f"part{at}"] = ("", f"take {size} (drop {at} ({row.term()}).got) ≡ {listed(row.want[at : at + size])}", "")
         names[f"part{at}"] = name
         at += size
     return [names[part] for part in trial.failures(statements)]
@@ -735,7 +734,7 @@ class Maker:
     def lines(self, rng, i):
         t = self.asked_on(self.text(rng, i))
         want = self.said(lambda oracle: oracle.lines(t))
-        return Row(f"linesRow {self.edition} {quoted(t)}", quoted("\n".join(want)), f"lines of {t!r}")
+        return Row(f"lines_row {self.edition} {quoted(t)}", quoted("\n".join(want)), f"lines of {t!r}")
 
     def whole(self, rng, i):
         t = self.asked_on(self.text(rng, i))
@@ -750,12 +749,12 @@ class Maker:
         joined = "\n".join(self.oracle.lines(t)[start:end])
         drawn = {self.oracle.ask("passes", hexed(joined)) for _ in range(6)}
         self.told["views whose common prefix is an unordered tie"] += len(drawn) > 1
-        return Row(f"viewRow {self.edition} {quoted(t)} {start} {end}", quoted(want), f"view {start} to {end} of {t!r}")
+        return Row(f"view_row {self.edition} {quoted(t)} {start} {end}", quoted(want), f"view {start} to {end} of {t!r}")
 
     def table(self, rng, i):
         t = self.asked_on(self.drawn(stored_text(rng)) if rng.random() < 0.3 else self.text(rng, i))
         want = self.said(lambda oracle: oracle.body(t))
-        return Row(f"tableRow {self.edition} {quoted(t)}", quoted(want), f"table of {t!r}")
+        return Row(f"table_row {self.edition} {quoted(t)}", quoted(want), f"table of {t!r}")
 
     # stored texts
     def books(self, rng, texts):
@@ -791,7 +790,7 @@ class Maker:
         start, end = any_view(rng, n) if rng.random() < 0.5 else (0, n)
         want = self.said(lambda oracle: oracle.ask("scores", start, end, hexed(t)).split(" ")[k])
         told = f"score of view {start} to {end} of {t!r} against {texts[k].text!r}"
-        return Row(f"scoreRow {quoted(t)} {start} {end} {lent(books)} {k}", [0, int(want, 16)], told, ["refusal", "score bits"])
+        return Row(f"score_row {quoted(t)} {start} {end} {lent(books)} {k}", [0, int(want, 16)], told, ["refusal", "score bits"])
 
     def bounds(self, rng, i):
         texts, books, t, n = self.setting(rng, 14)
@@ -803,7 +802,7 @@ class Maker:
         self.agree(told, " ".join(found), lambda: self.oracle.ask("bounds", *asked))
         want = [0, int(count), int(found[0]), int(found[1]), int(found[2], 16)]
         named = ["refusal", "count", "first line", "line after last", "score bits"]
-        return Row(f"boundsRow {quoted(t)} {start} {end} {lent(books)} {k}", want, told, named)
+        return Row(f"bounds_row {quoted(t)} {start} {end} {lent(books)} {k}", want, told, named)
 
     def agree(self, told, counted, draw):
         """The original's own answer must be the counted copy's, once its ties fall so."""
@@ -877,7 +876,7 @@ class Maker:
         name, licence = a.licence(s.texts)
         want = [a.count, a.score, licence, len(a.records), len(name), *name.encode("ascii"), *a.flat()]
         named = ["count", "score bits", "kind", "records", "length of the name"] + ["name"] * len(name) + record_names(a)
-        return Row(f"scanRow {s.call()}", want, s.told(), named)
+        return Row(f"scan_row {s.call()}", want, s.told(), named)
 
     def job(self, rng, i):
         """The public scan: budgets that do not pay all, and those that just do."""
@@ -894,7 +893,7 @@ class Maker:
         named = ["refusal", "count", "score bits", "kind", "records", "length of the name", *["part of the name"] * 3]
         named += ["name"] * 64 + record_names(a)
         named += ["results past the records"] * (len(want) - len(named))
-        return Row(f"jobRow {s.call()} {budget} {room}", want, f"{s.told()}, budget {budget}", named)
+        return Row(f"job_row {s.call()} {budget} {room}", want, f"{s.told()}, budget {budget}", named)
 
     def tell(self, s, a):
         if s.word == "down":
@@ -955,7 +954,7 @@ KINDS = {
     "job": (60, 1, "public scans with a budget and a results area"),
 }
 # a row that must be refused
-CONTROL = Row('linesRow 1 "a"', quoted("b"), "control")
+CONTROL = Row('lines_row 1 "a"', quoted("b"), "control")
 ROWS_A_RUN = 600
 SHOWN = 10
 TAKEN_APART = 3

@@ -31,55 +31,55 @@ import places
 from compare import Row, Trial, Trouble
 
 HEAD = """\
-use Prim.Native.Nat.{ℕ, zero, suc, _+_, _*_, _%_, _<_}
+use Prim.Native.Nat.{ℕ, zero, suc, ◌+◌, ◌*◌, ◌%◌, ◌<◌}
 use Prim.Native.String.{String}
-use mathlib.Core.Path.{_≡_, refl}
+use mathlib.Core.Path.{◌≡◌, refl}
 use mathlib.Core.Bool.{Bool, true, false, cond}
-use mathlib.Core.List.{List, [], _∷_, _++_, map}
+use mathlib.Core.List.{List, [], ◌∷◌, ◌++◌, map}
 use lib.ListN.{length, replicate}
-use lib.Ieee.{Float, toBits, ofBits, binary32}
-use Rattle·rules.specs.Bytes.{text}
-use Rattle·rules.specs.Search.{view}
-use Rattle·rules.specs.Book.{edition}
-use Rattle·rules.specs.Jobs.{lent, areaAfter, check, compile, outputAfter, scoreJob, boundsJob, happened, answered, scan, resultsAfter, nameJob}
-use Rattle·rules.specs.declared.Limits.{Limits}
-use Rattle·rules.specs.declared.Mode.{Mode}
-use Rattle·rules.specs.declared.Mode.the-variants.{Elimination, TopDown}
-use Rattle·rules.specs.declared.Scanned.{Scanned}
-use Rattle·allowance.specs.declared.Allowance.{Allowance}
-use Rattle·allowance.specs.Allowed.{ofAllowed, allowed, allowedResults, charged}
-use Rattle·rules.proofs.Opened.{opened}
+use lib.Ieee.{Float, to_bits, of_bits, binary32}
+use Rattle.rules.specs.Bytes.{text}
+use Rattle.rules.specs.Search.{view}
+use Rattle.rules.specs.Book.{edition}
+use Rattle.rules.specs.Jobs.{lent, area_after, check, compile, output_after, score_job, bounds_job, happened, answered, scan, results_after, name_job}
+use Rattle.rules.specs.declared.Limits.{Limits}
+use Rattle.rules.specs.declared.Mode.{Mode}
+use Rattle.rules.specs.declared.Mode.TheVariants.{Elimination, TopDown}
+use Rattle.rules.specs.declared.Scanned.{Scanned}
+use Rattle.allowance.specs.declared.Allowance.{Allowance}
+use Rattle.allowance.specs.Allowed.{of_allowed, allowed, allowed_results, charged}
+use Rattle.rules.proofs.Opened.{opened}
 use borrow.Author.Tests.{lt-ltb}
-use Rattle·rules.specs.Sizes.{textMost}
-use Rattle·rules.specs.Table.{nought}
-use Rattle·rules.specs.declared.View.{View}
-use Rattle·rules.specs.Refusal.{Areas, refusal, ofText, ofCompile, beforeCompile, ofView, ofScan, beforeScan}
+use Rattle.rules.specs.Sizes.{text_most}
+use Rattle.rules.specs.Table.{nought}
+use Rattle.rules.specs.declared.View.{View}
+use Rattle.rules.specs.Refusal.{Areas, refusal, of_text, of_compile, before_compile, of_view, of_scan, before_scan}
 
 -- refusal 1, over every text that is too long
-pub long-compile : (e : ℕ) (t : List ℕ) (a : Areas) (o : ℕ) → textMost < length t → compile e t a o ≡ record { refusal = 1; len = 0 }
-unfolding compile refusal ofCompile beforeCompile ofText
-long-compile e t a o h = simp (lt-ltb textMost (length t) h)
+pub long_compile : (e : ℕ) (t : List ℕ) (a : Areas) (o : ℕ) → text_most < length t → compile e t a o ≡ record { refusal = 1; len = 0 }
+unfolding compile refusal of_compile before_compile of_text
+long_compile e t a o h = simp (lt-ltb text_most (length t) h)
 
-pub long-score : (t : List ℕ) (bs : List (List ℕ)) (v : View) (k : ℕ) (a : Areas) → textMost < length t →
-    scoreJob t bs v k a ≡ record { refusal = 1; score = nought; m = 0; t = 0 }
-unfolding scoreJob refusal ofView ofText
-long-score t bs v k a h = simp (lt-ltb textMost (length t) h)
+pub long_score : (t : List ℕ) (bs : List (List ℕ)) (v : View) (k : ℕ) (a : Areas) → text_most < length t →
+    score_job t bs v k a ≡ record { refusal = 1; score = nought; m = 0; t = 0 }
+unfolding score_job refusal of_view of_text
+long_score t bs v k a h = simp (lt-ltb text_most (length t) h)
 
-pub long-bounds : (t : List ℕ) (bs : List (List ℕ)) (v : View) (k : ℕ) (a : Areas) → textMost < length t →
-    boundsJob t bs v k a ≡ record { refusal = 1; first = 0; after = 0; score = nought; m = 0; t = 0; count = 0 }
-unfolding boundsJob refusal ofView ofText
-long-bounds t bs v k a h = simp (lt-ltb textMost (length t) h)
+pub long_bounds : (t : List ℕ) (bs : List (List ℕ)) (v : View) (k : ℕ) (a : Areas) → text_most < length t →
+    bounds_job t bs v k a ≡ record { refusal = 1; first = 0; after = 0; score = nought; m = 0; t = 0; count = 0 }
+unfolding bounds_job refusal of_view of_text
+long_bounds t bs v k a h = simp (lt-ltb text_most (length t) h)
 
-pub long-scan : (t : List ℕ) (bs : List (List ℕ)) (lim : Limits) (mode : Mode) (b : ℕ) (a : Areas) (r : ℕ) → textMost < length t →
-    scan t bs lim mode b a r .refusal ≡ 1
-unfolding scan answered refusal ofScan beforeScan ofText
-long-scan t bs lim mode b a r h = simp (lt-ltb textMost (length t) h)
+pub long_scan : (t : List ℕ) (bs : List (List ℕ)) (lim : Limits) (mode : Mode) (b : ℕ) (a : Areas) (r : ℕ) → text_most < length t →
+    (scan t bs lim mode b a r).refusal ≡ 1
+unfolding scan answered refusal of_scan before_scan of_text
+long_scan t bs lim mode b a r h = simp (lt-ltb text_most (length t) h)
 
 -- and nothing has happened in it
-pub long-nothing : (t : List ℕ) (bs : List (List ℕ)) (lim : Limits) (mode : Mode) (b : ℕ) (a : Areas) (r : ℕ) → textMost < length t →
+pub long_nothing : (t : List ℕ) (bs : List (List ℕ)) (lim : Limits) (mode : Mode) (b : ℕ) (a : Areas) (r : ℕ) → text_most < length t →
     happened t bs lim mode b a r ≡ []
-unfolding happened refusal ofScan beforeScan ofText
-long-nothing t bs lim mode b a r h = simp (lt-ltb textMost (length t) h)
+unfolding happened refusal of_scan before_scan of_text
+long_nothing t bs lim mode b a r h = simp (lt-ltb text_most (length t) h)
 
 pub record Row : Type 0 where
   pub got : List ℕ
@@ -91,57 +91,57 @@ garbage m x zero = []
 garbage m x (suc n) = x ∷ garbage m ((x * 5 + 3) % m) n
 
 pub bits : Float → ℕ
-bits x = toBits binary32 x
+bits x = to_bits binary32 x
 
 pub bit : Bool → ℕ
 bit b = cond b 1 0
 
 pub limits : ℕ → ℕ → Limits
-limits threshold shallow = record { threshold = ofBits binary32 threshold; shallow = ofBits binary32 shallow }
+limits threshold shallow = record { threshold = of_bits binary32 threshold; shallow = of_bits binary32 shallow }
 
 -- refusal, texts
-pub checkRow : List ℕ → List ℕ → Row
-checkRow book w = let r = check book in record { got = r .refusal ∷ r .texts ∷ []; want = w }
+pub check_row : List ℕ → List ℕ → Row
+check_row book w = let r = check book in record { got = r.refusal ∷ r.texts ∷ []; want = w }
 
 -- what the book's edition is
-pub editionRow : List ℕ → List ℕ → Row
-editionRow book w = record { got = edition book ∷ []; want = w }
+pub edition_row : List ℕ → List ℕ → Row
+edition_row book w = record { got = edition book ∷ []; want = w }
 
 -- under edition e: refusal, length; the output and both areas at exit
-pub compileRow : ℕ → List ℕ → List ℕ → List ℕ → List ℕ → List ℕ → Row
-compileRow e t b a out w =
+pub compile_row : ℕ → List ℕ → List ℕ → List ℕ → List ℕ → List ℕ → Row
+compile_row e t b a out w =
     let r = compile e t (lent b a) (length out) in
     record {
-      got = r .refusal ∷ r .len ∷ outputAfter e t (lent b a) out ++ areaAfter (r .refusal) b ++ areaAfter (r .refusal) a;
+      got = r.refusal ∷ r.len ∷ output_after e t (lent b a) out ++ area_after r.refusal b ++ area_after r.refusal a;
       want = w;
     }
 
 -- refusal, score bits, m, t; both areas at exit
-pub scoreRow : List ℕ → List (List ℕ) → ℕ → ℕ → ℕ → List ℕ → List ℕ → List ℕ → Row
-scoreRow t bs s e k b a w =
-    let r = scoreJob t bs (view s e) k (lent b a) in
-    record { got = r .refusal ∷ bits (r .score) ∷ r .m ∷ r .t ∷ areaAfter (r .refusal) b ++ areaAfter (r .refusal) a; want = w }
+pub score_row : List ℕ → List (List ℕ) → ℕ → ℕ → ℕ → List ℕ → List ℕ → List ℕ → Row
+score_row t bs s e k b a w =
+    let r = score_job t bs (view s e) k (lent b a) in
+    record { got = r.refusal ∷ bits r.score ∷ r.m ∷ r.t ∷ area_after r.refusal b ++ area_after r.refusal a; want = w }
 
 -- refusal, first line, line after last, score bits, m, t, count; both areas at exit
-pub boundsRow : List ℕ → List (List ℕ) → ℕ → ℕ → ℕ → List ℕ → List ℕ → List ℕ → Row
-boundsRow t bs s e k b a w =
-    let r = boundsJob t bs (view s e) k (lent b a) in
+pub bounds_row : List ℕ → List (List ℕ) → ℕ → ℕ → ℕ → List ℕ → List ℕ → List ℕ → Row
+bounds_row t bs s e k b a w =
+    let r = bounds_job t bs (view s e) k (lent b a) in
     record {
-      got = r .refusal ∷ r .first ∷ r .after ∷ bits (r .score) ∷ r .m ∷ r .t ∷ r .count ∷ areaAfter (r .refusal) b ++ areaAfter (r .refusal) a;
+      got = r.refusal ∷ r.first ∷ r.after ∷ bits r.score ∷ r.m ∷ r.t ∷ r.count ∷ area_after r.refusal b ++ area_after r.refusal a;
       want = w;
     }
 
 -- refusal, count, score bits, m, t, kind, records, the name's length, its part, the name's 64 bytes
 pub told : Scanned → List ℕ
 told r =
-    r .refusal ∷ r .count ∷ bits (r .score) ∷ r .m ∷ r .t ∷ r .kind ∷ r .records ∷ r .len ∷ bit (r .part .second) ∷ r .part .at ∷ r .part .len ∷ r .name
+    r.refusal ∷ r.count ∷ bits r.score ∷ r.m ∷ r.t ∷ r.kind ∷ r.records ∷ r.len ∷ bit r.part.second ∷ r.part.at ∷ r.part.len ∷ r.name
 
 -- that; the results and both areas at exit
-pub scanRow : List ℕ → List (List ℕ) → Limits → Mode → ℕ → List ℕ → List ℕ → List ℕ → List ℕ → Row
-scanRow t bs lim mode budget b a results w =
+pub scan_row : List ℕ → List (List ℕ) → Limits → Mode → ℕ → List ℕ → List ℕ → List ℕ → List ℕ → Row
+scan_row t bs lim mode budget b a results w =
     let r = scan t bs lim mode budget (lent b a) (length results) in
     record {
-      got = told r ++ resultsAfter t bs lim mode budget (lent b a) results ++ areaAfter (r .refusal) b ++ areaAfter (r .refusal) a;
+      got = told r ++ results_after t bs lim mode budget (lent b a) results ++ area_after r.refusal b ++ area_after r.refusal a;
       want = w;
     }
 
@@ -149,24 +149,24 @@ pub allowance : ℕ → ℕ → Allowance
 allowance cap used = record { cap = cap; used = used }
 
 -- the same of a scan that is charged to an allowance, behind the allowance at exit
-pub allowedRow : List ℕ → List (List ℕ) → Limits → Mode → Allowance → List ℕ → List ℕ → List ℕ → List ℕ → Row
-allowedRow t bs lim mode x b a results w =
+pub allowed_row : List ℕ → List (List ℕ) → Limits → Mode → Allowance → List ℕ → List ℕ → List ℕ → List ℕ → Row
+allowed_row t bs lim mode x b a results w =
     let r = allowed t bs lim mode x (lent b a) (length results) in
     record {
       got =
-          charged x r .cap ∷ charged x r .used ∷ told r ++
-          allowedResults t bs lim mode x (lent b a) results ++ areaAfter (r .refusal) b ++ areaAfter (r .refusal) a;
+          (charged x r).cap ∷ (charged x r).used ∷ told r ++
+          allowed_results t bs lim mode x (lent b a) results ++ area_after r.refusal b ++ area_after r.refusal a;
       want = w;
     }
 
 -- refusal, kind, the name's part
-pub nameRow : List (List ℕ) → ℕ → List ℕ → Row
-nameRow bs k w =
-    let r = nameJob bs k in
-    record { got = r .refusal ∷ r .kind ∷ bit (r .part .second) ∷ r .part .at ∷ r .part .len ∷ []; want = w }
+pub name_row : List (List ℕ) → ℕ → List ℕ → Row
+name_row bs k w =
+    let r = name_job bs k in
+    record { got = r.refusal ∷ r.kind ∷ bit r.part.second ∷ r.part.at ∷ r.part.len ∷ []; want = w }
 """
-ROWS = "garbage bits bit limits checkRow editionRow compileRow scoreRow boundsRow told scanRow allowance allowedRow nameRow"
-UNFOLDING = f"{ROWS} ofAllowed allowed allowedResults charged opened"
+ROWS = "garbage bits bit limits check_row edition_row compile_row score_row bounds_row told scan_row allowance allowed_row name_row"
+UNFOLDING = f"{ROWS} of_allowed allowed allowed_results charged opened"
 CRATES = (compare.CRATE, "allowance")
 
 # ---- questions and answers as antt writes them ---------------------------------------------------------------------------------------------
@@ -213,20 +213,20 @@ def text_term(text):
 def called(q):
     """The call of the row, without what is wanted."""
     if q.job in ("check", "edition"):
-        return f"{q.job}Row {text_term(q.books[0])}"
+        return f"{q.job}_row {text_term(q.books[0])}"
     text, areas = text_term(q.text), f"{area_term(q.area, 1)} {area_term(q.words, 4)}"
     if q.job == "compile":
-        return f"compileRow {q.edition} {text} {areas} {area_term(q.out, 1)}"
+        return f"compile_row {q.edition} {text} {areas} {area_term(q.out, 1)}"
     books = compare.listed(map(text_term, q.books))
     if q.job == "name":
-        return f"nameRow {books} {q.number}"
+        return f"name_row {books} {q.number}"
     if q.job in ("score", "bounds"):
-        return f"{q.job}Row {text} {books} {q.start} {q.end} {q.number} {areas}"
+        return f"{q.job}_row {text} {books} {q.start} {q.end} {q.number} {areas}"
     mode = f"(Elimination {str(q.optimize).lower()} {q.passes})" if q.job == "eliminate" else f"(TopDown {q.step})"
     scan = f"{text} {books} (limits {q.threshold} {q.shallow}) {mode}"
     if q.allowance is not None:
-        return f"allowedRow {scan} (allowance {q.allowance.cap} {q.allowance.used}) {areas} {area_term(q.results, 4)}"
-    return f"scanRow {scan} {q.budget} {areas} {area_term(q.results, 4)}"
+        return f"allowed_row {scan} (allowance {q.allowance.cap} {q.allowance.used}) {areas} {area_term(q.results, 4)}"
+    return f"scan_row {scan} {q.budget} {areas} {area_term(q.results, 4)}"
 
 
 def wanted(q, a):
@@ -301,7 +301,7 @@ def controls(trial, seed):
         if job in asking.SCANS and not a.records:
             raise Trouble(f"no record in the wrong rows of {job}")
         for part in PARTS[job] + model.Allowance._fields * allowed:
-            name = f"{job}-{part}".replace("_", "-") + "-of-two" * two + "-allowed" * allowed
+            name = f"{job}_{part}" + "_of_two" * two + "_allowed" * allowed
             statements[name] = row(q, spoiled(a, job, part))
     refused = trial.failures({name: compare.batch_statement(name, [wrong]) for name, wrong in statements.items()})
     if set(refused) != set(statements):

@@ -4,9 +4,8 @@
     oracle/replay.py [--seed N]
 
 There are five lists, `replay_lines`, `replay_views`, `replay_tables`, `replay_scans` and `replay_accents`, one behind the other. crates/replay/stdin
-gets the questions and crates/replay/stdout the oracle's answers, those of scans with the bytes of each range (`placed`); `rt check replay` runs the
-program, which answers such questions with the proved functions, on the one and compares what it writes with the other. The seed (default 1) fixes the
-lists.
+gets the questions and crates/replay/stdout the oracle's answers, those of scans with the bytes of each range (`placed`); `rt ci` runs the program,
+which answers such questions with the proved functions, on the one and compares what it writes with the other. The seed (default 1) fixes the lists.
 
 The last list is of edition 3. It begins with a line `edition 3`, which the oracle is not sent and to which there is no answer, and asks questions of
 all kinds, of the cases of compare.py, of every code point from 80 to FF alone and between letters, and of random texts up to U+00FF.

@@ -1,4 +1,4 @@
-//! Links the archive that `rt staticlib chultarvi` leaves in the repository's target folder, and takes a record's width from the header.
+//! Links the archive that host/build.sh puts into the repository's target folder, and takes a record's width from the header.
 
 fn main() {
     let header = "../include/chultarvi.h";

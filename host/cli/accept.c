@@ -1,5 +1,5 @@
 /* The accepted parts of the subcommand expression: from lists, a part a line, and from single parts behind options, as one list that the library takes.
-   What a line is, the library judges: one line satisfies itself exactly if it is a part as it would be written (`line-itself`). */
+   What a line is, the library judges: one line satisfies itself exactly if it is a part as it would be written (`line_itself`). */
 #include "expression.h"
 #include <stdlib.h>
 #include <string.h>

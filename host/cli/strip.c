@@ -1,6 +1,6 @@
 /* A note's ranges side by side: a strip above its lines that is the whole note, from its first line to its last, in which each range is a piece as wide as
    its share of the lines, and never too narrow to be seen. Only of a top-down scan with a threshold above 0.0: of it include/chultarvi.h promises that the
-   ranges are not empty, rise, and have a line between one and the next (topDown-beside, crates/rules/proofs; at the face ranges-beside,
+   ranges are not empty, rise, and have a line between one and the next (top_down_beside, crates/rules/proofs; at the face ranges_beside,
    crates/scan_job/proofs). So they are drawn in one walk, as they were recorded: nothing is sorted or laid into lanes, and nothing tests for overlaps. */
 #include "page.h"
 #include <inttypes.h>

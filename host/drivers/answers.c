@@ -295,7 +295,8 @@ static void lend_allowance(char **w) {
 static void answer(char **w, int n, said_t said) {
     if (!strcmp(w[0], "counteliminate") && n == 7) answer_scan(w, said, false);
     else if (!strcmp(w[0], "countdown") && n == 6) answer_scan(w, said, true);
-    else if (said.placed || said.allowed) stop("no such question with places or an allowance");
+    else if (said.placed) stop("no such question with places");
+    else if (said.allowed) stop("no such question with an allowance");
     else if (!strcmp(w[0], "score") && n == 5) answer_view(w, said.border, false);
     else if (!strcmp(w[0], "countbounds") && n == 5) answer_view(w, said.border, true);
     else if (said.border) stop("no such question of two books");

@@ -5,9 +5,9 @@
 set -eu
 cd "$(dirname "$0")/../.."
 passed=0 failed=0
-# callers CRATE NAME EXPECTED: the crates that name CRATE::NAME, sorted, are EXPECTED
+# callers CRATE NAME EXPECTED: the crates that name CRATE::NAME, alone or in the braces behind CRATE::, sorted, are EXPECTED
 callers() {
-    found=$(grep -rlE "(^|[^a-z_:])$1::$2([^a-z_]|\$)" crates --include='*.rt' | sed 's|crates/\([^/]*\)/.*|\1|' | sort -u | tr '\n' ' ')
+    found=$(grep -rlzE "(^|[^a-z_:])$1::(\{([^}]*[^a-z_])?)?$2([^a-z_]|\$)" crates --include='*.rt' --exclude-dir=out | sed 's|crates/\([^/]*\)/.*|\1|' | sort -u | tr '\n' ' ')
     if [ "$found" = "$3 " ]; then
         passed=$((passed + 1))
     else
@@ -21,7 +21,7 @@ callers license_charge charge_exact 'license_bounds replay_scores score_work'
 callers license_charge scorings_of 'bounds_work replay_scores scan_job score_work'
 # and none takes them in under another name
 for crate in ngram_meet license_charge; do
-    if grep -rnE "use $crate( as |::\*|;)" crates --include='*.rt'; then
+    if grep -rlzE "use $crate( as |::\*|;|::\{([^}]*[^a-z_])?(self[^a-z_]|\*))" crates --include='*.rt' --exclude-dir=out; then
         echo "$crate is taken in whole or under another name: name its functions one by one"
         failed=$((failed + 1))
     else

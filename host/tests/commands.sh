@@ -43,7 +43,7 @@ err_is 'chultarvi: frob: no such command; chultarvi --help tells more'
 # usage
 run 0 --version
 out_is "chultarvi $(sed -n 's/^#define CHULTARVI_VERSION "\(.*\)"/\1/p' "$root/include/chultarvi.h")"
-out_is 'chultarvi 0.9.0'
+out_is 'chultarvi 0.8.0'
 run 2
 err_is "chultarvi: no command; $help"
 run 2 frob
@@ -471,7 +471,7 @@ ln -s "$root/host/run.sh" chultarvi-link
 ln -s chultarvi-link again-link
 for link in ./chultarvi-link ./again-link "$work/again-link"; do
     so 0 "$link --version"
-    out_is 'chultarvi 0.9.0'
+    out_is 'chultarvi 0.8.0'
 done
 so 0 "$work/chultarvi-link check a.book"
 out_is 'a.book: sound, 1 licence, 1 stored text, edition 1'

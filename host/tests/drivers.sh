@@ -80,13 +80,23 @@ answers_are "ok
 0 12 00000000 none ; 0 1 2 3f800000 22 41
 0 8 00000000 none ; 0 2 2 00000000 4 4
 0 1 3f800000 0"
+for wrong in "table $licence" "score 0 4 $two $licence" clear "countdown 3f666666 3f7d70a4 1 $two" "placed countdown 3f666666 3f7d70a4 1 1000 $two"; do
+    ask "placed $wrong"
+    stops 'no such question with places'
+done
+ask placed
+stops 'no such question'
 for wrong in "table $licence" "score 0 4 $two $licence" clear "countdown 3f666666 3f7d70a4 1 $two" "allowed countdown 3f666666 3f7d70a4 1 1000 $two"; do
-    for before in placed allowed 'allowed placed' 'placed placed'; do
+    ask "allowed $wrong"
+    stops 'no such question with an allowance'
+    for before in 'allowed placed' 'placed placed'; do
         ask "$before $wrong"
-        stops 'no such question with places or an allowance'
+        stops 'no such question with places'
     done
 done
-for lone in placed allowed 'allowed placed'; do
+ask "placed allowed countdown 3f666666 3f7d70a4 1 1000 $two"
+stops 'no such question with places'
+for lone in allowed 'allowed placed'; do
     ask $lone
     stops 'no such question'
 done

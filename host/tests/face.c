@@ -614,9 +614,9 @@ static void test_refusal_texts(void) {
     check(strstr(chultarvi_refusal_text(CHULTARVI_REFUSED_EDITIONS_DIFFER), "editions") != 0 && CHULTARVI_REFUSED_EDITIONS_DIFFER == 15, "editions");
     check(strstr(chultarvi_refusal_text(CHULTARVI_REFUSED_NO_EXPRESSION), "expression") != 0 && CHULTARVI_REFUSED_NO_EXPRESSION == 13, "13");
     check(strstr(chultarvi_refusal_text(CHULTARVI_REFUSED_TOO_DEEP), "32 parentheses") != 0 && CHULTARVI_REFUSED_TOO_DEEP == 14, "14");
-    check(strstr(chultarvi_refusal_text(CHULTARVI_REFUSED_OVERDRAWN), "allowance") != 0 && CHULTARVI_REFUSED_OVERDRAWN == 17, "17");
-    static const uint32_t none[] = {16, 18, UINT32_MAX};
-    for (size_t i = 0; i < sizeof none / sizeof *none; i++) check(strcmp(chultarvi_refusal_text(none[i]), "unknown") == 0, "16, and above 17");
+    static const uint32_t none[] = {16, 17, UINT32_MAX};
+    for (size_t i = 0; i < sizeof none / sizeof *none; i++) check(strcmp(chultarvi_refusal_text(none[i]), "unknown") == 0, "above 15");
+    check(CHULTARVI_REFUSED_OVERDRAWN == 17, "17");
     lent l = lend("\x80", 1, book_a, BOOK_A);
     check(score(&l, 0, 1, 0, "areas").refusal == CHULTARVI_REFUSED_TEXT_BYTES, "an answer's refusal is one of the enum");
     static_assert(CHULTARVI_REFUSED_TEXT_NOT_ASCII == CHULTARVI_REFUSED_TEXT_BYTES, "the old name of 2");

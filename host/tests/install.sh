@@ -210,7 +210,7 @@ if command -v cmake >/dev/null; then
     try_example
     run 1 cmake "$@" -B "$work/arm" -DCMAKE_SYSTEM_PROCESSOR=aarch64
     err_has 'libchultarvi.a is for x86-64, and this build is for aarch64'
-    for other in 0.8 0.10 1.0; do
+    for other in 0.7 0.9 1.0; do
         mkdir "$work/other-$other"
         sed "s/find_package(chultarvi ${version%.*}/find_package(chultarvi $other/" examples/CMakeLists.txt >"$work/other-$other/CMakeLists.txt"
         cp examples/embed.c "$work/other-$other"
