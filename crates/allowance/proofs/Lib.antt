@@ -1,5 +1,4 @@
--- The laws of a scan that is charged to an allowance, computed cases, that every scan makes a scoring, and what a walk by hand needs of an allowance that is lent.
+-- The laws of a scan that is charged to an allowance, computed cases, and that every scan makes a scoring.
 pub mod AllowedLaws
 pub mod Cases
 pub mod ScoringLaws
-pub mod LentLaws

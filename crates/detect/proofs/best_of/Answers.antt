@@ -30,27 +30,24 @@ module _ (f : After-next_on-text) where
   some_left = f.spent.ensures.some_left f.if-spent.false
 
 module _ (p : After-after_on-spot) where
-  abbrev books' : Shelf
-  books' = shelf p.args.book.now p.args.second.now
+  abbrev first_spot_of_p : After-first_spot-spot
+  first_spot_of_p = (goal.at.After-after_on-spot p).After-first_spot-spot
 
-  abbrev viewed' : Table
-  viewed' = table_over p.args.area.now p.args.t
-
-  some_left' : 0 < p.loop-spot.left.count
-  some_left' = p.spent.ensures.some_left p.if-spent.false
+  abbrev next_on_of_p : After-next_on-text
+  next_on_of_p = (goal.at.After-after_on-spot p).After-next_on-text
 
   less : p.args.texts.all - p.after_on-spot.result.number < p.args.texts.all - p.loop-spot.spot.number
   less = omega (arith, p.next_on-text.ensures.1, p.loop-spot-test.true, ap (λ (x : Spot). x.number) p.after_on-spot.ensures)
 
   step : (after : Best) → Betters p.loop-spot.best (record { text = p.next_on-text.result; value = p.charge-c.result.value }) after →
-      Walking (books') (viewed') p.args.floor p.args.budget.count after
+      Walking (books first_spot_of_p) (viewed first_spot_of_p) p.args.floor p.args.budget.count after
       p.charge-c.result.left.count p.after_on-spot.result
   step after b =
       let judged =
-      subst (λ (k : List ℕ). Judged p.to_beat-least.result (value_of (viewed') (table_of_body k)) p.charge-c.result.value)
+      subst (λ (k : List ℕ). Judged p.to_beat-least.result (value_of (viewed first_spot_of_p) (table_of_body k)) p.charge-c.result.value)
       p.body_of-body.ensures p.charge-c.ensures.value in
       walk_step p.loop-spot.invariant p.args.texts.all p.requires.counts_of.all _ _ _ _ _ _ p.loop-spot-test.true
-      (some_left') p.next_on-text.ensures p.to_beat-least.ensures judged b
+      (some_left next_on_of_p) p.next_on-text.ensures p.to_beat-least.ensures judged b
       p.charge-c.ensures.left p.after_on-spot.ensures
 
 pub loop-spot-init : goal.loop-spot-init
@@ -69,8 +66,9 @@ pub charge-c-requires : goal.charge-c-requires
 charge-c-requires c = record { tabled = c.requires.tabled; body_value = rw c.body_of-body.ensures c.next_on-text.ensures.0.found.is.sound; count_nonzero = some_left (goal.at.charge-c-requires c).After-next_on-text }
 
 pub after_on-spot-requires : goal.after_on-spot-requires
-after_on-spot-requires c = let t = c.next_on-text.ensures.0 in
-    (t.found.below, omega (arith, stands-inside (books (goal.at.after_on-spot-requires c).After-first_spot-spot) _ t, counted-most (books (goal.at.after_on-spot-requires c).After-first_spot-spot) _ c.requires.counts_of))
+after_on-spot-requires c = let first_spot = (goal.at.after_on-spot-requires c).After-first_spot-spot in
+    let t = c.next_on-text.ensures.0 in
+    (t.found.below, omega (arith, stands-inside (books first_spot) _ t, counted-most (books first_spot) _ c.requires.counts_of))
 
 pub loop-spot-smaller-then-wins : goal.loop-spot-smaller-then-wins
 loop-spot-smaller-then-wins c = less (goal.at.loop-spot-smaller-then-wins c).After-after_on-spot

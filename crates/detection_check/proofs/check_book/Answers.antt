@@ -24,8 +24,9 @@ pub check_next-requires : goal.check_next-requires
 check_next-requires c = c.loop-w.invariant.within
 
 pub loop-w-smaller : goal.loop-w-smaller
-loop-w-smaller c = let g = c.in-Next.is in
-    omega (arith, walked_on (bytes (goal.at.loop-w-smaller c).After-check_next) c.loop-w.walk c.check_next.result c.loop-w.invariant c.check_next.ensures _ g, (walked_next (bytes (goal.at.loop-w-smaller c).After-check_next) c.loop-w.walk c.check_next.result c.loop-w.invariant c.check_next.ensures _ g).within)
+loop-w-smaller c = let check_next = (goal.at.loop-w-smaller c).After-check_next in
+    let g = c.in-Next.is in
+    omega (arith, walked_on (bytes check_next) c.loop-w.walk c.check_next.result c.loop-w.invariant c.check_next.ensures _ g, (walked_next (bytes check_next) c.loop-w.walk c.check_next.result c.loop-w.invariant c.check_next.ensures _ g).within)
 
 pub loop-w-preserved : goal.loop-w-preserved
 loop-w-preserved c = walked_next (bytes (goal.at.loop-w-preserved c).After-check_next) c.loop-w.walk c.check_next.result c.loop-w.invariant c.check_next.ensures _ c.in-Next.is

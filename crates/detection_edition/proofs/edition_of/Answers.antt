@@ -35,9 +35,10 @@ slice_bounds-said_by-end c = let l = fits (goal.at.slice_bounds-said_by-end c).I
 
 pub returns-in-Whole : goal.returns-in-Whole
 unfolding edition said_at
-returns-in-Whole c = let same : body-start (goal.at.returns-in-Whole c).In-Whole + body-len (goal.at.returns-in-Whole c).In-Whole - body-start (goal.at.returns-in-Whole c).In-Whole ≡ body-len (goal.at.returns-in-Whole c).In-Whole = omega arith in
+returns-in-Whole c = let in_whole = (goal.at.returns-in-Whole c).In-Whole in
+    let same : body-start in_whole + body-len in_whole - body-start in_whole ≡ body-len in_whole = omega arith in
     let book = c.args.book.now in
-    c.said_by.ensures ∙ ap (λ (n : ℕ). said_by c.in-Whole.kind (take n (drop (body-start (goal.at.returns-in-Whole c).In-Whole) book))) same ∙ sym (ap (said_at book) (found (goal.at.returns-in-Whole c).In-Whole))
+    c.said_by.ensures ∙ ap (λ (n : ℕ). said_by c.in-Whole.kind (take n (drop (body-start in_whole) book))) same ∙ sym (ap (said_at book) (found in_whole))
 
 pub returns-in-End : goal.returns-in-End
 unfolding edition said_at at_of

@@ -37,10 +37,10 @@ loop-i-preserved-then-x-eq32 c = let k : c.loop-i.i ≡ 0 → ⊥ = λ z. c.if-i
 
 -- at any other
 module _ (p : Else-x-eq32) where
-  abbrev s' : List ℕ
-  s' = p.args.s.now
+  abbrev is_plain_of_p : After-is_plain
+  is_plain_of_p = (goal.at.Else-x-eq32 p).After-is_plain
 
-  no_plain : plain_term (get_or (s') p.loop-i.i 0) ≡ false
+  no_plain : plain_term (get_or (s is_plain_of_p) p.loop-i.i 0) ≡ false
   no_plain = sym p.is_plain.ensures ∙ p.if-is_plain.false
 
 pub returns-then-not-wide : goal.returns-then-not-wide
@@ -55,17 +55,17 @@ returns-then-not-wide_at c = let e =
 
 -- a letter of two bytes
 module _ (g : Else-not-wide_at) where
-  abbrev s'' : List ℕ
-  s'' = g.args.s.now
+  abbrev is_plain_of_g : After-is_plain
+  is_plain_of_g = (goal.at.Else-not-wide_at g).After-is_plain
 
   abbrev i : ℕ
   i = g.loop-i.i
 
-  two : wide_term (get_or (s'') i 0) (drop (i + 1) (s'')) ≡ true
+  two : wide_term (get_or (s is_plain_of_g) i 0) (drop (i + 1) (s is_plain_of_g)) ≡ true
   two = sym g.wide_at.ensures ∙ not-false _ (ap not g.if-not-wide_at.false)
 
-  within : i + 1 < length (s'')
-  within = wide-within (get_or (s'') i 0) (s'') (i + 1) two
+  within : i + 1 < length (s is_plain_of_g)
+  within = wide-within (get_or (s is_plain_of_g) i 0) (s is_plain_of_g) (i + 1) two
 
 pub overflow_add-i-in-loop-i : goal.overflow_add-i-in-loop-i
 overflow_add-i-in-loop-i c = omega (arith, within (goal.at.overflow_add-i-in-loop-i c).Else-not-wide_at)
@@ -74,9 +74,10 @@ pub loop-i-smaller : goal.loop-i-smaller
 loop-i-smaller c = omega (arith, within (goal.at.loop-i-smaller c).Else-not-wide_at)
 
 pub loop-i-preserved : goal.loop-i-preserved
-loop-i-preserved c = let e =
-    on-wide c.args.wide (s (goal.at.loop-i-preserved c).After-is_plain) c.loop-i.start c.loop-i.i c.loop-i-test.true c.loop-i.invariant.0 c.if-x-eq32.false (no_plain (goal.at.loop-i-preserved c).Else-x-eq32) (not-false _ (ap not c.if-not-wide.false)) (two (goal.at.loop-i-preserved c).Else-not-wide_at) in
-    (omega (arith, c.loop-i.invariant.0), omega (arith, within (goal.at.loop-i-preserved c).Else-not-wide_at), sym e ∙ c.loop-i.invariant.2)
+loop-i-preserved c = let else_not_wide_at = (goal.at.loop-i-preserved c).Else-not-wide_at in
+    let e =
+    on-wide c.args.wide (s (goal.at.loop-i-preserved c).After-is_plain) c.loop-i.start c.loop-i.i c.loop-i-test.true c.loop-i.invariant.0 c.if-x-eq32.false (no_plain (goal.at.loop-i-preserved c).Else-x-eq32) (not-false _ (ap not c.if-not-wide.false)) (two else_not_wide_at) in
+    (omega (arith, c.loop-i.invariant.0), omega (arith, within else_not_wide_at), sym e ∙ c.loop-i.invariant.2)
 
 -- at the end
 pub returns-then-start-eq0 : goal.returns-then-start-eq0

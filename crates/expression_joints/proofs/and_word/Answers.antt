@@ -27,8 +27,10 @@ module _ (e : Else-not-stands) where
   n-here = sym e.stands.ensures ∙ not-false _ (ap not e.if-not-stands.false)
 
 pub returns-then-not-stands-2 : goal.returns-then-not-stands-2
-returns-then-not-stands-2 c = laws.letter_on (text (goal.at.returns-then-not-stands-2 c).Else-not-stands) (at (goal.at.returns-then-not-stands-2 c).Else-not-stands) 78 (68 ∷ []) (n-here (goal.at.returns-then-not-stands-2 c).Else-not-stands) (laws.letter_bad (text (goal.at.returns-then-not-stands-2 c).Else-not-stands) (at (goal.at.returns-then-not-stands-2 c).Else-not-stands + 1) 68 [] (sym c.stands-2.ensures ∙ not-true _ (ap not c.if-not-stands-2.true)))
+returns-then-not-stands-2 c = let else_not_stands = (goal.at.returns-then-not-stands-2 c).Else-not-stands in
+    laws.letter_on (text else_not_stands) (at else_not_stands) 78 (68 ∷ []) (n-here else_not_stands) (laws.letter_bad (text else_not_stands) (at else_not_stands + 1) 68 [] (sym c.stands-2.ensures ∙ not-true _ (ap not c.if-not-stands-2.true)))
 
 pub returns : goal.returns
-returns c = laws.letter_on (text (goal.at.returns c).Else-not-stands) (at (goal.at.returns c).Else-not-stands) 78 (68 ∷ []) (n-here (goal.at.returns c).Else-not-stands)
-    (laws.letter_on (text (goal.at.returns c).Else-not-stands) (at (goal.at.returns c).Else-not-stands + 1) 68 [] (sym c.stands-2.ensures ∙ not-false _ (ap not c.if-not-stands-2.false)) (laws.at_place [] (omega arith) c.after_word.ensures))
+returns c = let else_not_stands = (goal.at.returns c).Else-not-stands in
+    laws.letter_on (text else_not_stands) (at else_not_stands) 78 (68 ∷ []) (n-here else_not_stands)
+    (laws.letter_on (text else_not_stands) (at else_not_stands + 1) 68 [] (sym c.stands-2.ensures ∙ not-false _ (ap not c.if-not-stands-2.false)) (laws.at_place [] (omega arith) c.after_word.ensures))

@@ -27,14 +27,17 @@ module _ (a : In-Part) where
   found = part-read text (at + 1) (λ l fs. run (drop at text) Ctl.want l fs at) a.in-Part.is a.read_part.ensures
 
 pub put_part-end-requires : goal.put_part-end-requires
-put_part-end-requires c = ((found (goal.at.put_part-end-requires c).In-Part).in_text.name, (found (goal.at.put_part-end-requires c).In-Part).in_text.exc)
+put_part-end-requires c = let in_part = (goal.at.put_part-end-requires c).In-Part in
+    ((found in_part).in_text.name, (found in_part).in_text.exc)
 
 pub part_in-requires : goal.part_in-requires
-part_in-requires c = ((found (goal.at.part_in-requires c).In-Part).in_text.name, (found (goal.at.part_in-requires c).In-Part).in_text.exc)
+part_in-requires c = let in_part = (goal.at.part_in-requires c).In-Part in
+    ((found in_part).in_text.name, (found in_part).in_text.exc)
 
 pub returns-in-Bad : goal.returns-in-Bad
 returns-in-Bad c = λ depth. no (λ l fs h. part_none c.args.text.now (c.args.at + 1) (λ l fs. run (drop c.args.at c.args.text.now) Ctl.want l fs c.args.at) c.in-Bad.is c.read_part.ensures l fs) refl
 
 pub returns-in-Part : goal.returns-in-Part
 unfolding part_of
-returns-in-Part c = λ depth. part-told c.args.list.now (text (goal.at.returns-in-Part c).In-Part) (at (goal.at.returns-in-Part c).In-Part) depth _ c.args.o (found (goal.at.returns-in-Part c).In-Part) refl c.part_in.ensures refl c.put_part-end.ensures
+returns-in-Part c = let in_part = (goal.at.returns-in-Part c).In-Part in
+    λ depth. part-told c.args.list.now (text in_part) (at in_part) depth _ c.args.o (found in_part) refl c.part_in.ensures refl c.put_part-end.ensures

@@ -41,35 +41,40 @@ module _ (d : After-ids-k) where
   by = exc_by exc (drop at list) k d.ids-k.ensures ∙ rw (drop-drop k at list)
 
 pub returns-then-k-eq0 : goal.returns-then-k-eq0
-returns-then-k-eq0 c = sym (by (goal.at.returns-then-k-eq0 c).After-ids-k ∙ rw (le-ltb 0 (k (goal.at.returns-then-k-eq0 c).After-ids-k) (omega (arith, c.if-k-eq0.true))))
+returns-then-k-eq0 c = let ids = (goal.at.returns-then-k-eq0 c).After-ids-k in
+    sym (by ids ∙ rw (le-ltb 0 (k ids) (omega (arith, c.if-k-eq0.true))))
 
 pub returns-then-k-xn : goal.returns-then-k-xn
-returns-then-k-xn c = let p = part_length c.args.text.now c.args.x c.args.xn c.requires.1 in
-    let q = part_length (list (goal.at.returns-then-k-xn c).After-ids-k) (at (goal.at.returns-then-k-xn c).After-ids-k) (k (goal.at.returns-then-k-xn c).After-ids-k) (inside (goal.at.returns-then-k-xn c).After-ids-k) in
-    let other = alike_not (exc (goal.at.returns-then-k-xn c).After-ids-k) (take (k (goal.at.returns-then-k-xn c).After-ids-k) (drop (at (goal.at.returns-then-k-xn c).After-ids-k) (list (goal.at.returns-then-k-xn c).After-ids-k))) (λ e. c.if-k-xn.true (sym q ∙ sym e ∙ p)) in
-    sym (by (goal.at.returns-then-k-xn c).After-ids-k ∙ rw other (and-false (ltb 0 (k (goal.at.returns-then-k-xn c).After-ids-k) && not (is_word (take (k (goal.at.returns-then-k-xn c).After-ids-k) (drop (at (goal.at.returns-then-k-xn c).After-ids-k) (list (goal.at.returns-then-k-xn c).After-ids-k)))) && ends (drop (at (goal.at.returns-then-k-xn c).After-ids-k + k (goal.at.returns-then-k-xn c).After-ids-k) (list (goal.at.returns-then-k-xn c).After-ids-k)))))
+returns-then-k-xn c = let ids = (goal.at.returns-then-k-xn c).After-ids-k in
+    let p = part_length c.args.text.now c.args.x c.args.xn c.requires.1 in
+    let q = part_length (list ids) (at ids) (k ids) (inside ids) in
+    let other = alike_not (exc ids) (take (k ids) (drop (at ids) (list ids))) (λ e. c.if-k-xn.true (sym q ∙ sym e ∙ p)) in
+    sym (by ids ∙ rw other (and-false (ltb 0 (k ids) && not (is_word (take (k ids) (drop (at ids) (list ids)))) && ends (drop (at ids + k ids) (list ids)))))
 
 pub overflow_add-at : goal.overflow_add-at
 overflow_add-at c = let h = inside (goal.at.overflow_add-at c).After-ids-k in search rules
 
 pub returns-then-not-line_ends : goal.returns-then-not-line_ends
-returns-then-not-line_ends c = let word = is_word (take (k (goal.at.returns-then-not-line_ends c).After-ids-k) (drop (at (goal.at.returns-then-not-line_ends c).After-ids-k) (list (goal.at.returns-then-not-line_ends c).After-ids-k))) in
-    sym (by (goal.at.returns-then-not-line_ends c).After-ids-k ∙ rw (sym c.line_ends.ensures ∙ not-true _ (ap not c.if-not-line_ends.true), and-false (ltb 0 (k (goal.at.returns-then-not-line_ends c).After-ids-k) && not word)))
+returns-then-not-line_ends c = let ids = (goal.at.returns-then-not-line_ends c).After-ids-k in
+    let word = is_word (take (k ids) (drop (at ids) (list ids))) in
+    sym (by ids ∙ rw (sym c.line_ends.ensures ∙ not-true _ (ap not c.if-not-line_ends.true), and-false (ltb 0 (k ids) && not word)))
 
 pub returns-then-is_word : goal.returns-then-is_word
-returns-then-is_word c = sym (by (goal.at.returns-then-is_word c).After-ids-k ∙ rw (sym c.is_word.ensures ∙ c.if-is_word.true, and-false (ltb 0 (k (goal.at.returns-then-is_word c).After-ids-k))))
+returns-then-is_word c = let ids = (goal.at.returns-then-is_word c).After-ids-k in
+    sym (by ids ∙ rw (sym c.is_word.ensures ∙ c.if-is_word.true, and-false (ltb 0 (k ids))))
 
 pub alike-requires : goal.alike-requires
 alike-requires c = let h = inside (goal.at.alike-requires c).After-ids-k in
     search rules
 
 pub returns : goal.returns
-returns c = let a = c.args in
+returns c = let ids = (goal.at.returns c).After-ids-k in
+    let a = c.args in
     c.alike.ensures
-    ∙ ap (λ (m : ℕ). alike (take m (drop a.x a.text.now)) (take (k (goal.at.returns c).After-ids-k) (drop (at (goal.at.returns c).After-ids-k) (list (goal.at.returns c).After-ids-k)))) c.if-k-xn.false
-    ∙ sym (by (goal.at.returns c).After-ids-k
+    ∙ ap (λ (m : ℕ). alike (take m (drop a.x a.text.now)) (take (k ids) (drop (at ids) (list ids)))) c.if-k-xn.false
+    ∙ sym (by ids
     ∙ rw (
-      lt-ltb 0 (k (goal.at.returns c).After-ids-k) (omega (arith, c.if-k-eq0.false)),
+      lt-ltb 0 (k ids) (omega (arith, c.if-k-eq0.false)),
       sym c.is_word.ensures ∙ c.if-is_word.false,
       sym c.line_ends.ensures ∙ not-false _ (ap not c.if-not-line_ends.false),
     ))

@@ -44,8 +44,9 @@ module _ (begin : Start) where
   unmet h = line_not name exc begin.args.plus (drop i list) (ap (λ (m : ℕ). alike name (take m (drop i list))) long ∙ h)
 
 pub returns-then-list-i : goal.returns-then-list-i
-returns-then-list-i c = sym (unmet (goal.at.returns-then-list-i c).Start (alike_not (name (goal.at.returns-then-list-i c).Start) (take (n (goal.at.returns-then-list-i c).Start) (drop (i (goal.at.returns-then-list-i c).Start) (list (goal.at.returns-then-list-i c).Start)))
-    (λ e. omega (arith, e, long (goal.at.returns-then-list-i c).Start, length-take (n (goal.at.returns-then-list-i c).Start) (drop (i (goal.at.returns-then-list-i c).Start) (list (goal.at.returns-then-list-i c).Start)), length-drop (i (goal.at.returns-then-list-i c).Start) (list (goal.at.returns-then-list-i c).Start), c.if-list-i.true, c.requires.0))))
+returns-then-list-i c = let start = (goal.at.returns-then-list-i c).Start in
+    sym (unmet start (alike_not (name start) (take (n start) (drop (i start) (list start)))
+    (λ e. omega (arith, e, long start, length-take (n start) (drop (i start) (list start)), length-drop (i start) (list start), c.if-list-i.true, c.requires.0))))
 
 pub alike-requires : goal.alike-requires
 alike-requires c = (omega (arith, c.if-list-i.false, c.requires.0), c.requires.1)
@@ -55,20 +56,8 @@ returns-then-not-alike c = sym (unmet (goal.at.returns-then-not-alike c).Start (
 
 -- a simple expression stands at the front
 module _ (x : In-Of) where
-  abbrev list' : List ℕ
-  list' = x.args.list.now
-
-  abbrev i' : ℕ
-  i' = x.args.i
-
-  abbrev n' : ℕ
-  n' = x.args.n
-
-  abbrev name' : List ℕ
-  name' = take n' (drop x.args.at x.args.text.now)
-
-  abbrev exc' : List ℕ
-  exc' = take x.args.xn (drop x.args.x x.args.text.now)
+  abbrev start_of_x : Start
+  start_of_x = (goal.at.In-Of x).Start
 
   abbrev m : ℕ
   m = x.in-Of.m
@@ -76,67 +65,58 @@ module _ (x : In-Of) where
   abbrev more : Bool
   more = x.in-Of.more
 
-  found : simple_at (drop (i') (list')) ≡ Of m more
+  found : simple_at (drop (i start_of_x) (list start_of_x)) ≡ Of m more
   found = sym x.simple_at.ensures ∙ x.in-Of.is
 
-  fits : behind m more ≤ length (drop (i') (list'))
-  fits = rw found at (simple_fits (drop (i') (list')))
+  fits : behind m more ≤ length (drop (i start_of_x) (list start_of_x))
+  fits = rw found at (simple_fits (drop (i start_of_x) (list start_of_x)))
 
-  apart : met_by (part (name') x.args.plus (exc')) (line_at (drop (i') (list')))
-      ≡ (alike (name') (take m (drop (i') (list'))) && agree x.args.plus more
-      && rest_met (exc') (drop (behind (i' + m) more) (list')))
+  apart : met_by (part (name start_of_x) x.args.plus (exc start_of_x)) (line_at (drop (i start_of_x) (list start_of_x)))
+      ≡ (alike (name start_of_x) (take m (drop (i start_of_x) (list start_of_x))) && agree x.args.plus more
+      && rest_met (exc start_of_x) (drop (behind ((i start_of_x) + m) more) (list start_of_x)))
   apart =
-      line-apart (name') (exc') x.args.plus (drop (i') (list')) m more found
-      ∙ rw (behind-drop (list') (i') m more)
+      line-apart (name start_of_x) (exc start_of_x) x.args.plus (drop (i start_of_x) (list start_of_x)) m more found
+      ∙ rw (behind-drop (list start_of_x) (i start_of_x) m more)
 
 pub returns-then-m-n : goal.returns-then-m-n
-returns-then-m-n c = let s = drop (i (goal.at.returns-then-m-n c).Start) (list (goal.at.returns-then-m-n c).Start) in
-    let q = length-take-le (m (goal.at.returns-then-m-n c).In-Of) s (omega (arith, fits (goal.at.returns-then-m-n c).In-Of, behind_least (m (goal.at.returns-then-m-n c).In-Of) (more (goal.at.returns-then-m-n c).In-Of))) in
-    sym (apart (goal.at.returns-then-m-n c).In-Of ∙ rw (alike_not (name (goal.at.returns-then-m-n c).Start) (take (m (goal.at.returns-then-m-n c).In-Of) s) (λ e. c.if-m-n.true (sym q ∙ sym e ∙ long (goal.at.returns-then-m-n c).Start))))
+returns-then-m-n c = let start = (goal.at.returns-then-m-n c).Start in
+    let in_of = (goal.at.returns-then-m-n c).In-Of in
+    let s = drop (i start) (list start) in
+    let q = length-take-le (m in_of) s (omega (arith, fits in_of, behind_least (m in_of) (more in_of))) in
+    sym (apart in_of ∙ rw (alike_not (name start) (take (m in_of) s) (λ e. c.if-m-n.true (sym q ∙ sym e ∙ long start))))
 
 -- and is as long as the part's identifier
 module _ (e : Else-m-n) where
-  abbrev list'' : List ℕ
-  list'' = e.args.list.now
+  abbrev start_of_e : Start
+  start_of_e = (goal.at.Else-m-n e).Start
 
-  abbrev i'' : ℕ
-  i'' = e.args.i
+  abbrev in_of_of_e : In-Of
+  in_of_of_e = (goal.at.Else-m-n e).In-Of
 
-  abbrev n'' : ℕ
-  n'' = e.args.n
-
-  abbrev m'' : ℕ
-  m'' = e.in-Of.m
-
-  abbrev more'' : Bool
-  more'' = e.in-Of.more
-
-  found'' : simple_at (drop (i'') (list'')) ≡ Of m'' more''
-  found'' = sym e.simple_at.ensures ∙ e.in-Of.is
-
-  fits'' : behind m'' more'' ≤ length (drop (i'') (list''))
-  fits'' = rw found'' at (simple_fits (drop (i'') (list'')))
-
-  inside : behind (i'' + n'') (more'') ≤ length (list'')
+  inside : behind ((i start_of_e) + (n start_of_e)) (more in_of_of_e) ≤ length (list start_of_e)
   inside =
-      let q = ap (λ (k : ℕ). behind k (more'')) e.if-m-n.false in
-      omega (arith, fits'', q, behind_add (list'') (i'') (n'') (more''), length-drop (i'') (list''), e.requires.0)
+      let q = ap (λ (k : ℕ). behind k (more in_of_of_e)) e.if-m-n.false in
+      omega (arith, (fits in_of_of_e), q, behind_add (list start_of_e) (i start_of_e) (n start_of_e) (more in_of_of_e), length-drop (i start_of_e) (list start_of_e), e.requires.0)
 
 pub overflow_add-i : goal.overflow_add-i
-overflow_add-i c = let h = inside (goal.at.overflow_add-i c).Else-m-n in
-    let k = behind_least (i (goal.at.overflow_add-i c).Start + n (goal.at.overflow_add-i c).Start) (more (goal.at.overflow_add-i c).In-Of) in
+overflow_add-i c = let start = (goal.at.overflow_add-i c).Start in
+    let h = inside (goal.at.overflow_add-i c).Else-m-n in
+    let k = behind_least (i start + n start) (more (goal.at.overflow_add-i c).In-Of) in
     search rules
 
 pub sign_meets-requires : goal.sign_meets-requires
 sign_meets-requires c = (inside (goal.at.sign_meets-requires c).Else-m-n, c.requires.2)
 
 pub returns-else-m-n : goal.returns-else-m-n
-returns-else-m-n c = let s = drop (i (goal.at.returns-else-m-n c).Start) (list (goal.at.returns-else-m-n c).Start) in
+returns-else-m-n c = let start = (goal.at.returns-else-m-n c).Start in
+    let in_of = (goal.at.returns-else-m-n c).In-Of in
+    let s = drop (i start) (list start) in
     c.sign_meets.ensures
-    ∙ sym (apart (goal.at.returns-else-m-n c).In-Of
-    ∙ ap (λ (k : ℕ). alike (name (goal.at.returns-else-m-n c).Start) (take k s) && agree c.args.plus (more (goal.at.returns-else-m-n c).In-Of) && rest_met (exc (goal.at.returns-else-m-n c).Start) (drop (behind (i (goal.at.returns-else-m-n c).Start + k) (more (goal.at.returns-else-m-n c).In-Of)) (list (goal.at.returns-else-m-n c).Start)))
+    ∙ sym (apart in_of
+    ∙ ap (λ (k : ℕ). alike (name start) (take k s) && agree c.args.plus (more in_of) && rest_met (exc start) (drop (behind (i start + k) (more in_of)) (list start)))
     c.if-m-n.false
     ∙ rw (sym c.alike.ensures ∙ not-false _ (ap not c.if-not-alike.false)))
 
 pub returns-in-Stuck : goal.returns-in-Stuck
-returns-in-Stuck c = sym (line-stuck (name (goal.at.returns-in-Stuck c).Start) (exc (goal.at.returns-in-Stuck c).Start) c.args.plus (drop (i (goal.at.returns-in-Stuck c).Start) (list (goal.at.returns-in-Stuck c).Start)) _ (sym c.simple_at.ensures ∙ c.in-Stuck.is))
+returns-in-Stuck c = let start = (goal.at.returns-in-Stuck c).Start in
+    sym (line-stuck (name start) (exc start) c.args.plus (drop (i start) (list start)) _ (sym c.simple_at.ensures ∙ c.in-Stuck.is))

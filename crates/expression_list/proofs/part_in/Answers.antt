@@ -50,7 +50,8 @@ pub loop-i-smaller : goal.loop-i-smaller
 loop-i-smaller c = omega (arith, c.loop-i-test.true)
 
 pub loop-i-preserved : goal.loop-i-preserved
-loop-i-preserved c = step (goal.at.loop-i-preserved c).After-line_meets false c.if-line_meets.false ∙ ap (λ (m : ℕ). met_from (it (goal.at.loop-i-preserved c).After-line_meets) (list (goal.at.loop-i-preserved c).After-line_meets) (i (goal.at.loop-i-preserved c).After-line_meets + (m + 1))) (sym c.line_len.ensures)
+loop-i-preserved c = let line_meets = (goal.at.loop-i-preserved c).After-line_meets in
+    step line_meets false c.if-line_meets.false ∙ ap (λ (m : ℕ). met_from (it line_meets) (list line_meets) (i line_meets + (m + 1))) (sym c.line_len.ensures)
 
 pub returns : goal.returns
 returns c = sym (c.loop-i.invariant ∙ from_end (part_of c.args.text.now c.args.part) c.args.list.now c.loop-i.i c.loop-i-test.false)

@@ -45,18 +45,15 @@ returns-then-letters-lt6 c = sym (by (goal.at.returns-then-letters-lt6 c).After-
 
 -- and with ` WITH `
 module _ (e : Else-letters-lt6) where
-  abbrev list' : List ℕ
-  list' = e.args.list.now
-
-  abbrev at' : ℕ
-  at' = e.args.at
+  abbrev letters_of_e : After-letters
+  letters_of_e = (goal.at.Else-letters-lt6 e).After-letters
 
   all : e.letters.result ≡ 6
-  all = omega (arith, e.if-letters-lt6.false, e.letters.ensures, spelt-most with_text (drop (at') (list')))
+  all = omega (arith, e.if-letters-lt6.false, e.letters.ensures, spelt-most with_text (drop (at letters_of_e) (list letters_of_e)))
 
-  inside : at' + 6 ≤ length (list')
+  inside : (at letters_of_e) + 6 ≤ length (list letters_of_e)
   inside =
-      let h = letters_in (list') (at') e.letters.result with_text e.requires.0 e.letters.ensures in
+      let h = letters_in (list letters_of_e) (at letters_of_e) e.letters.result with_text e.requires.0 e.letters.ensures in
       omega (arith, all)
 
 pub overflow_add-at : goal.overflow_add-at

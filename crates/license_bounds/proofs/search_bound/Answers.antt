@@ -41,51 +41,37 @@ module _ (t : In-loop-r) where
 
 -- its first scoring is made
 module _ (o : After-score_index-a) where
-  abbrev task' : Task
-  task' = o.args.task
-
-  abbrev KeptIn' : List ℕ → List ℕ → Type 0
-  KeptIn' area words =
-      Kept task'.n task'.lines o.args.class.now o.args.area.now o.args.words.now area words o.args.body.now
+  abbrev at_loop_r_of_o : At-loop-r
+  at_loop_r_of_o = (goal.at.After-score_index-a o).At-loop-r
 
   paid : 0 < o.loop-r.left.count
   paid = o.spent.ensures.some_left o.if-spent.false
 
-  kept-one : KeptIn' o.score_index-a.new.area o.score_index-a.new.words
+  kept-one : (KeptIn at_loop_r_of_o) o.score_index-a.new.area o.score_index-a.new.words
   kept-one = kept_more o.loop-r.invariant.0 o.score_index-a.ensures.kept
 
 -- and its second
 module _ (w : After-score_index-b) where
-  abbrev task'' : Task
-  task'' = w.args.task
+  abbrev at_loop_r_of_w : At-loop-r
+  at_loop_r_of_w = (goal.at.After-score_index-b w).At-loop-r
 
-  abbrev scores'' : Stored → ℕ → Made Value
-  scores'' s = score_at (lines_at w.args.area.now w.args.words.now task''.lines) s task''.ends task''.fixed
+  abbrev score_index_of_w : After-score_index-a
+  score_index_of_w = (goal.at.After-score_index-b w).After-score_index-a
 
-  abbrev KeptIn'' : List ℕ → List ℕ → Type 0
-  KeptIn'' area words =
-      Kept task''.n task''.lines w.args.class.now w.args.area.now w.args.words.now area words w.args.body.now
-
-  paid'' : 0 < w.loop-r.left.count
-  paid'' = w.spent.ensures.some_left w.if-spent.false
-
-  kept-one'' : KeptIn'' w.score_index-a.new.area w.score_index-a.new.words
-  kept-one'' = kept_more w.loop-r.invariant.0 w.score_index-a.ensures.kept
-
-  kept-two : KeptIn'' w.score_index-b.new.area w.score_index-b.new.words
-  kept-two = kept_more (kept-one'') w.score_index-b.ensures.kept
+  kept-two : (KeptIn at_loop_r_of_w) w.score_index-b.new.area w.score_index-b.new.words
+  kept-two = kept_more (kept-one score_index_of_w) w.score_index-b.ensures.kept
 
   paired : OfBody w.args.body.now
-      (λ s. Paired (scores'' s) w.loop-r.l w.loop-r.r w.loop-r.left.count w.score_index-a.result.left.count
+      (λ s. Paired ((scores at_loop_r_of_w) s) w.loop-r.l w.loop-r.r w.loop-r.left.count w.score_index-a.result.left.count
       w.score_index-b.result.left.count w.score_index-a.result.value w.score_index-b.result.value)
   paired s e = record {
     far = w.loop-r-test.true;
-    paid = paid'';
+    paid = (paid score_index_of_w);
     one_less = w.score_index-a.ensures.left;
     paid_again = w.spent-in-loop-r.ensures.some_left w.if-spent-2.false;
     two_less = w.score_index-b.ensures.left;
-    at_low = score-same w.loop-r.invariant.0.same s (task'').ends (task'').fixed _ (w.score_index-a.ensures.value s e);
-    at_high = score-same (kept-one'').same s (task'').ends (task'').fixed _ (w.score_index-b.ensures.value s e);
+    at_low = score-same w.loop-r.invariant.0.same s (task at_loop_r_of_w).ends (task at_loop_r_of_w).fixed _ (w.score_index-a.ensures.value s e);
+    at_high = score-same (kept-one score_index_of_w).same s (task at_loop_r_of_w).ends (task at_loop_r_of_w).fixed _ (w.score_index-b.ensures.value s e);
   }
 
 pub loop-r-init : goal.loop-r-init
@@ -122,12 +108,13 @@ score_index-a-requires c = let low = (2 * c.loop-r.l + c.loop-r.r) / 3 in
     let k = third (goal.at.score_index-a-requires c).In-loop-r in record { working = c.loop-r.invariant.0.working; spans = spans_in _ (task (goal.at.score_index-a-requires c).At-loop-r).ends _ _ _ low low c.requires.sought.spans (omega arith) (omega arith); count_nonzero = c.spent.ensures.some_left c.if-spent.false }
 
 pub returns-then-spent-2 : goal.returns-then-spent-2
-returns-then-spent-2 c = let none_left = c.spent-in-loop-r.ensures.none_left c.if-spent-2.true in
+returns-then-spent-2 c = let score_index = (goal.at.returns-then-spent-2 c).After-score_index-a in
+    let none_left = c.spent-in-loop-r.ensures.none_left c.if-spent-2.true in
     record {
       found = λ s e.
-          search-stops-one _ (each-once (goal.at.returns-then-spent-2 c).At-loop-r s) c.loop-r.l c.loop-r.r c.loop-r.left.count c.score_index-a.result.left.count c.loop-r-test.true (paid (goal.at.returns-then-spent-2 c).After-score_index-a)
+          search-stops-one _ (each-once (goal.at.returns-then-spent-2 c).At-loop-r s) c.loop-r.l c.loop-r.r c.loop-r.left.count c.score_index-a.result.left.count c.loop-r-test.true (paid score_index)
           c.score_index-a.ensures.left none_left (c.loop-r.invariant.4 s e);
-      kept = kept-one (goal.at.returns-then-spent-2 c).After-score_index-a;
+      kept = kept-one score_index;
     }
 
 pub score_index-b-requires : goal.score_index-b-requires
@@ -142,32 +129,35 @@ pub loop-r-smaller-then-b-a : goal.loop-r-smaller-then-b-a
 loop-r-smaller-then-b-a c = (third (goal.at.loop-r-smaller-then-b-a c).In-loop-r).left_less
 
 pub loop-r-preserved-then-b-a : goal.loop-r-preserved-then-b-a
-loop-r-preserved-then-b-a c = let k = third (goal.at.loop-r-preserved-then-b-a c).In-loop-r in (
-  kept-two (goal.at.loop-r-preserved-then-b-a c).After-score_index-b,
-  c.loop-r.invariant.1,
-  omega (arith, k.high-from),
-  omega (arith, k.high-to, c.loop-r.invariant.3),
-  λ s e.
-      search-left _ (each-once (goal.at.loop-r-preserved-then-b-a c).At-loop-r s) c.loop-r.l c.loop-r.r c.loop-r.left.count (paired (goal.at.loop-r-preserved-then-b-a c).After-score_index-b s e) c.if-b-a.true ∙ c.loop-r.invariant.4 s e,
-)
+loop-r-preserved-then-b-a c = let score_index = (goal.at.loop-r-preserved-then-b-a c).After-score_index-b in
+    let k = third (goal.at.loop-r-preserved-then-b-a c).In-loop-r in (
+      kept-two score_index,
+      c.loop-r.invariant.1,
+      omega (arith, k.high-from),
+      omega (arith, k.high-to, c.loop-r.invariant.3),
+      λ s e.
+          search-left _ (each-once (goal.at.loop-r-preserved-then-b-a c).At-loop-r s) c.loop-r.l c.loop-r.r c.loop-r.left.count (paired score_index s e) c.if-b-a.true ∙ c.loop-r.invariant.4 s e,
+    )
 
 pub overflow_add-l : goal.overflow_add-l
-overflow_add-l c = let k = third (goal.at.overflow_add-l c).In-loop-r in
-    let fits = small (goal.at.overflow_add-l c).In-loop-r in
+overflow_add-l c = let in_loop_r = (goal.at.overflow_add-l c).In-loop-r in
+    let k = third in_loop_r in
+    let fits = small in_loop_r in
     search rules
 
 pub loop-r-smaller : goal.loop-r-smaller
 loop-r-smaller c = (third (goal.at.loop-r-smaller c).In-loop-r).right_less
 
 pub loop-r-preserved : goal.loop-r-preserved
-loop-r-preserved c = let k = third (goal.at.loop-r-preserved c).In-loop-r in (
-  kept-two (goal.at.loop-r-preserved c).After-score_index-b,
-  omega (arith, k.low-from, c.loop-r.invariant.1),
-  omega (arith, k.low-to),
-  c.loop-r.invariant.3,
-  λ s e.
-      search-right _ (each-once (goal.at.loop-r-preserved c).At-loop-r s) c.loop-r.l c.loop-r.r c.loop-r.left.count (paired (goal.at.loop-r-preserved c).After-score_index-b s e) c.if-b-a.false ∙ c.loop-r.invariant.4 s e,
-)
+loop-r-preserved c = let score_index = (goal.at.loop-r-preserved c).After-score_index-b in
+    let k = third (goal.at.loop-r-preserved c).In-loop-r in (
+      kept-two score_index,
+      omega (arith, k.low-from, c.loop-r.invariant.1),
+      omega (arith, k.low-to),
+      c.loop-r.invariant.3,
+      λ s e.
+          search-right _ (each-once (goal.at.loop-r-preserved c).At-loop-r s) c.loop-r.l c.loop-r.r c.loop-r.left.count (paired score_index s e) c.if-b-a.false ∙ c.loop-r.invariant.4 s e,
+    )
 
 pub sweep_all-requires : goal.sweep_all-requires
 sweep_all-requires c = let sought = c.requires.sought in
@@ -175,11 +165,12 @@ sweep_all-requires c = let sought = c.requires.sought in
     record { sought = record { working = c.loop-r.invariant.0.working; spans = spans; small = omega arith }; from_le_to = c.loop-r.invariant.2 }
 
 pub returns : goal.returns
-returns c = let near = c.sweep_all.ensures in
+returns c = let at_loop_r = (goal.at.returns c).At-loop-r in
+    let near = c.sweep_all.ensures in
     record {
       found = λ s e.
-          search-ends _ (each-once (goal.at.returns c).At-loop-r s) c.loop-r.l c.loop-r.r c.loop-r.left.count c.loop-r-test.false
-          (found-same c.loop-r.invariant.0.same s (task (goal.at.returns c).At-loop-r).ends (task (goal.at.returns c).At-loop-r).fixed (λ f. sweep f (record { left = c.loop-r.l; right = c.loop-r.r })) c.loop-r.left.count (near.found s e))
+          search-ends _ (each-once at_loop_r s) c.loop-r.l c.loop-r.r c.loop-r.left.count c.loop-r-test.false
+          (found-same c.loop-r.invariant.0.same s (task at_loop_r).ends (task at_loop_r).fixed (λ f. sweep f (record { left = c.loop-r.l; right = c.loop-r.r })) c.loop-r.left.count (near.found s e))
           (c.loop-r.invariant.4 s e);
       kept = kept_more c.loop-r.invariant.0 near.kept;
     }

@@ -49,16 +49,18 @@ module _ (k : After-common_prefix-common) where
   done area r long p = process_done n lines v area₀ words₀ area₁ words₁ area r k.requires.start_le_end.0 k.requires.start_le_end.1 held long p
 
 pub process_plain-requires : goal.process_plain-requires
-process_plain-requires c = let e = strips_none (n (goal.at.process_plain-requires c).After-common_prefix-common) _ (area₁ (goal.at.process_plain-requires c).After-common_prefix-common) c.common_prefix-common.result c.common_prefix-common.ensures.strips c.in-Nothing.is in
-    (ready (goal.at.process_plain-requires c).After-common_prefix-common, chose_none (n (goal.at.process_plain-requires c).After-common_prefix-common) (lines (goal.at.process_plain-requires c).After-common_prefix-common) (v (goal.at.process_plain-requires c).After-common_prefix-common) (area₀ (goal.at.process_plain-requires c).After-common_prefix-common) (words₀ (goal.at.process_plain-requires c).After-common_prefix-common) (area₁ (goal.at.process_plain-requires c).After-common_prefix-common) (words₁ (goal.at.process_plain-requires c).After-common_prefix-common) c.requires.start_le_end.0 c.requires.start_le_end.1 (held (goal.at.process_plain-requires c).After-common_prefix-common) e)
+process_plain-requires c = let common_prefix = (goal.at.process_plain-requires c).After-common_prefix-common in
+    let e = strips_none (n common_prefix) _ (area₁ common_prefix) c.common_prefix-common.result c.common_prefix-common.ensures.strips c.in-Nothing.is in
+    (ready common_prefix, chose_none (n common_prefix) (lines common_prefix) (v common_prefix) (area₀ common_prefix) (words₀ common_prefix) (area₁ common_prefix) (words₁ common_prefix) c.requires.start_le_end.0 c.requires.start_le_end.1 (held common_prefix) e)
 
 pub process_stripped-requires : goal.process_stripped-requires
-process_stripped-requires c = let e = strips_span (n (goal.at.process_stripped-requires c).After-common_prefix-common) _ (area₁ (goal.at.process_stripped-requires c).After-common_prefix-common) c.common_prefix-common.result c.in-Prefix.s c.in-Prefix.e c.common_prefix-common.ensures.strips c.in-Prefix.is in (
-  ready (goal.at.process_stripped-requires c).After-common_prefix-common,
-  e.2,
-  e.3,
-  chose_span (n (goal.at.process_stripped-requires c).After-common_prefix-common) (lines (goal.at.process_stripped-requires c).After-common_prefix-common) (v (goal.at.process_stripped-requires c).After-common_prefix-common) (area₀ (goal.at.process_stripped-requires c).After-common_prefix-common) (words₀ (goal.at.process_stripped-requires c).After-common_prefix-common) (area₁ (goal.at.process_stripped-requires c).After-common_prefix-common) (words₁ (goal.at.process_stripped-requires c).After-common_prefix-common) c.requires.start_le_end.0 c.requires.start_le_end.1 (held (goal.at.process_stripped-requires c).After-common_prefix-common) _ e.0,
-)
+process_stripped-requires c = let common_prefix = (goal.at.process_stripped-requires c).After-common_prefix-common in
+    let e = strips_span (n common_prefix) _ (area₁ common_prefix) c.common_prefix-common.result c.in-Prefix.s c.in-Prefix.e c.common_prefix-common.ensures.strips c.in-Prefix.is in (
+      ready common_prefix,
+      e.2,
+      e.3,
+      chose_span (n common_prefix) (lines common_prefix) (v common_prefix) (area₀ common_prefix) (words₀ common_prefix) (area₁ common_prefix) (words₁ common_prefix) c.requires.start_le_end.0 c.requires.start_le_end.1 (held common_prefix) _ e.0,
+    )
 
 pub returns-in-Nothing : goal.returns-in-Nothing
 returns-in-Nothing c = done (goal.at.returns-in-Nothing c).After-common_prefix-common _ _ (search rules) c.process_plain.ensures

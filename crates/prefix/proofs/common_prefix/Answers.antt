@@ -77,125 +77,36 @@ module _ (x : After-list_prefixes-x) where
 
 -- and once one is chosen
 module _ (q : After-choose-found) where
-  abbrev n' : ℕ
-  n' = q.args.n
+  abbrev list_prefixes_of_q : After-list_prefixes-x
+  list_prefixes_of_q = (goal.at.After-choose-found q).After-list_prefixes-x
 
-  abbrev v' : View
-  v' = q.args.v
-
-  abbrev area₀' : List ℕ
-  area₀' = q.args.area.now
-
-  abbrev table₀' : List ℕ
-  table₀' = q.args.words.now
-
-  abbrev area' : List ℕ
-  area' = q.list_prefixes-x.new.area
-
-  abbrev table' : List ℕ
-  table' = q.list_prefixes-x.new.words
-
-  abbrev found' : Listed
-  found' = q.list_prefixes-x.result
-
-  abbrev lines' : List (List ℕ)
-  lines' = viewed (lines_at area₀' table₀' q.args.count) v'
-
-  lines_are' : lines' ≡ lines_from area₀' table₀' v'.start (v'.end - v'.start)
-  unfolding viewed
-  lines_are' = lines-viewed area₀' table₀' v'.start v'.end q.args.count q.requires.classes.2 q.requires.classes.3
-
-  lines-many' : length lines' ≡ v'.end - v'.start
-  lines-many' = ap length lines_are' ∙ lines-length area₀' table₀' v'.start (v'.end - v'.start)
-
-  stands' : ListStands n' (prefixes lines') area₀' table₀' found' area' table'
-  stands' = subst (λ (ls : List (List ℕ)). ListStands n' (prefixes ls) area₀' table₀' found' area' table') (sym lines_are') q.list_prefixes-x.ensures
-
-  smooth' : plain_lines (prefixes lines') ≡ true
-  smooth' = plain-prefixes lines' (plain-viewed (lines_at area₀' table₀' q.args.count) v' q.requires.count_value)
-
-  area_room' : 8 * n' + 64 ≤ length area'
-  area_room' = omega (arith, q.list_prefixes-x.auto.area, q.requires.n_le_text_most.1)
-
-  table-room' : 12 * n' + 64 ≤ length table'
-  table-room' = omega (arith, q.list_prefixes-x.auto.words, q.requires.n_le_text_most.2)
-
-  decided : Decided (lines') (take (found').end (area')) q.choose-found.result
+  decided : Decided (lines list_prefixes_of_q) (take (found list_prefixes_of_q).end (area list_prefixes_of_q)) q.choose-found.result
   decided =
-      (rw q.table_end-at.ensures at q.choose-found.ensures.decided) (lines')
-      (stands-listed (n') (lines') (area₀') (table₀') (found') (area') (table') (stands') (smooth') (area_room') (table-room'))
-      (lines-many')
+      (rw q.table_end-at.ensures at q.choose-found.ensures.decided) (lines list_prefixes_of_q)
+      (stands-listed (n list_prefixes_of_q) (lines list_prefixes_of_q) (area₀ list_prefixes_of_q) (table₀ list_prefixes_of_q) (found list_prefixes_of_q) (area list_prefixes_of_q) (table list_prefixes_of_q) (stands list_prefixes_of_q) (smooth list_prefixes_of_q) (area_room list_prefixes_of_q) (table-room list_prefixes_of_q))
+      (lines-many list_prefixes_of_q)
 
   abbrev last : List ℕ
   last = q.choose-found.new.words
 
-  last-low : take (table_end (n')) last ≡ take (table_end (n')) (table₀')
+  last-low : take (table_end (n list_prefixes_of_q)) last ≡ take (table_end (n list_prefixes_of_q)) (table₀ list_prefixes_of_q)
   last-low =
       let front = rw q.table_end-at.ensures at q.choose-found.ensures.front in
-      front ∙ (stands').table-low
+      front ∙ (stands list_prefixes_of_q).table-low
 
-  same_lines : lines' ≡ lines_from (area') last (v').start ((v').end - (v').start)
+  same_lines : (lines list_prefixes_of_q) ≡ lines_from (area list_prefixes_of_q) last (v list_prefixes_of_q).start ((v list_prefixes_of_q).end - (v list_prefixes_of_q).start)
   same_lines =
-      lines_are'
-      ∙ sym (view-same (n') q.args.count (area₀') (table₀') (area') last q.requires.classes.1 q.requires.classes.4 (stands').area_low last-low
-      (v').start ((v').end - (v').start) (omega (arith, q.requires.classes.2, q.requires.classes.3)))
+      (lines_are list_prefixes_of_q)
+      ∙ sym (view-same (n list_prefixes_of_q) q.args.count (area₀ list_prefixes_of_q) (table₀ list_prefixes_of_q) (area list_prefixes_of_q) last q.requires.classes.1 q.requires.classes.4 (stands list_prefixes_of_q).area_low last-low
+      (v list_prefixes_of_q).start ((v list_prefixes_of_q).end - (v list_prefixes_of_q).start) (omega (arith, q.requires.classes.2, q.requires.classes.3)))
 
 -- and it is a prefix
 module _ (f : In-Prefix) where
-  abbrev n'' : ℕ
-  n'' = f.args.n
+  abbrev list_prefixes_of_f : After-list_prefixes-x
+  list_prefixes_of_f = (goal.at.In-Prefix f).After-list_prefixes-x
 
-  abbrev v'' : View
-  v'' = f.args.v
-
-  abbrev area₀'' : List ℕ
-  area₀'' = f.args.area.now
-
-  abbrev table₀'' : List ℕ
-  table₀'' = f.args.words.now
-
-  abbrev area'' : List ℕ
-  area'' = f.list_prefixes-x.new.area
-
-  abbrev table'' : List ℕ
-  table'' = f.list_prefixes-x.new.words
-
-  abbrev found'' : Listed
-  found'' = f.list_prefixes-x.result
-
-  abbrev lines'' : List (List ℕ)
-  lines'' = viewed (lines_at area₀'' table₀'' f.args.count) v''
-
-  lines_are'' : lines'' ≡ lines_from area₀'' table₀'' v''.start (v''.end - v''.start)
-  unfolding viewed
-  lines_are'' = lines-viewed area₀'' table₀'' v''.start v''.end f.args.count f.requires.classes.2 f.requires.classes.3
-
-  lines-many'' : length lines'' ≡ v''.end - v''.start
-  lines-many'' = ap length lines_are'' ∙ lines-length area₀'' table₀'' v''.start (v''.end - v''.start)
-
-  stands'' : ListStands n'' (prefixes lines'') area₀'' table₀'' found'' area'' table''
-  stands'' = subst (λ (ls : List (List ℕ)). ListStands n'' (prefixes ls) area₀'' table₀'' found'' area'' table'') (sym lines_are'') f.list_prefixes-x.ensures
-
-  smooth'' : plain_lines (prefixes lines'') ≡ true
-  smooth'' = plain-prefixes lines'' (plain-viewed (lines_at area₀'' table₀'' f.args.count) v'' f.requires.count_value)
-
-  area_room'' : 8 * n'' + 64 ≤ length area''
-  area_room'' = omega (arith, f.list_prefixes-x.auto.area, f.requires.n_le_text_most.1)
-
-  table-room'' : 12 * n'' + 64 ≤ length table''
-  table-room'' = omega (arith, f.list_prefixes-x.auto.words, f.requires.n_le_text_most.2)
-
-  end-within'' : found''.end ≤ length area''
-  end-within'' = omega (arith, stands''.high, area_room'')
-
-  text-long'' : length (take found''.end area'') ≡ found''.end
-  text-long'' = length-take-le found''.end area'' end-within''
-
-  decided'' : Decided (lines'') (take (found'').end (area'')) f.choose-found.result
-  decided'' =
-      (rw f.table_end-at.ensures at f.choose-found.ensures.decided) (lines'')
-      (stands-listed (n'') (lines'') (area₀'') (table₀'') (found'') (area'') (table'') (stands'') (smooth'') (area_room'') (table-room''))
-      (lines-many'')
+  abbrev choose_of_f : After-choose-found
+  choose_of_f = (goal.at.In-Prefix f).After-choose-found
 
   abbrev from : ℕ
   from = f.in-Prefix.start
@@ -203,54 +114,63 @@ module _ (f : In-Prefix) where
   abbrev to : ℕ
   to = f.in-Prefix.stop
 
-  taken : Decided (lines'') (take (found'').end (area'')) (Prefix from to)
-  taken = subst (Decided (lines'') (take (found'').end (area''))) f.in-Prefix.is (decided'')
+  taken : Decided (lines list_prefixes_of_f) (take (found list_prefixes_of_f).end (area list_prefixes_of_f)) (Prefix from to)
+  taken = subst (Decided (lines list_prefixes_of_f) (take (found list_prefixes_of_f).end (area list_prefixes_of_f))) f.in-Prefix.is (decided choose_of_f)
 
-  bytes-there : slice from to (take (found'').end (area'')) ≡ slice from to (area'')
-  bytes-there = slice_first from to (found'').end (area'') (omega (arith, taken.1, text-long''))
+  bytes-there : slice from to (take (found list_prefixes_of_f).end (area list_prefixes_of_f)) ≡ slice from to (area list_prefixes_of_f)
+  bytes-there = slice_first from to (found list_prefixes_of_f).end (area list_prefixes_of_f) (omega (arith, taken.1, (text-long list_prefixes_of_f)))
 
 pub returns-then-k-eq0 : goal.returns-then-k-eq0
-returns-then-k-eq0 c = record { strips = without-none (lines (goal.at.returns-then-k-eq0 c).After-list_prefixes-x) (stands-none (n (goal.at.returns-then-k-eq0 c).After-list_prefixes-x) (lines (goal.at.returns-then-k-eq0 c).After-list_prefixes-x) (area₀ (goal.at.returns-then-k-eq0 c).After-list_prefixes-x) (table₀ (goal.at.returns-then-k-eq0 c).After-list_prefixes-x) (found (goal.at.returns-then-k-eq0 c).After-list_prefixes-x) (area (goal.at.returns-then-k-eq0 c).After-list_prefixes-x) (table (goal.at.returns-then-k-eq0 c).After-list_prefixes-x) (stands (goal.at.returns-then-k-eq0 c).After-list_prefixes-x) (smooth (goal.at.returns-then-k-eq0 c).After-list_prefixes-x) (area_room (goal.at.returns-then-k-eq0 c).After-list_prefixes-x) (table-room (goal.at.returns-then-k-eq0 c).After-list_prefixes-x) c.if-k-eq0.true); area = (stands (goal.at.returns-then-k-eq0 c).After-list_prefixes-x).area_low; words = (stands (goal.at.returns-then-k-eq0 c).After-list_prefixes-x).table-low }
+returns-then-k-eq0 c = let list_prefixes = (goal.at.returns-then-k-eq0 c).After-list_prefixes-x in
+    record { strips = without-none (lines list_prefixes) (stands-none (n list_prefixes) (lines list_prefixes) (area₀ list_prefixes) (table₀ list_prefixes) (found list_prefixes) (area list_prefixes) (table list_prefixes) (stands list_prefixes) (smooth list_prefixes) (area_room list_prefixes) (table-room list_prefixes) c.if-k-eq0.true); area = (stands list_prefixes).area_low; words = (stands list_prefixes).table-low }
 
 pub slice_bounds-choose-end-2 : goal.slice_bounds-choose-end-2
 slice_bounds-choose-end-2 c = sym (length-take-le _ _ (end-within (goal.at.slice_bounds-choose-end-2 c).After-list_prefixes-x))
 
 pub choose-found-requires : goal.choose-found-requires
-choose-found-requires c = let few = (stands (goal.at.choose-found-requires c).After-list_prefixes-x).few in
+choose-found-requires c = let list_prefixes = (goal.at.choose-found-requires c).After-list_prefixes-x in
+    let few = (stands list_prefixes).few in
     record {
-      k_nonzero = (omega arith, omega (arith, c.table_end-at.ensures, table-room (goal.at.choose-found-requires c).After-list_prefixes-x), omega (arith, c.requires.n_le_text_most.0), omega (arith, c.requires.classes.3, c.requires.classes.4, c.requires.n_le_text_most.0));
+      k_nonzero = (omega arith, omega (arith, c.table_end-at.ensures, table-room list_prefixes), omega (arith, c.requires.n_le_text_most.0), omega (arith, c.requires.classes.3, c.requires.classes.4, c.requires.n_le_text_most.0));
       by_index = rw c.table_end-at.ensures
-          (stands_fits (n (goal.at.choose-found-requires c).After-list_prefixes-x) (lines (goal.at.choose-found-requires c).After-list_prefixes-x) (area₀ (goal.at.choose-found-requires c).After-list_prefixes-x) (table₀ (goal.at.choose-found-requires c).After-list_prefixes-x) (found (goal.at.choose-found-requires c).After-list_prefixes-x) (area (goal.at.choose-found-requires c).After-list_prefixes-x) (table (goal.at.choose-found-requires c).After-list_prefixes-x) (stands (goal.at.choose-found-requires c).After-list_prefixes-x) (smooth (goal.at.choose-found-requires c).After-list_prefixes-x) (area_room (goal.at.choose-found-requires c).After-list_prefixes-x) (table-room (goal.at.choose-found-requires c).After-list_prefixes-x));
+          (stands_fits (n list_prefixes) (lines list_prefixes) (area₀ list_prefixes) (table₀ list_prefixes) (found list_prefixes) (area list_prefixes) (table list_prefixes) (stands list_prefixes) (smooth list_prefixes) (area_room list_prefixes) (table-room list_prefixes));
     }
 
 pub returns-in_default : goal.returns-in_default
-returns-in_default c = record { strips = subst (Decided (lines (goal.at.returns-in_default c).After-list_prefixes-x) (take (found (goal.at.returns-in_default c).After-list_prefixes-x).end (area (goal.at.returns-in_default c).After-list_prefixes-x))) c.in_default.is (decided (goal.at.returns-in_default c).After-choose-found); area = (stands (goal.at.returns-in_default c).After-list_prefixes-x).area_low; words = last-low (goal.at.returns-in_default c).After-choose-found }
+returns-in_default c = let list_prefixes = (goal.at.returns-in_default c).After-list_prefixes-x in
+    let choose = (goal.at.returns-in_default c).After-choose-found in
+    record { strips = subst (Decided (lines list_prefixes) (take (found list_prefixes).end (area list_prefixes))) c.in_default.is (decided choose); area = (stands list_prefixes).area_low; words = last-low choose }
 
 pub home-s-requires : goal.home-s-requires
-home-s-requires c = let d = taken (goal.at.home-s-requires c).In-Prefix in record {
-  classes = (
-    c.requires.classes.0,
-    apart_below c.args.count (table_end (n (goal.at.home-s-requires c).After-list_prefixes-x)) (omega (arith, c.requires.classes.4)) (table₀ (goal.at.home-s-requires c).After-list_prefixes-x) (last (goal.at.home-s-requires c).After-choose-found) (sym (last-low (goal.at.home-s-requires c).After-choose-found)) (n (goal.at.home-s-requires c).After-list_prefixes-x) (view_start (n (goal.at.home-s-requires c).After-list_prefixes-x)) c.requires.classes.1,
-    c.requires.classes.2,
-    c.requires.classes.3,
-    omega (arith, c.choose-found.auto.words, table-room (goal.at.home-s-requires c).After-list_prefixes-x, c.requires.classes.4),
-    omega (arith, area_room (goal.at.home-s-requires c).After-list_prefixes-x),
-  );
-  a_le_b = (
-    d.0,
-    omega (arith, d.1, text-long (goal.at.home-s-requires c).After-list_prefixes-x, end-within (goal.at.home-s-requires c).After-list_prefixes-x),
-    subst (λ (ls : List (List ℕ)). 0 < occurs (slice (from (goal.at.home-s-requires c).In-Prefix) (to (goal.at.home-s-requires c).In-Prefix) (area (goal.at.home-s-requires c).After-list_prefixes-x)) (prefixes ls)) (same_lines (goal.at.home-s-requires c).After-choose-found) (subst (λ (w : List ℕ). 0 < occurs w (prefixes (lines (goal.at.home-s-requires c).After-list_prefixes-x))) (bytes-there (goal.at.home-s-requires c).In-Prefix) d.3),
-  );
-}
+home-s-requires c = let in_prefix = (goal.at.home-s-requires c).In-Prefix in
+    let list_prefixes = (goal.at.home-s-requires c).After-list_prefixes-x in
+    let choose = (goal.at.home-s-requires c).After-choose-found in
+    let d = taken in_prefix in record {
+      classes = (
+        c.requires.classes.0,
+        apart_below c.args.count (table_end (n list_prefixes)) (omega (arith, c.requires.classes.4)) (table₀ list_prefixes) (last choose) (sym (last-low choose)) (n list_prefixes) (view_start (n list_prefixes)) c.requires.classes.1,
+        c.requires.classes.2,
+        c.requires.classes.3,
+        omega (arith, c.choose-found.auto.words, table-room list_prefixes, c.requires.classes.4),
+        omega (arith, area_room list_prefixes),
+      );
+      a_le_b = (
+        d.0,
+        omega (arith, d.1, text-long list_prefixes, end-within list_prefixes),
+        subst (λ (ls : List (List ℕ)). 0 < occurs (slice (from in_prefix) (to in_prefix) (area list_prefixes)) (prefixes ls)) (same_lines choose) (subst (λ (w : List ℕ). 0 < occurs w (prefixes (lines list_prefixes))) (bytes-there in_prefix) d.3),
+      );
+    }
 
 pub returns : goal.returns
-returns c = let h = c.home-s.ensures in record {
-  strips = (
-    subst (λ (w : List ℕ). without_prefix (lines (goal.at.returns c).After-list_prefixes-x) ≡ map (strip w) (lines (goal.at.returns c).After-list_prefixes-x)) (bytes-there (goal.at.returns c).In-Prefix ∙ sym h.bytes) (taken (goal.at.returns c).In-Prefix).2,
-    h.low,
-    h.order,
-    h.high,
-  );
-  area = (stands (goal.at.returns c).After-list_prefixes-x).area_low;
-  words = last-low (goal.at.returns c).After-choose-found;
-}
+returns c = let list_prefixes = (goal.at.returns c).After-list_prefixes-x in
+    let in_prefix = (goal.at.returns c).In-Prefix in
+    let h = c.home-s.ensures in record {
+      strips = (
+        subst (λ (w : List ℕ). without_prefix (lines list_prefixes) ≡ map (strip w) (lines list_prefixes)) (bytes-there in_prefix ∙ sym h.bytes) (taken in_prefix).2,
+        h.low,
+        h.order,
+        h.high,
+      );
+      area = (stands list_prefixes).area_low;
+      words = last-low (goal.at.returns c).After-choose-found;
+    }

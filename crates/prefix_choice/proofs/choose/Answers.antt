@@ -53,26 +53,28 @@ module _ (g : After-group_prefixes-d) where
   some = grouped-some text part g.args.k g.group_prefixes-d.result first first-long grouped g.requires.k_nonzero.0
 
 pub decide-requires : goal.decide-requires
-decide-requires c = let e = sym (part-there (goal.at.decide-requires c).After-group_prefixes-d) in record {
-  d_nonzero = (
-    (some (goal.at.decide-requires c).After-group_prefixes-d).0,
-    (some (goal.at.decide-requires c).After-group_prefixes-d).1,
-    subst (λ (p : List ℕ). c.args.k + c.args.k ≤ length p) e (omega (arith, part-long (goal.at.decide-requires c).After-group_prefixes-d, c.requires.k_nonzero.1)),
-    c.requires.k_nonzero.2,
-    c.requires.k_nonzero.3,
-  );
-  by_index = subst (λ (p : List ℕ). (j : ℕ) → j < c.group_prefixes-d.result → get_or p j 0 ≤ length (text (goal.at.decide-requires c).After-group_prefixes-d)) e
-      (grouped_fits (text (goal.at.decide-requires c).After-group_prefixes-d) (part (goal.at.decide-requires c).After-group_prefixes-d) c.args.k c.group_prefixes-d.result (first (goal.at.decide-requires c).After-group_prefixes-d) (first-long (goal.at.decide-requires c).After-group_prefixes-d) (grouped (goal.at.decide-requires c).After-group_prefixes-d) (length (text (goal.at.decide-requires c).After-group_prefixes-d)) c.requires.by_index);
-}
+decide-requires c = let group_prefixes = (goal.at.decide-requires c).After-group_prefixes-d in
+    let e = sym (part-there group_prefixes) in record {
+      d_nonzero = (
+        (some group_prefixes).0,
+        (some group_prefixes).1,
+        subst (λ (p : List ℕ). c.args.k + c.args.k ≤ length p) e (omega (arith, part-long group_prefixes, c.requires.k_nonzero.1)),
+        c.requires.k_nonzero.2,
+        c.requires.k_nonzero.3,
+      );
+      by_index = subst (λ (p : List ℕ). (j : ℕ) → j < c.group_prefixes-d.result → get_or p j 0 ≤ length (text group_prefixes)) e
+          (grouped_fits (text group_prefixes) (part group_prefixes) c.args.k c.group_prefixes-d.result (first group_prefixes) (first-long group_prefixes) (grouped group_prefixes) (length (text group_prefixes)) c.requires.by_index);
+    }
 
 pub returns : goal.returns
-returns c = record {
-  front = lent-low (at (goal.at.returns c).After-group_prefixes-d) (length (old (goal.at.returns c).After-group_prefixes-d) - at (goal.at.returns c).After-group_prefixes-d) (old (goal.at.returns c).After-group_prefixes-d) (part (goal.at.returns c).After-group_prefixes-d) (inside (goal.at.returns c).After-group_prefixes-d) (part-long (goal.at.returns c).After-group_prefixes-d);
-  decided = λ ls l e.
-      c.decide.ensures ls (first (goal.at.returns c).After-group_prefixes-d)
-      (record {
-        listed = l;
-        long = first-long (goal.at.returns c).After-group_prefixes-d;
-        grouped = subst (Grouped (groups (part_later 10 1 (text (goal.at.returns c).After-group_prefixes-d)) (msorted (part_later 10 1 (text (goal.at.returns c).After-group_prefixes-d)) c.args.k (first (goal.at.returns c).After-group_prefixes-d))) c.args.k c.group_prefixes-d.result) (sym (part-there (goal.at.returns c).After-group_prefixes-d)) (grouped (goal.at.returns c).After-group_prefixes-d);
-      }) e;
-}
+returns c = let group_prefixes = (goal.at.returns c).After-group_prefixes-d in
+    record {
+      front = lent-low (at group_prefixes) (length (old group_prefixes) - at group_prefixes) (old group_prefixes) (part group_prefixes) (inside group_prefixes) (part-long group_prefixes);
+      decided = λ ls l e.
+          c.decide.ensures ls (first group_prefixes)
+          (record {
+            listed = l;
+            long = first-long group_prefixes;
+            grouped = subst (Grouped (groups (part_later 10 1 (text group_prefixes)) (msorted (part_later 10 1 (text group_prefixes)) c.args.k (first group_prefixes))) c.args.k c.group_prefixes-d.result) (sym (part-there group_prefixes)) (grouped group_prefixes);
+          }) e;
+    }

@@ -22,22 +22,25 @@ module _ (q : After-part_end-end) where
       part-within text from q.part_end-end.result q.part_end-end.ensures (omega (arith, q.wide-start.ensures))
 
 pub reach-sum-requires : goal.reach-sum-requires
-reach-sum-requires c = let p = c.requires.d_nonzero in
-    ((within (goal.at.reach-sum-requires c).After-part_end-end).0, (within (goal.at.reach-sum-requires c).After-part_end-end).1, part_smooth (text (goal.at.reach-sum-requires c).After-part_end-end) (from (goal.at.reach-sum-requires c).After-part_end-end) c.part_end-end.result c.part_end-end.ensures, p.1, p.2, p.3)
+reach-sum-requires c = let part_end = (goal.at.reach-sum-requires c).After-part_end-end in
+    let p = c.requires.d_nonzero in
+    ((within part_end).0, (within part_end).1, part_smooth (text part_end) (from part_end) c.part_end-end.result c.part_end-end.ensures, p.1, p.2, p.3)
 
 pub returns-then-sum-lines : goal.returns-then-sum-lines
-returns-then-sum-lines c = λ ls xs t e.
+returns-then-sum-lines c = let part_end = (goal.at.returns-then-sum-lines c).After-part_end-end in
+    λ ls xs t e.
     let a = c.args in
-    decided_none (text (goal.at.returns-then-sum-lines c).After-part_end-end) a.p.now a.k a.d ls xs t c.winner-w.result c.winner-w.ensures.within c.winner-w.ensures.most (from (goal.at.returns-then-sum-lines c).After-part_end-end) c.part_end-end.result
+    decided_none (text part_end) a.p.now a.k a.d ls xs t c.winner-w.result c.winner-w.ensures.within c.winner-w.ensures.most (from part_end) c.part_end-end.result
     c.reach-sum.result a.lines c.wide-start.ensures c.part_end-end.ensures c.reach-sum.ensures e c.if-sum-lines.true
 
 pub returns : goal.returns
-returns c = λ ls xs t e.
+returns c = let part_end = (goal.at.returns c).After-part_end-end in
+    λ ls xs t e.
     let a = c.args in (
-      (within (goal.at.returns c).After-part_end-end).0,
-      (within (goal.at.returns c).After-part_end-end).1,
-      decided_some (text (goal.at.returns c).After-part_end-end) a.p.now a.k a.d ls xs t c.winner-w.result c.winner-w.ensures.within c.winner-w.ensures.most (from (goal.at.returns c).After-part_end-end) c.part_end-end.result
+      (within part_end).0,
+      (within part_end).1,
+      decided_some (text part_end) a.p.now a.k a.d ls xs t c.winner-w.result c.winner-w.ensures.within c.winner-w.ensures.most (from part_end) c.part_end-end.result
           c.reach-sum.result a.lines c.wide-start.ensures c.part_end-end.ensures c.reach-sum.ensures e c.if-sum-lines.false,
-      decided_there (text (goal.at.returns c).After-part_end-end) a.p.now a.k a.d ls xs t c.winner-w.result c.winner-w.ensures.within c.winner-w.ensures.most (from (goal.at.returns c).After-part_end-end) c.part_end-end.result
+      decided_there (text part_end) a.p.now a.k a.d ls xs t c.winner-w.result c.winner-w.ensures.within c.winner-w.ensures.most (from part_end) c.part_end-end.result
           c.reach-sum.result a.lines c.wide-start.ensures c.part_end-end.ensures c.reach-sum.ensures e,
     )

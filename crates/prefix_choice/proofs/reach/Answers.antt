@@ -27,8 +27,9 @@ pub overflow_add-sum-then-starts_with : goal.overflow_add-sum-then-starts_with
 overflow_add-sum-then-starts_with c = omega (arith, small (goal.at.overflow_add-sum-then-starts_with c).After-starts_with, c.loop-j.invariant.small, c.loop-j.invariant.within)
 
 pub loop-j-preserved-then-starts_with : goal.loop-j-preserved-then-starts_with
-loop-j-preserved-then-starts_with c = reaching_hit c.loop-j.invariant c.loop-j-test.true c.requires.3 c.requires.4 (smooth (goal.at.loop-j-preserved-then-starts_with c).After-starts_with) c.wide-start.result c.wide-count.result
-    c.wide-start.ensures c.wide-count.ensures (sym c.starts_with.ensures ∙ c.if-starts_with.true) (small (goal.at.loop-j-preserved-then-starts_with c).After-starts_with)
+loop-j-preserved-then-starts_with c = let starts_with = (goal.at.loop-j-preserved-then-starts_with c).After-starts_with in
+    reaching_hit c.loop-j.invariant c.loop-j-test.true c.requires.3 c.requires.4 (smooth starts_with) c.wide-start.result c.wide-count.result
+    c.wide-start.ensures c.wide-count.ensures (sym c.starts_with.ensures ∙ c.if-starts_with.true) (small starts_with)
 
 pub loop-j-preserved : goal.loop-j-preserved
 loop-j-preserved c = reaching_miss c.loop-j.invariant c.loop-j-test.true c.requires.3 c.requires.4 (smooth (goal.at.loop-j-preserved c).After-starts_with) c.wide-start.result c.wide-count.result

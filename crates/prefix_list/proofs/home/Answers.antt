@@ -47,14 +47,15 @@ pub slice_bounds-equal-end : goal.slice_bounds-equal-end
 slice_bounds-equal-end c = omega (arith, ends (goal.at.slice_bounds-equal-end c).After-shared-s)
 
 pub returns-then-equal : goal.returns-then-equal
-returns-then-equal c = let a = c.args in
-    let e = same_true (take ((span (goal.at.returns-then-equal c).After-shared-s).end - (span (goal.at.returns-then-equal c).After-shared-s).start) (drop (span (goal.at.returns-then-equal c).After-shared-s).start (area (goal.at.returns-then-equal c).After-shared-s))) (take (a.b - a.a) (drop a.a (area (goal.at.returns-then-equal c).After-shared-s))) (sym c.equal.ensures ∙ c.if-equal.true) in
-    home (goal.at.returns-then-equal c).After-shared-s (slice a.a a.b (area (goal.at.returns-then-equal c).After-shared-s)) (sym (part_slice (span (goal.at.returns-then-equal c).After-shared-s).start (span (goal.at.returns-then-equal c).After-shared-s).end (area (goal.at.returns-then-equal c).After-shared-s)) ∙ e ∙ part_slice a.a a.b (area (goal.at.returns-then-equal c).After-shared-s))
+returns-then-equal c = let shared = (goal.at.returns-then-equal c).After-shared-s in
+    let a = c.args in
+    let e = same_true (take ((span shared).end - (span shared).start) (drop (span shared).start (area shared))) (take (a.b - a.a) (drop a.a (area shared))) (sym c.equal.ensures ∙ c.if-equal.true) in
+    home shared (slice a.a a.b (area shared)) (sym (part_slice (span shared).start (span shared).end (area shared)) ∙ e ∙ part_slice a.a a.b (area shared))
 
 pub loop-i-preserved : goal.loop-i-preserved
-loop-i-preserved c = (
+loop-i-preserved c = let shared = (goal.at.loop-i-preserved c).After-shared-s in (
   omega (arith, c.loop-i-test.true),
-  home_next (area (goal.at.loop-i-preserved c).After-shared-s) c.args.table.now c.loop-i.i c.args.v.end _ (span (goal.at.loop-i-preserved c).After-shared-s) c.loop-i-test.true c.shared-s.ensures
+  home_next (area shared) c.args.table.now c.loop-i.i c.args.v.end _ (span shared) c.loop-i-test.true c.shared-s.ensures
       (sym c.equal.ensures ∙ c.if-equal.false) c.loop-i.invariant.1,
 )
 

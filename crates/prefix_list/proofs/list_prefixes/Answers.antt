@@ -26,23 +26,17 @@ module _ (c : In-loop-i) where
 
 -- and once lines i and i + 1 are compared
 module _ (s : After-shared-s) where
-  abbrev area₀' : List ℕ
-  area₀' = s.args.area.now
-
-  abbrev table₀' : List ℕ
-  table₀' = s.args.words.now
-
-  abbrev stop' : ℕ
-  stop' = s.args.v.end
+  abbrev in_loop_i_of_s : In-loop-i
+  in_loop_i_of_s = (goal.at.After-shared-s s).In-loop-i
 
   abbrev span : ByteSpan
   span = s.shared-s.result
 
   room : (span.start ≤ span.end) × (span.end ≤ s.loop-i.w)
-      × (s.loop-i.w + (span.end - span.start) + 1 ≤ 3 * s.args.n + start_at (table₀') (s.loop-i.i + 1))
+      × (s.loop-i.w + (span.end - span.start) + 1 ≤ 3 * s.args.n + start_at (table₀ in_loop_i_of_s) (s.loop-i.i + 1))
       × (s.loop-i.w + (span.end - span.start) < 7 * s.args.n)
   room =
-      listing_room s.args.n s.args.count (stop') (area₀') (table₀') s.requires.classes.1 s.requires.classes.3 s.requires.classes.4 s.requires.n_le_text_most.1 s.requires.n_le_text_most.2
+      listing_room s.args.n s.args.count (stop in_loop_i_of_s) (area₀ in_loop_i_of_s) (table₀ in_loop_i_of_s) s.requires.classes.1 s.requires.classes.3 s.requires.classes.4 s.requires.n_le_text_most.1 s.requires.n_le_text_most.2
       s.args.v.start s.loop-i.area s.loop-i.words s.loop-i.k s.loop-i.w s.loop-i.i s.loop-i.invariant s.loop-i-test.true span s.shared-s.ensures
 
 pub loop-i-init : goal.loop-i-init
@@ -51,12 +45,13 @@ loop-i-init c = rw c.view_start-w.ensures
     c.args.v.start c.requires.classes.2)
 
 pub shared-s-requires : goal.shared-s-requires
-shared-s-requires c = let l = c.loop-i.invariant in (
-  c.requires.classes.0,
-  omega (arith, c.loop-i-test.true, c.requires.classes.3, c.requires.classes.4, c.requires.n_le_text_most.2, l.table-long),
-  listing_lies c.args.n c.args.count (stop (goal.at.shared-s-requires c).In-loop-i) (area₀ (goal.at.shared-s-requires c).In-loop-i) (table₀ (goal.at.shared-s-requires c).In-loop-i) c.requires.classes.1 c.requires.classes.3 c.requires.classes.4 c.requires.n_le_text_most.1 c.requires.n_le_text_most.2
-      c.args.v.start c.loop-i.area c.loop-i.words c.loop-i.k c.loop-i.w c.loop-i.i c.loop-i.invariant c.loop-i-test.true,
-)
+shared-s-requires c = let in_loop_i = (goal.at.shared-s-requires c).In-loop-i in
+    let l = c.loop-i.invariant in (
+      c.requires.classes.0,
+      omega (arith, c.loop-i-test.true, c.requires.classes.3, c.requires.classes.4, c.requires.n_le_text_most.2, l.table-long),
+      listing_lies c.args.n c.args.count (stop in_loop_i) (area₀ in_loop_i) (table₀ in_loop_i) c.requires.classes.1 c.requires.classes.3 c.requires.classes.4 c.requires.n_le_text_most.1 c.requires.n_le_text_most.2
+          c.args.v.start c.loop-i.area c.loop-i.words c.loop-i.k c.loop-i.w c.loop-i.i c.loop-i.invariant c.loop-i-test.true,
+    )
 
 pub overflow_sub-len : goal.overflow_sub-len
 overflow_sub-len c = omega (arith, room (goal.at.overflow_sub-len c).After-shared-s)
@@ -70,11 +65,11 @@ slice_bounds-longer_than-end c = let r = room (goal.at.slice_bounds-longer_than-
 
 -- what the test of the length says of the prefix
 module _ (l : After-longer_than) where
-  abbrev span' : ByteSpan
-  span' = l.shared-s.result
+  abbrev shared_of_l : After-shared-s
+  shared_of_l = (goal.at.After-longer_than l).After-shared-s
 
-  long_as : ltb 3 (length (encoded (slice (span').start (span').end l.loop-i.area))) ≡ l.longer_than.result
-  long_as = ap (λ (p : List ℕ). ltb 3 (length (encoded p))) (sym (part_slice (span').start (span').end l.loop-i.area)) ∙ sym l.longer_than.ensures
+  long_as : ltb 3 (length (encoded (slice (span shared_of_l).start (span shared_of_l).end l.loop-i.area))) ≡ l.longer_than.result
+  long_as = ap (λ (p : List ℕ). ltb 3 (length (encoded p))) (sym (part_slice (span shared_of_l).start (span shared_of_l).end l.loop-i.area)) ∙ sym l.longer_than.ensures
 
 pub put_prefix-requires : goal.put_prefix-requires
 put_prefix-requires c = let r = room (goal.at.put_prefix-requires c).After-shared-s in
@@ -98,13 +93,16 @@ pub overflow_add-w-then-longer_than : goal.overflow_add-w-then-longer_than
 overflow_add-w-then-longer_than c = omega (arith, room (goal.at.overflow_add-w-then-longer_than c).After-shared-s, c.requires.n_le_text_most.0)
 
 pub loop-i-preserved-then-longer_than : goal.loop-i-preserved-then-longer_than
-loop-i-preserved-then-longer_than c = rw c.table_end-at.ensures
-    (listing_put c.args.n c.args.count (stop (goal.at.loop-i-preserved-then-longer_than c).In-loop-i) (area₀ (goal.at.loop-i-preserved-then-longer_than c).In-loop-i) (table₀ (goal.at.loop-i-preserved-then-longer_than c).In-loop-i) c.requires.classes.1 c.requires.classes.3 c.requires.classes.4 c.requires.n_le_text_most.1 c.requires.n_le_text_most.2
-    c.args.v.start c.loop-i.area c.loop-i.words c.loop-i.k c.loop-i.w c.loop-i.i c.loop-i.invariant c.loop-i-test.true (span (goal.at.loop-i-preserved-then-longer_than c).After-shared-s) c.shared-s.ensures
-    ((span (goal.at.loop-i-preserved-then-longer_than c).After-shared-s).end - (span (goal.at.loop-i-preserved-then-longer_than c).After-shared-s).start) refl (long_as (goal.at.loop-i-preserved-then-longer_than c).After-longer_than ∙ c.if-longer_than.true) _ c.put_prefix.auto.area c.put_prefix.ensures)
+loop-i-preserved-then-longer_than c = let in_loop_i = (goal.at.loop-i-preserved-then-longer_than c).In-loop-i in
+    let shared = (goal.at.loop-i-preserved-then-longer_than c).After-shared-s in
+    rw c.table_end-at.ensures
+    (listing_put c.args.n c.args.count (stop in_loop_i) (area₀ in_loop_i) (table₀ in_loop_i) c.requires.classes.1 c.requires.classes.3 c.requires.classes.4 c.requires.n_le_text_most.1 c.requires.n_le_text_most.2
+    c.args.v.start c.loop-i.area c.loop-i.words c.loop-i.k c.loop-i.w c.loop-i.i c.loop-i.invariant c.loop-i-test.true (span shared) c.shared-s.ensures
+    ((span shared).end - (span shared).start) refl (long_as (goal.at.loop-i-preserved-then-longer_than c).After-longer_than ∙ c.if-longer_than.true) _ c.put_prefix.auto.area c.put_prefix.ensures)
 
 pub loop-i-preserved : goal.loop-i-preserved
-loop-i-preserved c = listing_skip c.args.n c.args.count (stop (goal.at.loop-i-preserved c).In-loop-i) (area₀ (goal.at.loop-i-preserved c).In-loop-i) (table₀ (goal.at.loop-i-preserved c).In-loop-i) c.requires.classes.1 c.requires.classes.3 c.requires.classes.4 c.requires.n_le_text_most.1 c.requires.n_le_text_most.2
+loop-i-preserved c = let in_loop_i = (goal.at.loop-i-preserved c).In-loop-i in
+    listing_skip c.args.n c.args.count (stop in_loop_i) (area₀ in_loop_i) (table₀ in_loop_i) c.requires.classes.1 c.requires.classes.3 c.requires.classes.4 c.requires.n_le_text_most.1 c.requires.n_le_text_most.2
     c.args.v.start c.loop-i.area c.loop-i.words c.loop-i.k c.loop-i.w c.loop-i.i c.loop-i.invariant c.loop-i-test.true (span (goal.at.loop-i-preserved c).After-shared-s) c.shared-s.ensures (long_as (goal.at.loop-i-preserved c).After-longer_than ∙ c.if-longer_than.false)
 
 pub returns : goal.returns

@@ -30,27 +30,24 @@ module _ (k : After-common_len-k) where
 
 -- and once the span is
 module _ (b : After-bare-s) where
-  abbrev area' : List ℕ
-  area' = b.args.area.now
-
-  abbrev table' : List ℕ
-  table' = b.args.table.now
+  abbrev common_len_of_b : After-common_len-k
+  common_len_of_b = (goal.at.After-bare-s b).After-common_len-k
 
   abbrev kind : ℕ → Bool
   kind = space_in b.args.class.now
 
   ends : (b.bare-s.result.start ≤ b.bare-s.result.end) × (b.line_start-start.result + b.bare-s.result.end ≤ b.line_end-end.result)
   ends =
-      shared-end (area') (table') b.args.i b.line_start-start.result b.line_end-end.result b.line_start-next.result
+      shared-end (area common_len_of_b) (table common_len_of_b) b.args.i b.line_start-start.result b.line_end-end.result b.line_start-next.result
       b.line_end-stop.result b.common_len-k.result b.line_start-start.ensures b.line_end-end.ensures b.line_start-next.ensures
       b.line_end-stop.ensures b.requires.2 b.common_len-k.ensures b.bare-s.result kind b.bare-s.ensures
 
-  there : Shared (area') (table') b.args.i (record {
+  there : Shared (area common_len_of_b) (table common_len_of_b) b.args.i (record {
     start = b.line_start-start.result + b.bare-s.result.start;
     end = b.line_start-start.result + b.bare-s.result.end;
   })
   there =
-      shared-there (area') (table') b.args.i b.line_start-start.result b.line_end-end.result b.line_start-next.result
+      shared-there (area common_len_of_b) (table common_len_of_b) b.args.i b.line_start-start.result b.line_end-end.result b.line_start-next.result
       b.line_end-stop.result b.common_len-k.result b.line_start-start.ensures b.line_end-end.ensures b.line_start-next.ensures
       b.line_end-stop.ensures b.requires.2 b.common_len-k.ensures b.bare-s.result kind b.bare-s.ensures
       (by_table space_in b.requires.0 space-table)

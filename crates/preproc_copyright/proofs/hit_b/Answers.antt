@@ -33,11 +33,13 @@ slice_bounds-holds_word-end c = sym (length-take-le _ _ (ends (goal.at.slice_bou
 
 pub returns-then-holds_word : goal.returns-then-holds_word
 unfolding text
-returns-then-holds_word c = sym (starting (goal.at.returns-then-holds_word c).After-line_len-n ∙ B-there (S (goal.at.returns-then-holds_word c).After-line_len-n) c.args.at _ c.line_len-n.ensures (sym c.holds_word.ensures ∙ c.if-holds_word.true))
+returns-then-holds_word c = let at_line_len = (goal.at.returns-then-holds_word c).After-line_len-n in
+    sym (starting at_line_len ∙ B-there (S at_line_len) c.args.at _ c.line_len-n.ensures (sym c.holds_word.ensures ∙ c.if-holds_word.true))
 
 pub returns-then-start : goal.returns-then-start
 unfolding text
-returns-then-start c = sym (starting (goal.at.returns-then-start c).After-line_len-n ∙ B-other (S (goal.at.returns-then-start c).After-line_len-n) c.args.at _ c.line_len-n.ensures (sym c.holds_word.ensures ∙ c.if-holds_word.false))
+returns-then-start c = let at_line_len = (goal.at.returns-then-start c).After-line_len-n in
+    sym (starting at_line_len ∙ B-other (S at_line_len) c.args.at _ c.line_len-n.ensures (sym c.holds_word.ensures ∙ c.if-holds_word.false))
 
 pub returns : goal.returns
 returns c = let s = drop c.args.at c.args.s.now in

@@ -27,38 +27,27 @@ module _ (c : Then-fresh) where
 
 -- with the word
 module _ (c : Then-starts_with) where
-  abbrev S' : List ℕ
-  S' = c.args.s.now
+  abbrev then_fresh_of_c : Then-fresh
+  then_fresh_of_c = (goal.at.Then-starts_with c).Then-fresh
 
-  abbrev place' : ℕ
-  place' = c.args.at
-
-  word : starts (text "copyright") (drop (place') (S')) ≡ true
+  word : starts (text "copyright") (drop (place then_fresh_of_c) (S then_fresh_of_c)) ≡ true
   unfolding text
   word = sym c.starts_with.ensures ∙ c.if-starts_with.true
 
-  room : place' + 9 ≤ length (S')
+  room : (place then_fresh_of_c) + 9 ≤ length (S then_fresh_of_c)
   unfolding text
-  room = word-within (text "copyright") (S') (place') word (lit< tt)
+  room = word-within (text "copyright") (S then_fresh_of_c) (place then_fresh_of_c) word (lit< tt)
 
 -- and its items
 module _ (c : After-items_len-n) where
-  abbrev S'' : List ℕ
-  S'' = c.args.s.now
+  abbrev then_fresh_of_c' : Then-fresh
+  then_fresh_of_c' = (goal.at.After-items_len-n c).Then-fresh
 
-  abbrev place'' : ℕ
-  place'' = c.args.at
+  abbrev then_starts_with_of_c : Then-starts_with
+  then_starts_with_of_c = (goal.at.After-items_len-n c).Then-starts_with
 
-  word'' : starts (text "copyright") (drop (place'') (S'')) ≡ true
-  unfolding text
-  word'' = sym c.starts_with.ensures ∙ c.if-starts_with.true
-
-  room'' : place'' + 9 ≤ length (S'')
-  unfolding text
-  room'' = word-within (text "copyright") (S'') (place'') word'' (lit< tt)
-
-  ends : place'' + 9 + c.items_len-n.result ≤ length (S'')
-  ends = omega (arith, c.items_len-n.ensures, items-within (S'') (place'' + 9) (room''))
+  ends : (place then_fresh_of_c') + 9 + c.items_len-n.result ≤ length (S then_fresh_of_c')
+  ends = omega (arith, c.items_len-n.ensures, items-within (S then_fresh_of_c') ((place then_fresh_of_c') + 9) (room then_starts_with_of_c))
 
 pub overflow_add-p : goal.overflow_add-p
 overflow_add-p c = omega (arith, room (goal.at.overflow_add-p c).Then-starts_with)
@@ -67,7 +56,8 @@ pub items_len-n-requires : goal.items_len-n-requires
 items_len-n-requires c = (c.requires, room (goal.at.items_len-n-requires c).Then-starts_with)
 
 pub returns-then-n-eq0 : goal.returns-then-n-eq0
-returns-then-n-eq0 c = sym (starting (goal.at.returns-then-n-eq0 c).Then-fresh ∙ C-bare (S (goal.at.returns-then-n-eq0 c).Then-fresh) (place (goal.at.returns-then-n-eq0 c).Then-fresh) _ (word (goal.at.returns-then-n-eq0 c).Then-starts_with) c.items_len-n.ensures c.if-n-eq0.true)
+returns-then-n-eq0 c = let then_fresh = (goal.at.returns-then-n-eq0 c).Then-fresh in
+    sym (starting then_fresh ∙ C-bare (S then_fresh) (place then_fresh) _ (word (goal.at.returns-then-n-eq0 c).Then-starts_with) c.items_len-n.ensures c.if-n-eq0.true)
 
 pub overflow_add-result : goal.overflow_add-result
 overflow_add-result c = omega (arith, ends (goal.at.overflow_add-result c).After-items_len-n)
@@ -77,20 +67,24 @@ overflow_add-p-then-starts_with c = omega (arith, ends (goal.at.overflow_add-p-t
 
 pub overflow_add-result-then-starts_with : goal.overflow_add-result-then-starts_with
 unfolding line_len
-overflow_add-result-then-starts_with c = omega (
-  arith,
-  c.line_len.ensures,
-  ends (goal.at.overflow_add-result-then-starts_with c).After-items_len-n,
-  run-within (λ x. not (newline x)) (S (goal.at.overflow_add-result-then-starts_with c).Then-fresh) (place (goal.at.overflow_add-result-then-starts_with c).Then-fresh + 9 + c.items_len-n.result) (ends (goal.at.overflow_add-result-then-starts_with c).After-items_len-n),
-)
+overflow_add-result-then-starts_with c = let items_len = (goal.at.overflow_add-result-then-starts_with c).After-items_len-n in
+    let then_fresh = (goal.at.overflow_add-result-then-starts_with c).Then-fresh in
+    omega (
+      arith,
+      c.line_len.ensures,
+      ends items_len,
+      run-within (λ x. not (newline x)) (S then_fresh) (place then_fresh + 9 + c.items_len-n.result) (ends items_len),
+    )
 
 pub returns-then-starts_with : goal.returns-then-starts_with
-returns-then-starts_with c = sym (starting (goal.at.returns-then-starts_with c).Then-fresh ∙
-    C-there (S (goal.at.returns-then-starts_with c).Then-fresh) (place (goal.at.returns-then-starts_with c).Then-fresh) _ (word (goal.at.returns-then-starts_with c).Then-starts_with) c.items_len-n.ensures _ c.if-n-eq0.false c.line_len.ensures)
+returns-then-starts_with c = let then_fresh = (goal.at.returns-then-starts_with c).Then-fresh in
+    sym (starting then_fresh ∙
+    C-there (S then_fresh) (place then_fresh) _ (word (goal.at.returns-then-starts_with c).Then-starts_with) c.items_len-n.ensures _ c.if-n-eq0.false c.line_len.ensures)
 
 pub returns-then-fresh : goal.returns-then-fresh
 unfolding text
-returns-then-fresh c = sym (starting (goal.at.returns-then-fresh c).Then-fresh ∙ C-other (S (goal.at.returns-then-fresh c).Then-fresh) (place (goal.at.returns-then-fresh c).Then-fresh) (sym c.starts_with.ensures ∙ c.if-starts_with.false))
+returns-then-fresh c = let then_fresh = (goal.at.returns-then-fresh c).Then-fresh in
+    sym (starting then_fresh ∙ C-other (S then_fresh) (place then_fresh) (sym c.starts_with.ensures ∙ c.if-starts_with.false))
 
 pub returns : goal.returns
 returns c = let s = drop c.args.at c.args.s.now in

@@ -22,45 +22,37 @@ module _ (c : Start) where
 
 -- `copyright` begins the line
 module _ (c : Then-starts_with) where
-  abbrev S' : List ℕ
-  S' = c.args.s.now
+  abbrev start_of_c : Start
+  start_of_c = (goal.at.Then-starts_with c).Start
 
-  abbrev place' : ℕ
-  place' = c.args.at
-
-  word : starts (text "copyright") (drop (place' + c.args.k + c.byte_run-blank.result) (S')) ≡ true
+  word : starts (text "copyright") (drop ((place start_of_c) + c.args.k + c.byte_run-blank.result) (S start_of_c)) ≡ true
   unfolding text
   word = sym c.starts_with.ensures ∙ c.if-starts_with.true
 
 -- the line's end
 module _ (c : After-line_len-n) where
-  abbrev S'' : List ℕ
-  S'' = c.args.s.now
+  abbrev start_of_c' : Start
+  start_of_c' = (goal.at.After-line_len-n c).Start
 
-  abbrev place'' : ℕ
-  place'' = c.args.at
-
-  ends : place'' + c.args.k + c.line_len-n.result ≤ length (S'')
+  ends : (place start_of_c') + c.args.k + c.line_len-n.result ≤ length (S start_of_c')
   unfolding line_len
-  ends = omega (arith, c.line_len-n.ensures, run-within (λ x. not (newline x)) (S'') (place'' + c.args.k) c.requires)
+  ends = omega (arith, c.line_len-n.ensures, run-within (λ x. not (newline x)) (S start_of_c') ((place start_of_c') + c.args.k) c.requires)
 
 module _ (c : Then-starts_with-2) where
-  abbrev S''' : List ℕ
-  S''' = c.args.s.now
+  abbrev start_of_c'' : Start
+  start_of_c'' = (goal.at.Then-starts_with-2 c).Start
 
-  abbrev place''' : ℕ
-  place''' = c.args.at
-
-  two : starts (text "\n\n") (drop (place''' + c.args.k + c.line_len-n.result) (S''')) ≡ true
+  two : starts (text "\n\n") (drop ((place start_of_c'') + c.args.k + c.line_len-n.result) (S start_of_c'')) ≡ true
   unfolding text
   two = sym c.starts_with-then-starts_with.ensures ∙ c.if-starts_with-2.true
 
-  room : place''' + c.args.k + c.line_len-n.result + 2 ≤ length (S''')
+  room : (place start_of_c'') + c.args.k + c.line_len-n.result + 2 ≤ length (S start_of_c'')
   unfolding text
-  room = word-within (text "\n\n") (S''') (place''' + c.args.k + c.line_len-n.result) two (lit< tt)
+  room = word-within (text "\n\n") (S start_of_c'') ((place start_of_c'') + c.args.k + c.line_len-n.result) two (lit< tt)
 
 pub overflow_add-l-2 : goal.overflow_add-l-2
-overflow_add-l-2 c = omega (arith, c.byte_run-blank.ensures, run-within (eqb 32) (S (goal.at.overflow_add-l-2 c).Start) (place (goal.at.overflow_add-l-2 c).Start + c.args.k) c.requires)
+overflow_add-l-2 c = let start = (goal.at.overflow_add-l-2 c).Start in
+    omega (arith, c.byte_run-blank.ensures, run-within (eqb 32) (S start) (place start + c.args.k) c.requires)
 
 pub overflow_add-l-then-starts_with : goal.overflow_add-l-then-starts_with
 overflow_add-l-then-starts_with c = omega (arith, ends (goal.at.overflow_add-l-then-starts_with c).After-line_len-n)

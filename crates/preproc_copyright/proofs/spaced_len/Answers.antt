@@ -22,16 +22,20 @@ module _ (c : After-run_len-k) where
   ends = omega (arith, count, run-within space S c.args.at c.requires.1)
 
 pub returns-then-k-eq0 : goal.returns-then-k-eq0
-returns-then-k-eq0 c = sym (spaced-none (S (goal.at.returns-then-k-eq0 c).After-run_len-k) c.args.at _ (count (goal.at.returns-then-k-eq0 c).After-run_len-k) c.if-k-eq0.true)
+returns-then-k-eq0 c = let run_len = (goal.at.returns-then-k-eq0 c).After-run_len-k in
+    sym (spaced-none (S run_len) c.args.at _ (count run_len) c.if-k-eq0.true)
 
 pub overflow_add-at : goal.overflow_add-at
 overflow_add-at c = omega (arith, ends (goal.at.overflow_add-at c).After-run_len-k)
 
 pub returns-then-d-eq0 : goal.returns-then-d-eq0
-returns-then-d-eq0 c = sym (spaced-bare (S (goal.at.returns-then-d-eq0 c).After-run_len-k) c.args.at _ (count (goal.at.returns-then-d-eq0 c).After-run_len-k) _ c.if-k-eq0.false c.item_len-d.ensures c.if-d-eq0.true)
+returns-then-d-eq0 c = let run_len = (goal.at.returns-then-d-eq0 c).After-run_len-k in
+    sym (spaced-bare (S run_len) c.args.at _ (count run_len) _ c.if-k-eq0.false c.item_len-d.ensures c.if-d-eq0.true)
 
 pub overflow_add-result : goal.overflow_add-result
-overflow_add-result c = omega (arith, ends (goal.at.overflow_add-result c).After-run_len-k, c.item_len-d.ensures, item-within (S (goal.at.overflow_add-result c).After-run_len-k) (c.args.at + c.run_len-k.result) (ends (goal.at.overflow_add-result c).After-run_len-k))
+overflow_add-result c = let run_len = (goal.at.overflow_add-result c).After-run_len-k in
+    omega (arith, ends run_len, c.item_len-d.ensures, item-within (S run_len) (c.args.at + c.run_len-k.result) (ends run_len))
 
 pub returns : goal.returns
-returns c = sym (spaced-there (S (goal.at.returns c).After-run_len-k) c.args.at _ (count (goal.at.returns c).After-run_len-k) _ c.if-k-eq0.false c.item_len-d.ensures c.if-d-eq0.false)
+returns c = let run_len = (goal.at.returns c).After-run_len-k in
+    sym (spaced-there (S run_len) c.args.at _ (count run_len) _ c.if-k-eq0.false c.item_len-d.ensures c.if-d-eq0.false)

@@ -27,11 +27,11 @@ pub returns-then-fresh : goal.returns-then-fresh
 returns-then-fresh c = c.hit_len-then-fresh.ensures ∙ sym (flags (rest (goal.at.returns-then-fresh c).Start) (ne_eqb c.args.at 0 c.if-at-eq0.false) c.if-fresh.true)
 
 module _ (c : Else-fresh) where
-  abbrev rest' : List ℕ
-  rest' = drop c.args.at c.args.s.now
+  abbrev start_of_c : Start
+  start_of_c = (goal.at.Else-fresh c).Start
 
-  mid : hit (eqb c.args.at 0) c.args.fresh (rest') ≡ hit false false (rest')
-  mid = flags (rest') (ne_eqb c.args.at 0 c.if-at-eq0.false) c.if-fresh.false
+  mid : hit (eqb c.args.at 0) c.args.fresh (rest start_of_c) ≡ hit false false (rest start_of_c)
+  mid = flags (rest start_of_c) (ne_eqb c.args.at 0 c.if-at-eq0.false) c.if-fresh.false
 
 pub returns-then-s-at-eq10 : goal.returns-then-s-at-eq10
 returns-then-s-at-eq10 c = c.hit_a.ensures ∙ sym (mid (goal.at.returns-then-s-at-eq10 c).Else-fresh ∙ hit-inside (rest (goal.at.returns-then-s-at-eq10 c).Start))

@@ -12,13 +12,13 @@ module _ (c : After-line_end-e) where
   ends = omega (arith, c.line_end-e.ensures, c.requires.3)
 
 module _ (c : After-bare-s) where
-  ends' : c.line_end-e.result ≤ length c.args.area.now
-  ends' = omega (arith, c.line_end-e.ensures, c.requires.3)
+  abbrev line_end_of_c : After-line_end-e
+  line_end_of_c = (goal.at.After-bare-s c).After-line_end-e
 
   fits : (c.bare-s.result.start ≤ c.bare-s.result.end) × (c.past_prefix-k.result + c.bare-s.result.end ≤ c.line_end-e.result)
   fits =
       left-within c.args.area.now c.args.table.now c.args.i c.args.p _ _ c.line_start-a.ensures
-      c.line_end-e.ensures (ends') c.args.class.now c.past_prefix-k.result c.bare-s.result c.past_prefix-k.ensures
+      c.line_end-e.ensures (ends line_end_of_c) c.args.class.now c.past_prefix-k.result c.bare-s.result c.past_prefix-k.ensures
       c.bare-s.ensures
 
 pub overflow_add-result : goal.overflow_add-result

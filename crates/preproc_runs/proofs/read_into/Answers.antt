@@ -32,21 +32,15 @@ module _ (d : After-is_lead) where
 
 -- behind a byte that opens stands a second
 module _ (q : After-point_of-p) where
-  abbrev src' : List ℕ
-  src' = q.args.src.now
+  abbrev is_lead_of_q : After-is_lead
+  is_lead_of_q = (goal.at.After-point_of-p q).After-is_lead
 
-  abbrev i' : ℕ
-  i' = q.loop-i.i
-
-  here' : drop i' src' ≡ get_or src' i' 0 ∷ drop (i' + 1) src'
-  here' = drop-next src' i' q.loop-i-test.true
-
-  both : points (drop (i') (src')) ≡ q.point_of-p.result ∷ points (drop (i' + 1 + 1) (src'))
+  both : points (drop (i is_lead_of_q) (src is_lead_of_q)) ≡ q.point_of-p.result ∷ points (drop ((i is_lead_of_q) + 1 + 1) (src is_lead_of_q))
   both =
-      points_two (get_or (src') (i') 0) (here') (get_or (src') (i' + 1) 0)
-      (drop-next (src') (i' + 1) (omega (arith, q.loop-i-test.true, q.if-i-src.false)))
+      points_two (get_or (src is_lead_of_q) (i is_lead_of_q) 0) (here is_lead_of_q) (get_or (src is_lead_of_q) ((i is_lead_of_q) + 1) 0)
+      (drop-next (src is_lead_of_q) ((i is_lead_of_q) + 1) (omega (arith, q.loop-i-test.true, q.if-i-src.false)))
       (sym q.is_lead.ensures ∙ q.if-is_lead.true) ∙
-      ap (λ (p : ℕ). p ∷ points (drop (i' + 1 + 1) (src'))) (sym q.point_of-p.ensures)
+      ap (λ (p : ℕ). p ∷ points (drop ((i is_lead_of_q) + 1 + 1) (src is_lead_of_q))) (sym q.point_of-p.ensures)
 
 pub loop-i-init : goal.loop-i-init
 loop-i-init c = let a = c.args in
@@ -54,8 +48,9 @@ loop-i-init c = let a = c.args in
     (omega arith, part-start _ _ (omega (arith, k, points-length a.src.now)))
 
 pub returns-then-i-src : goal.returns-then-i-src
-returns-then-i-src c = let e = points-cut (get_or (src (goal.at.returns-then-i-src c).After-is_lead) (i (goal.at.returns-then-i-src c).After-is_lead) 0) (here (goal.at.returns-then-i-src c).After-is_lead) (drop-done (src (goal.at.returns-then-i-src c).After-is_lead) (i (goal.at.returns-then-i-src c).After-is_lead + 1) (omega (arith, c.if-i-src.true))) (sym c.is_lead.ensures ∙ c.if-is_lead.true) in
-    part_end (keep-end (kept (goal.at.returns-then-i-src c).After-is_lead) e) c.loop-i.invariant.1
+returns-then-i-src c = let is_lead = (goal.at.returns-then-i-src c).After-is_lead in
+    let e = points-cut (get_or (src is_lead) (i is_lead) 0) (here is_lead) (drop-done (src is_lead) (i is_lead + 1) (omega (arith, c.if-i-src.true))) (sym c.is_lead.ensures ∙ c.if-is_lead.true) in
+    part_end (keep-end (kept is_lead) e) c.loop-i.invariant.1
 
 pub bounds-src-i-then-is_lead : goal.bounds-src-i-then-is_lead
 bounds-src-i-then-is_lead c = omega (arith, c.loop-i-test.true, c.if-i-src.false)
@@ -81,16 +76,19 @@ module _ (d : After-is_lead) (h : d.is_lead.result ≡ false) where
   one = points-one (get_or (src d) (i d) 0) (here d) (sym d.is_lead.ensures ∙ h)
 
 pub loop-i-preserved-then-in_class-2 : goal.loop-i-preserved-then-in_class-2
-loop-i-preserved-then-in_class-2 c = let k = ap not (sym c.in_class-else-is_lead.ensures ∙ c.if-in_class-2.true) in
-    (omega arith, part_skip (keep-no (kept (goal.at.loop-i-preserved-then-in_class-2 c).After-is_lead) _ (one (goal.at.loop-i-preserved-then-in_class-2 c).After-is_lead c.if-is_lead.false) k) c.loop-i.invariant.1)
+loop-i-preserved-then-in_class-2 c = let is_lead = (goal.at.loop-i-preserved-then-in_class-2 c).After-is_lead in
+    let k = ap not (sym c.in_class-else-is_lead.ensures ∙ c.if-in_class-2.true) in
+    (omega arith, part_skip (keep-no (kept is_lead) _ (one is_lead c.if-is_lead.false) k) c.loop-i.invariant.1)
 
 pub bounds-dst-w-else-is_lead : goal.bounds-dst-w-else-is_lead
-bounds-dst-w-else-is_lead c = let k = ap not (sym c.in_class-else-is_lead.ensures ∙ c.if-in_class-2.false) in
-    part_room (keep-yes (kept (goal.at.bounds-dst-w-else-is_lead c).After-is_lead) _ (one (goal.at.bounds-dst-w-else-is_lead c).After-is_lead c.if-is_lead.false) k) c.loop-i.invariant.1
+bounds-dst-w-else-is_lead c = let is_lead = (goal.at.bounds-dst-w-else-is_lead c).After-is_lead in
+    let k = ap not (sym c.in_class-else-is_lead.ensures ∙ c.if-in_class-2.false) in
+    part_room (keep-yes (kept is_lead) _ (one is_lead c.if-is_lead.false) k) c.loop-i.invariant.1
 
 pub loop-i-preserved : goal.loop-i-preserved
-loop-i-preserved c = let k = ap not (sym c.in_class-else-is_lead.ensures ∙ c.if-in_class-2.false) in
-    (omega arith, part-put (keep-yes (kept (goal.at.loop-i-preserved c).After-is_lead) _ (one (goal.at.loop-i-preserved c).After-is_lead c.if-is_lead.false) k) c.loop-i.invariant.1)
+loop-i-preserved c = let is_lead = (goal.at.loop-i-preserved c).After-is_lead in
+    let k = ap not (sym c.in_class-else-is_lead.ensures ∙ c.if-in_class-2.false) in
+    (omega arith, part-put (keep-yes (kept is_lead) _ (one is_lead c.if-is_lead.false) k) c.loop-i.invariant.1)
 
 pub returns : goal.returns
 returns c = part_end (keep-end _ (points-end (drop-done _ _ c.loop-i-test.false))) c.loop-i.invariant.1

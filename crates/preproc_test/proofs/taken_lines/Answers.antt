@@ -25,42 +25,48 @@ module _ (p : After-pair_ends) where
 
 pub returns-then-not-wide : goal.returns-then-not-wide
 unfolding taken_lines
-returns-then-not-wide c = let e = sym c.loop-i.invariant.3 ∙ ascii_not (text (goal.at.returns-then-not-wide c).In-loop-i) (i (goal.at.returns-then-not-wide c).In-loop-i) c.loop-i-test.true c.if-b-gt127.true c.args.wide (not-true _ (ap not c.if-not-wide.true)) in
+returns-then-not-wide c = let in_loop_i = (goal.at.returns-then-not-wide c).In-loop-i in
+    let e = sym c.loop-i.invariant.3 ∙ ascii_not (text in_loop_i) (i in_loop_i) c.loop-i-test.true c.if-b-gt127.true c.args.wide (not-true _ (ap not c.if-not-wide.true)) in
     rw e
 
 pub returns-then-not-pair_ends : goal.returns-then-not-pair_ends
 unfolding taken_lines
-returns-then-not-pair_ends c = let k = sym c.pair_ends.ensures ∙ not-true _ (ap not c.if-not-pair_ends.true) in
-    let e = sym c.loop-i.invariant.3 ∙ pair_not (text (goal.at.returns-then-not-pair_ends c).In-loop-i) (i (goal.at.returns-then-not-pair_ends c).In-loop-i) c.loop-i-test.true c.if-b-gt127.true c.args.wide (wide-there (goal.at.returns-then-not-pair_ends c).After-pair_ends) k in
+returns-then-not-pair_ends c = let in_loop_i = (goal.at.returns-then-not-pair_ends c).In-loop-i in
+    let k = sym c.pair_ends.ensures ∙ not-true _ (ap not c.if-not-pair_ends.true) in
+    let e = sym c.loop-i.invariant.3 ∙ pair_not (text in_loop_i) (i in_loop_i) c.loop-i-test.true c.if-b-gt127.true c.args.wide (wide-there (goal.at.returns-then-not-pair_ends c).After-pair_ends) k in
     rw e
 
 pub overflow_add-i-then-b-gt127 : goal.overflow_add-i-then-b-gt127
-overflow_add-i-then-b-gt127 c = let k = sym c.pair_ends.ensures ∙ not-false _ (ap not c.if-not-pair_ends.false) in
-    omega (arith, pair-within (text (goal.at.overflow_add-i-then-b-gt127 c).In-loop-i) (i (goal.at.overflow_add-i-then-b-gt127 c).In-loop-i) c.loop-i-test.true c.if-b-gt127.true k)
+overflow_add-i-then-b-gt127 c = let in_loop_i = (goal.at.overflow_add-i-then-b-gt127 c).In-loop-i in
+    let k = sym c.pair_ends.ensures ∙ not-false _ (ap not c.if-not-pair_ends.false) in
+    omega (arith, pair-within (text in_loop_i) (i in_loop_i) c.loop-i-test.true c.if-b-gt127.true k)
 
 pub loop-i-smaller-then-b-gt127 : goal.loop-i-smaller-then-b-gt127
 loop-i-smaller-then-b-gt127 c = omega arith
 
 pub loop-i-preserved-then-b-gt127 : goal.loop-i-preserved-then-b-gt127
-loop-i-preserved-then-b-gt127 c = let v = c.loop-i.invariant in
+loop-i-preserved-then-b-gt127 c = let in_loop_i = (goal.at.loop-i-preserved-then-b-gt127 c).In-loop-i in
+    let v = c.loop-i.invariant in
     let k = sym c.pair_ends.ensures ∙ not-false _ (ap not c.if-not-pair_ends.false) in
-    let within = pair-within (text (goal.at.loop-i-preserved-then-b-gt127 c).In-loop-i) (i (goal.at.loop-i-preserved-then-b-gt127 c).In-loop-i) c.loop-i-test.true c.if-b-gt127.true k in
-    let second = pair-high (text (goal.at.loop-i-preserved-then-b-gt127 c).In-loop-i) (i (goal.at.loop-i-preserved-then-b-gt127 c).In-loop-i) c.loop-i-test.true c.if-b-gt127.true k in
-    let one = lines_other (text (goal.at.loop-i-preserved-then-b-gt127 c).In-loop-i) (i (goal.at.loop-i-preserved-then-b-gt127 c).In-loop-i) c.loop-i-test.true (λ e. omega (arith, c.if-b-gt127.true)) in
-    let two = lines_other (text (goal.at.loop-i-preserved-then-b-gt127 c).In-loop-i) (i (goal.at.loop-i-preserved-then-b-gt127 c).In-loop-i + 1) within (λ e. omega (arith, second)) in
-    let e = pair-next (text (goal.at.loop-i-preserved-then-b-gt127 c).In-loop-i) (i (goal.at.loop-i-preserved-then-b-gt127 c).In-loop-i) c.loop-i-test.true c.if-b-gt127.true k c.args.wide (wide-there (goal.at.loop-i-preserved-then-b-gt127 c).After-pair_ends) in
+    let within = pair-within (text in_loop_i) (i in_loop_i) c.loop-i-test.true c.if-b-gt127.true k in
+    let second = pair-high (text in_loop_i) (i in_loop_i) c.loop-i-test.true c.if-b-gt127.true k in
+    let one = lines_other (text in_loop_i) (i in_loop_i) c.loop-i-test.true (λ e. omega (arith, c.if-b-gt127.true)) in
+    let two = lines_other (text in_loop_i) (i in_loop_i + 1) within (λ e. omega (arith, second)) in
+    let e = pair-next (text in_loop_i) (i in_loop_i) c.loop-i-test.true c.if-b-gt127.true k c.args.wide (wide-there (goal.at.loop-i-preserved-then-b-gt127 c).After-pair_ends) in
     (omega (arith, within), omega arith, omega (arith, one, two), sym e ∙ v.3)
 
 pub loop-i-preserved-then-b-eq10 : goal.loop-i-preserved-then-b-eq10
-loop-i-preserved-then-b-eq10 c = let v = c.loop-i.invariant in
-    let e = taken-low (text (goal.at.loop-i-preserved-then-b-eq10 c).In-loop-i) (i (goal.at.loop-i-preserved-then-b-eq10 c).In-loop-i) c.loop-i-test.true c.args.wide (omega (arith, c.if-b-gt127.false)) in
-    let q = lines-newline (text (goal.at.loop-i-preserved-then-b-eq10 c).In-loop-i) (i (goal.at.loop-i-preserved-then-b-eq10 c).In-loop-i) c.loop-i-test.true c.if-b-eq10.true in
+loop-i-preserved-then-b-eq10 c = let in_loop_i = (goal.at.loop-i-preserved-then-b-eq10 c).In-loop-i in
+    let v = c.loop-i.invariant in
+    let e = taken-low (text in_loop_i) (i in_loop_i) c.loop-i-test.true c.args.wide (omega (arith, c.if-b-gt127.false)) in
+    let q = lines-newline (text in_loop_i) (i in_loop_i) c.loop-i-test.true c.if-b-eq10.true in
     (omega arith, omega arith, omega arith, sym e ∙ v.3)
 
 pub loop-i-preserved : goal.loop-i-preserved
-loop-i-preserved c = let v = c.loop-i.invariant in
-    let e = taken-low (text (goal.at.loop-i-preserved c).In-loop-i) (i (goal.at.loop-i-preserved c).In-loop-i) c.loop-i-test.true c.args.wide (omega (arith, c.if-b-gt127.false)) in
-    let q = lines_other (text (goal.at.loop-i-preserved c).In-loop-i) (i (goal.at.loop-i-preserved c).In-loop-i) c.loop-i-test.true c.if-b-eq10.false in
+loop-i-preserved c = let in_loop_i = (goal.at.loop-i-preserved c).In-loop-i in
+    let v = c.loop-i.invariant in
+    let e = taken-low (text in_loop_i) (i in_loop_i) c.loop-i-test.true c.args.wide (omega (arith, c.if-b-gt127.false)) in
+    let q = lines_other (text in_loop_i) (i in_loop_i) c.loop-i-test.true c.if-b-eq10.false in
     (omega arith, omega arith, omega arith, sym e ∙ v.3)
 
 pub returns : goal.returns

@@ -34,7 +34,8 @@ pub overflow_add-result : goal.overflow_add-result
 overflow_add-result c = omega (arith, room (goal.at.overflow_add-result c).Then-starts_with)
 
 pub returns-then-title_line : goal.returns-then-title_line
-returns-then-title_line c = (room (goal.at.returns-then-title_line c).Then-starts_with, title_there (S (goal.at.returns-then-title_line c).Then-starts_with) _ c.line_len-n.ensures (sym c.title_line.ensures ∙ c.if-title_line.true) (two (goal.at.returns-then-title_line c).Then-starts_with))
+returns-then-title_line c = let then_starts_with = (goal.at.returns-then-title_line c).Then-starts_with in
+    (room then_starts_with, title_there (S then_starts_with) _ c.line_len-n.ensures (sym c.title_line.ensures ∙ c.if-title_line.true) (two then_starts_with))
 
 pub returns-else-title_line : goal.returns-else-title_line
 returns-else-title_line c = (zero-le, title_other (S (goal.at.returns-else-title_line c).Then-starts_with) _ c.line_len-n.ensures (sym c.title_line.ensures ∙ c.if-title_line.false))

@@ -28,32 +28,26 @@ module _ (c : Else-title_end) where
 
 -- with ` version `
 module _ (c : Then-starts_with) where
-  abbrev S' : List ℕ
-  S' = c.args.s.now
+  abbrev else_title_end_of_c : Else-title_end
+  else_title_end_of_c = (goal.at.Then-starts_with c).Else-title_end
 
-  abbrev place' : ℕ
-  place' = c.args.at
-
-  version : starts (text " version ") (drop (place') (S')) ≡ true
+  version : starts (text " version ") (drop (place else_title_end_of_c) (S else_title_end_of_c)) ≡ true
   unfolding text
   version = sym c.starts_with.ensures ∙ c.if-starts_with.true
 
-  room : place' + 9 ≤ length (S')
+  room : (place else_title_end_of_c) + 9 ≤ length (S else_title_end_of_c)
   unfolding text
-  room = word-within (text " version ") (S') (place') version (lit< tt)
+  room = word-within (text " version ") (S else_title_end_of_c) (place else_title_end_of_c) version (lit< tt)
 
 module _ (c : After-other_len-named) where
-  abbrev S'' : List ℕ
-  S'' = c.args.s.now
+  abbrev else_title_end_of_c' : Else-title_end
+  else_title_end_of_c' = (goal.at.After-other_len-named c).Else-title_end
 
-  abbrev place'' : ℕ
-  place'' = c.args.at
-
-  count : c.other_len-named.result ≡ lead dark (drop (place'' + 9) (S''))
+  count : c.other_len-named.result ≡ lead dark (drop ((place else_title_end_of_c') + 9) (S else_title_end_of_c'))
   count = c.other_len-named.ensures ∙ others-of _ _ c.requires
 
-  names : c.other_len-named.result ≡ lead dark (drop 9 (drop (place'') (S'')))
-  names = count ∙ ap (lead dark) (sym (drop-drop 9 (place'') (S'')))
+  names : c.other_len-named.result ≡ lead dark (drop 9 (drop (place else_title_end_of_c') (S else_title_end_of_c')))
+  names = count ∙ ap (lead dark) (sym (drop-drop 9 (place else_title_end_of_c') (S else_title_end_of_c')))
 
 pub returns-then-title_end : goal.returns-then-title_end
 returns-then-title_end c = sym (rest_end _ (sym c.title_end.ensures ∙ c.if-title_end.true))
@@ -65,13 +59,17 @@ pub returns-then-named-eq0 : goal.returns-then-named-eq0
 returns-then-named-eq0 c = sym (rest_unnamed _ (goes_on (goal.at.returns-then-named-eq0 c).Else-title_end) (version (goal.at.returns-then-named-eq0 c).Then-starts_with) (sym (names (goal.at.returns-then-named-eq0 c).After-other_len-named) ∙ c.if-named-eq0.true))
 
 pub overflow_add-v-then-starts_with : goal.overflow_add-v-then-starts_with
-overflow_add-v-then-starts_with c = omega (arith, room (goal.at.overflow_add-v-then-starts_with c).Then-starts_with, count (goal.at.overflow_add-v-then-starts_with c).After-other_len-named, run-within dark (S (goal.at.overflow_add-v-then-starts_with c).Else-title_end) (place (goal.at.overflow_add-v-then-starts_with c).Else-title_end + 9) (room (goal.at.overflow_add-v-then-starts_with c).Then-starts_with))
+overflow_add-v-then-starts_with c = let then_starts_with = (goal.at.overflow_add-v-then-starts_with c).Then-starts_with in
+    let else_title_end = (goal.at.overflow_add-v-then-starts_with c).Else-title_end in
+    omega (arith, room then_starts_with, count (goal.at.overflow_add-v-then-starts_with c).After-other_len-named, run-within dark (S else_title_end) (place else_title_end + 9) (room then_starts_with))
 
 pub returns-then-starts_with : goal.returns-then-starts_with
-returns-then-starts_with c = let a = place (goal.at.returns-then-starts_with c).Else-title_end in
-    let d : drop (lead dark (drop 9 (drop a (S (goal.at.returns-then-starts_with c).Else-title_end)))) (drop 9 (drop a (S (goal.at.returns-then-starts_with c).Else-title_end))) ≡ drop (a + 9 + c.other_len-named.result) (S (goal.at.returns-then-starts_with c).Else-title_end) =
-    rw (← names (goal.at.returns-then-starts_with c).After-other_len-named, drop-drop 9 a (S (goal.at.returns-then-starts_with c).Else-title_end), drop-drop) in
-    c.title_end-then-starts_with.ensures ∙ sym (rest-named _ (goes_on (goal.at.returns-then-starts_with c).Else-title_end) (version (goal.at.returns-then-starts_with c).Then-starts_with) (λ z. c.if-named-eq0.false (names (goal.at.returns-then-starts_with c).After-other_len-named ∙ z)) ∙ ap title_end d)
+returns-then-starts_with c = let else_title_end = (goal.at.returns-then-starts_with c).Else-title_end in
+    let other_len = (goal.at.returns-then-starts_with c).After-other_len-named in
+    let a = place else_title_end in
+    let d : drop (lead dark (drop 9 (drop a (S else_title_end)))) (drop 9 (drop a (S else_title_end))) ≡ drop (a + 9 + c.other_len-named.result) (S else_title_end) =
+    rw (← names other_len, drop-drop 9 a (S else_title_end), drop-drop) in
+    c.title_end-then-starts_with.ensures ∙ sym (rest-named _ (goes_on else_title_end) (version (goal.at.returns-then-starts_with c).Then-starts_with) (λ z. c.if-named-eq0.false (names other_len ∙ z)) ∙ ap title_end d)
 
 pub returns : goal.returns
 unfolding text

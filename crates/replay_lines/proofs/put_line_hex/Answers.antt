@@ -16,11 +16,11 @@ module _ (p : After-put-n) where
   line = copied p.args.src.now p.args.scratch.now _ _ p.put-n.ensures.0 p.put-n.ensures.1
 
 module _ (s : After-encode_in-end) where
-  line' : slice 0 s.put-n.result s.put-n.new.dst ≡ s.args.src.now
-  line' = copied s.args.src.now s.args.scratch.now _ _ s.put-n.ensures.0 s.put-n.ensures.1
+  abbrev put_of_s : After-put-n
+  put_of_s = (goal.at.After-encode_in-end s).After-put-n
 
   utf8 : take s.encode_in-end.result s.encode_in-end.new.area ≡ encoded s.args.src.now
-  utf8 = s.encode_in-end.ensures.bytes ∙ ap encoded (line')
+  utf8 = s.encode_in-end.ensures.bytes ∙ ap encoded (line put_of_s)
 
 pub encode_in-end-requires : goal.encode_in-end-requires
 encode_in-end-requires c = let t = encoded_twice c.args.src.now in

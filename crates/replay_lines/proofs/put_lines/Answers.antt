@@ -57,17 +57,18 @@ pub slice_bounds-put_line_hex-end : goal.slice_bounds-put_line_hex-end
 slice_bounds-put_line_hex-end c = omega (arith, high (goal.at.slice_bounds-put_line_hex-end c).After-line_end-e)
 
 pub put_line_hex-h-requires : goal.put_line_hex-h-requires
-put_line_hex-h-requires c = let n : length (take (e (goal.at.put_line_hex-h-requires c).After-line_end-e - a (goal.at.put_line_hex-h-requires c).After-line_end-e) (drop (a (goal.at.put_line_hex-h-requires c).After-line_end-e) (A (goal.at.put_line_hex-h-requires c).After-line_end-e))) ≤ length (A (goal.at.put_line_hex-h-requires c).After-line_end-e) = length_part (a (goal.at.put_line_hex-h-requires c).After-line_end-e) (e (goal.at.put_line_hex-h-requires c).After-line_end-e) (A (goal.at.put_line_hex-h-requires c).After-line_end-e) in
-    (omega (arith, n, c.requires.0, c.loop-i.invariant.0), part-space (hexed (encoded (take (e (goal.at.put_line_hex-h-requires c).After-line_end-e - a (goal.at.put_line_hex-h-requires c).After-line_end-e) (drop (a (goal.at.put_line_hex-h-requires c).After-line_end-e) (A (goal.at.put_line_hex-h-requires c).After-line_end-e))))) _ (step (goal.at.put_line_hex-h-requires c).After-line_end-e _ refl) c.loop-i.invariant.2)
+put_line_hex-h-requires c = let line_end = (goal.at.put_line_hex-h-requires c).After-line_end-e in
+    let n : length (take (e line_end - a line_end) (drop (a line_end) (A line_end))) ≤ length (A line_end) = length_part (a line_end) (e line_end) (A line_end) in
+    (omega (arith, n, c.requires.0, c.loop-i.invariant.0), part-space (hexed (encoded (take (e line_end - a line_end) (drop (a line_end) (A line_end))))) _ (step line_end _ refl) c.loop-i.invariant.2)
 
 pub put_byte-w-requires : goal.put_byte-w-requires
 put_byte-w-requires c = part_room refl (part-wrote _ (step (goal.at.put_byte-w-requires c).After-line_end-e _ refl) c.put_line_hex-h.ensures c.loop-i.invariant.2)
 
 pub loop-i-preserved : goal.loop-i-preserved
-loop-i-preserved c = (
+loop-i-preserved c = let line_end = (goal.at.loop-i-preserved c).After-line_end-e in (
   c.put_line_hex-h.auto.scratch ∙ c.loop-i.invariant.0,
-  omega (arith, below (goal.at.loop-i-preserved c).After-line_end-e),
-  part-wrote (c.mark_behind-mark.result ∷ []) refl c.put_byte-w.ensures (part-wrote _ (step (goal.at.loop-i-preserved c).After-line_end-e _ c.mark_behind-mark.ensures) c.put_line_hex-h.ensures c.loop-i.invariant.2),
+  omega (arith, below line_end),
+  part-wrote (c.mark_behind-mark.result ∷ []) refl c.put_byte-w.ensures (part-wrote _ (step line_end _ c.mark_behind-mark.ensures) c.put_line_hex-h.ensures c.loop-i.invariant.2),
 )
 
 pub returns : goal.returns

@@ -18,17 +18,18 @@ module _ (x : After-line_on-start) where
 
 -- where the last line ends
 module _ (x : After-line_len) where
-  starts' : x.line_on-start.result ≡ line_start x.args.range.first x.args.text.now
-  starts' = on-from _ _ _ _ _ x.requires.at_value x.requires.line_le_first.0 x.line_on-start.ensures
+  abbrev line_on_of_x : After-line_on-start
+  line_on_of_x = (goal.at.After-line_len x).After-line_on-start
 
   ends : x.line_on-last.result + x.line_len.result ≡ range_end x.args.range.first x.args.range.after x.args.text.now
-  ends = range-ends _ _ _ x.if-range.false x.requires.line_le_first.1 (starts') x.line_on-last.ensures x.line_len.ensures
+  ends = range-ends _ _ _ x.if-range.false x.requires.line_le_first.1 (starts line_on_of_x) x.line_on-last.ensures x.line_len.ensures
 
 pub line_on-start-requires : goal.line_on-start-requires
 line_on-start-requires c = subst (λ (n : ℕ). n ≤ length c.args.text.now) (sym c.requires.at_value) (start-most _ _)
 
 pub returns-then-range : goal.returns-then-range
-returns-then-range c = (starts (goal.at.returns-then-range c).After-line_on-start, range_empty _ _ _ c.if-range.true (starts (goal.at.returns-then-range c).After-line_on-start))
+returns-then-range c = let line_on = (goal.at.returns-then-range c).After-line_on-start in
+    (starts line_on, range_empty _ _ _ c.if-range.true (starts line_on))
 
 pub line_on-last-requires : goal.line_on-last-requires
 line_on-last-requires c = subst (λ (n : ℕ). n ≤ length c.args.text.now) (sym (starts (goal.at.line_on-last-requires c).After-line_on-start)) (start-most _ _)

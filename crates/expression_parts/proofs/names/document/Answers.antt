@@ -36,54 +36,33 @@ returns-then-not-stands c = rw (sym c.stands.ensures ∙ not-true _ (ap not c.if
 
 -- the letters of LicenseRef- that stand there
 module _ (f : After-letters-k) where
-  abbrev text' : List ℕ
-  text' = f.args.text.now
-
-  abbrev end' : ℕ
-  end' = f.args.at + f.args.n
-
-  colon' : head_is 58 (drop end' text') ≡ true
-  colon' = sym f.stands.ensures ∙ not-false _ (ap not f.if-not-stands.false)
-
-  inside' : end' + 1 ≤ length text'
-  inside' = let h = head-within text' end' 58 colon' in omega arith
+  abbrev else_not_stands_of_f : Else-not-stands
+  else_not_stands_of_f = (goal.at.After-letters-k f).Else-not-stands
 
   abbrev k : ℕ
   k = f.letters-k.result
 
-  within : end' + 1 + k ≤ length (text')
-  within = letters_in (text') (end' + 1) k license_ref (inside') f.letters-k.ensures
+  within : (end else_not_stands_of_f) + 1 + k ≤ length (text else_not_stands_of_f)
+  within = letters_in (text else_not_stands_of_f) ((end else_not_stands_of_f) + 1) k license_ref (inside else_not_stands_of_f) f.letters-k.ensures
 
 -- all of them: an idstring is due
 module _ (e : Else-k-lt11) where
-  abbrev text'' : List ℕ
-  text'' = e.args.text.now
+  abbrev letters_of_e : After-letters-k
+  letters_of_e = (goal.at.Else-k-lt11 e).After-letters-k
 
-  abbrev end'' : ℕ
-  end'' = e.args.at + e.args.n
+  abbrev else_not_stands_of_e : Else-not-stands
+  else_not_stands_of_e = (goal.at.Else-k-lt11 e).Else-not-stands
 
-  colon'' : head_is 58 (drop end'' text'') ≡ true
-  colon'' = sym e.stands.ensures ∙ not-false _ (ap not e.if-not-stands.false)
+  all : (k letters_of_e) ≡ 11
+  all = omega (arith, e.if-k-lt11.false, e.letters-k.ensures, spelt-most license_ref (drop ((end else_not_stands_of_e) + 1) (text else_not_stands_of_e)))
 
-  inside'' : end'' + 1 ≤ length text''
-  inside'' = let h = head-within text'' end'' 58 colon'' in omega arith
-
-  abbrev k'' : ℕ
-  k'' = e.letters-k.result
-
-  within'' : end'' + 1 + k'' ≤ length (text'')
-  within'' = letters_in (text'') (end'' + 1) k'' license_ref (inside'') e.letters-k.ensures
-
-  all : k'' ≡ 11
-  all = omega (arith, e.if-k-lt11.false, e.letters-k.ensures, spelt-most license_ref (drop (end'' + 1) (text'')))
-
-  there : drop 11 (drop (end'' + 1) (text'')) ≡ drop (end'' + 12) (text'')
+  there : drop 11 (drop ((end else_not_stands_of_e) + 1) (text else_not_stands_of_e)) ≡ drop ((end else_not_stands_of_e) + 12) (text else_not_stands_of_e)
   there =
-      let q : end'' + 1 + 11 ≡ end'' + 12 = omega arith in
-      drop-drop 11 (end'' + 1) (text'') ∙ ap (λ (m : ℕ). drop m (text'')) q
+      let q : (end else_not_stands_of_e) + 1 + 11 ≡ (end else_not_stands_of_e) + 12 = omega arith in
+      drop-drop 11 ((end else_not_stands_of_e) + 1) (text else_not_stands_of_e) ∙ ap (λ (m : ℕ). drop m (text else_not_stands_of_e)) q
 
-  twelve : end'' + 12 ≤ length (text'')
-  twelve = omega (arith, within'', all)
+  twelve : (end else_not_stands_of_e) + 12 ≤ length (text else_not_stands_of_e)
+  twelve = omega (arith, (within letters_of_e), all)
 
 pub overflow_add-end-2 : goal.overflow_add-end-2
 overflow_add-end-2 c = let h = inside (goal.at.overflow_add-end-2 c).Else-not-stands in search rules
@@ -99,7 +78,8 @@ overflow_add-result-then-k-lt11 c = let h = within (goal.at.overflow_add-result-
 
 pub returns-then-k-lt11 : goal.returns-then-k-lt11
 unfolding after_document after_colon
-returns-then-k-lt11 c = rw (colon (goal.at.returns-then-k-lt11 c).Else-not-stands, drop-one (end (goal.at.returns-then-k-lt11 c).Else-not-stands) (text (goal.at.returns-then-k-lt11 c).Else-not-stands), ← c.letters-k.ensures, ne_eqb (k (goal.at.returns-then-k-lt11 c).After-letters-k) 11 (λ e. omega (arith, e, c.if-k-lt11.true)))
+returns-then-k-lt11 c = let else_not_stands = (goal.at.returns-then-k-lt11 c).Else-not-stands in
+    rw (colon else_not_stands, drop-one (end else_not_stands) (text else_not_stands), ← c.letters-k.ensures, ne_eqb (k (goal.at.returns-then-k-lt11 c).After-letters-k) 11 (λ e. omega (arith, e, c.if-k-lt11.true)))
 
 pub overflow_add-end-3 : goal.overflow_add-end-3
 overflow_add-end-3 c = let h = twelve (goal.at.overflow_add-end-3 c).Else-k-lt11 in search rules
@@ -109,37 +89,27 @@ overflow_add-result-then-m-eq0 c = let h = twelve (goal.at.overflow_add-result-t
 
 -- what stands behind the letters
 module _ (j : After-ids-m) where
-  abbrev text''' : List ℕ
-  text''' = j.args.text.now
+  abbrev else_not_stands_of_j : Else-not-stands
+  else_not_stands_of_j = (goal.at.After-ids-m j).Else-not-stands
 
-  abbrev end''' : ℕ
-  end''' = j.args.at + j.args.n
+  abbrev letters_of_j : After-letters-k
+  letters_of_j = (goal.at.After-ids-m j).After-letters-k
 
-  colon''' : head_is 58 (drop end''' text''') ≡ true
-  colon''' = sym j.stands.ensures ∙ not-false _ (ap not j.if-not-stands.false)
+  abbrev else_k_lt11_of_j : Else-k-lt11
+  else_k_lt11_of_j = (goal.at.After-ids-m j).Else-k-lt11
 
-  abbrev k''' : ℕ
-  k''' = j.letters-k.result
-
-  all''' : k''' ≡ 11
-  all''' = omega (arith, j.if-k-lt11.false, j.letters-k.ensures, spelt-most license_ref (drop (end''' + 1) (text''')))
-
-  there''' : drop 11 (drop (end''' + 1) (text''')) ≡ drop (end''' + 12) (text''')
-  there''' =
-      let q : end''' + 1 + 11 ≡ end''' + 12 = omega arith in
-      drop-drop 11 (end''' + 1) (text''') ∙ ap (λ (m : ℕ). drop m (text''')) q
-
-  behind : after_document j.args.n (drop (end''') (text''')) ≡ idstring j.args.n j.ids-m.result
+  behind : after_document j.args.n (drop (end else_not_stands_of_j) (text else_not_stands_of_j)) ≡ idstring j.args.n j.ids-m.result
   unfolding after_document after_colon
   behind =
-      rw (colon''', drop-one (end''') (text'''), ← j.letters-k.ensures, eq-eqb (k''') 11 (all'''), there''', ← j.ids-m.ensures)
+      rw ((colon else_not_stands_of_j), drop-one (end else_not_stands_of_j) (text else_not_stands_of_j), ← j.letters-k.ensures, eq-eqb (k letters_of_j) 11 (all else_k_lt11_of_j), (there else_k_lt11_of_j), ← j.ids-m.ensures)
 
 pub returns-then-m-eq0 : goal.returns-then-m-eq0
 unfolding idstring
 returns-then-m-eq0 c = sym (behind (goal.at.returns-then-m-eq0 c).After-ids-m ∙ rw (eq-eqb c.ids-m.result 0 c.if-m-eq0.true))
 
 pub overflow_add-result-3 : goal.overflow_add-result-3
-overflow_add-result-3 c = let h = ids_in (text (goal.at.overflow_add-result-3 c).Else-not-stands) (end (goal.at.overflow_add-result-3 c).Else-not-stands + 12) c.ids-m.result (twelve (goal.at.overflow_add-result-3 c).Else-k-lt11) c.ids-m.ensures in
+overflow_add-result-3 c = let else_not_stands = (goal.at.overflow_add-result-3 c).Else-not-stands in
+    let h = ids_in (text else_not_stands) (end else_not_stands + 12) c.ids-m.result (twelve (goal.at.overflow_add-result-3 c).Else-k-lt11) c.ids-m.ensures in
     search rules
 
 pub returns : goal.returns

@@ -44,54 +44,39 @@ blanks-behind-requires c = let h = past (goal.at.blanks-behind-requires c).Then-
 
 -- and the blanks behind that
 module _ (d : After-blanks-behind) where
-  abbrev text' : List ℕ
-  text' = d.args.text.now
-
-  abbrev from' : ℕ
-  from' = d.args.from
-
-  abbrev name' : List ℕ
-  name' = take d.args.n (drop d.args.at text')
-
-  abbrev plus' : Bool
-  plus' = d.args.plus
-
-  blank' : head_is 32 (drop from' text') ≡ true
-  blank' = sym d.stands.ensures ∙ d.if-stands.true
-
-  past' : from' < length text'
-  past' = head-within text' from' 32 blank'
+  abbrev then_stands_of_d : Then-stands
+  then_stands_of_d = (goal.at.After-blanks-behind d).Then-stands
 
   abbrev behind : ℕ
   behind = d.blanks-behind.result
 
-  high : behind ≤ length (text')
-  high = let h = past' in blanks-high (text') (from' + 1) behind (omega arith) d.blanks-behind.ensures
+  high : behind ≤ length (text then_stands_of_d)
+  high = let h = (past then_stands_of_d) in blanks-high (text then_stands_of_d) ((from then_stands_of_d) + 1) behind (omega arith) d.blanks-behind.ensures
 
-  low : from' ≤ behind
+  low : (from then_stands_of_d) ≤ behind
   low = omega (arith, d.blanks-behind.ensures)
 
-  no-blank : head_is 32 (drop behind (text')) ≡ false
-  no-blank = blanks-stop (text') (from' + 1) behind d.blanks-behind.ensures
+  no-blank : head_is 32 (drop behind (text then_stands_of_d)) ≡ false
+  no-blank = blanks-stop (text then_stands_of_d) ((from then_stands_of_d) + 1) behind d.blanks-behind.ensures
 
-  spaced : (l : Level) (fs : List Level) → run (drop behind (text')) (Ctl.spaced (name') (plus')) l fs behind ≡ run (drop (from') (text')) (Ctl.simple (name') (plus')) l fs (from')
+  spaced : (l : Level) (fs : List Level) → run (drop behind (text then_stands_of_d)) (Ctl.spaced (name then_stands_of_d) (plus then_stands_of_d)) l fs behind ≡ run (drop (from then_stands_of_d) (text then_stands_of_d)) (Ctl.simple (name then_stands_of_d) (plus then_stands_of_d)) l fs (from then_stands_of_d)
   spaced l fs =
-      laws.spaced-over (text') (name') (plus') (from' + 1) l fs behind d.blanks-behind.ensures
-      ∙ sym (state.simple-blank (drop (from') (text')) (name') (plus') l fs (from') (blank') ∙ laws.one_on (text') (from') (Ctl.spaced (name') (plus')) l fs)
+      laws.spaced-over (text then_stands_of_d) (name then_stands_of_d) (plus then_stands_of_d) ((from then_stands_of_d) + 1) l fs behind d.blanks-behind.ensures
+      ∙ sym (state.simple-blank (drop (from then_stands_of_d) (text then_stands_of_d)) (name then_stands_of_d) (plus then_stands_of_d) l fs (from then_stands_of_d) (blank then_stands_of_d) ∙ laws.one_on (text then_stands_of_d) (from then_stands_of_d) (Ctl.spaced (name then_stands_of_d) (plus then_stands_of_d)) l fs)
 
 -- WITH begins there
 module _ (i : Then-stands-2) where
-  abbrev text'' : List ℕ
-  text'' = i.args.text.now
+  abbrev blanks_of_i : After-blanks-behind
+  blanks_of_i = (goal.at.Then-stands-2 i).After-blanks-behind
 
-  abbrev behind'' : ℕ
-  behind'' = i.blanks-behind.result
+  abbrev then_stands_of_i : Then-stands
+  then_stands_of_i = (goal.at.Then-stands-2 i).Then-stands
 
-  letter : head_is 87 (drop (behind'') (text'')) ≡ true
+  letter : head_is 87 (drop (behind blanks_of_i) (text then_stands_of_i)) ≡ true
   letter = sym i.stands-then-stands.ensures ∙ i.if-stands-2.true
 
-  letter-in : behind'' < length (text'')
-  letter-in = head-within (text'') (behind'') 87 letter
+  letter-in : (behind blanks_of_i) < length (text then_stands_of_i)
+  letter-in = head-within (text then_stands_of_i) (behind blanks_of_i) 87 letter
 
 pub overflow_add-behind : goal.overflow_add-behind
 overflow_add-behind c = let h = letter-in (goal.at.overflow_add-behind c).Then-stands-2 in search rules
@@ -101,12 +86,16 @@ exception-requires c = let h = letter-in (goal.at.exception-requires c).Then-sta
     (c.requires.0, omega arith)
 
 pub returns-then-stands-2 : goal.returns-then-stands-2
-returns-then-stands-2 c = laws.read_back (omega (arith, low (goal.at.returns-then-stands-2 c).After-blanks-behind)) (λ l fs. sym (state.spaced-with (drop (behind (goal.at.returns-then-stands-2 c).After-blanks-behind) (text (goal.at.returns-then-stands-2 c).Then-stands)) (name (goal.at.returns-then-stands-2 c).Then-stands) (plus (goal.at.returns-then-stands-2 c).Then-stands) l fs (behind (goal.at.returns-then-stands-2 c).After-blanks-behind) (no-blank (goal.at.returns-then-stands-2 c).After-blanks-behind) (letter (goal.at.returns-then-stands-2 c).Then-stands-2) ∙ laws.one_on (text (goal.at.returns-then-stands-2 c).Then-stands) (behind (goal.at.returns-then-stands-2 c).After-blanks-behind) (Ctl.withs (name (goal.at.returns-then-stands-2 c).Then-stands) (plus (goal.at.returns-then-stands-2 c).Then-stands) (73 ∷ 84 ∷ 72 ∷ [])) l fs) ∙ spaced (goal.at.returns-then-stands-2 c).After-blanks-behind l fs) c.exception.ensures
+returns-then-stands-2 c = let blanks = (goal.at.returns-then-stands-2 c).After-blanks-behind in
+    let then_stands = (goal.at.returns-then-stands-2 c).Then-stands in
+    laws.read_back (omega (arith, low blanks)) (λ l fs. sym (state.spaced-with (drop (behind blanks) (text then_stands)) (name then_stands) (plus then_stands) l fs (behind blanks) (no-blank blanks) (letter (goal.at.returns-then-stands-2 c).Then-stands-2) ∙ laws.one_on (text then_stands) (behind blanks) (Ctl.withs (name then_stands) (plus then_stands) (73 ∷ 84 ∷ 72 ∷ [])) l fs) ∙ spaced blanks l fs) c.exception.ensures
 
 pub returns-then-stands : goal.returns-then-stands
 unfolding part_of
-returns-then-stands c = laws.part-reads (text (goal.at.returns-then-stands c).Then-stands) _ _ (from (goal.at.returns-then-stands c).Then-stands) (λ l fs. sym (state.spaced-done (drop (behind (goal.at.returns-then-stands c).After-blanks-behind) (text (goal.at.returns-then-stands c).Then-stands)) (name (goal.at.returns-then-stands c).Then-stands) (plus (goal.at.returns-then-stands c).Then-stands) l fs (behind (goal.at.returns-then-stands c).After-blanks-behind) (no-blank (goal.at.returns-then-stands c).After-blanks-behind) (sym c.stands-then-stands.ensures ∙ c.if-stands-2.false)) ∙ spaced (goal.at.returns-then-stands c).After-blanks-behind l fs)
-    record { name = c.requires.0; exc = (let h = c.requires.0 in omega arith); low = low (goal.at.returns-then-stands c).After-blanks-behind; high = high (goal.at.returns-then-stands c).After-blanks-behind; stop = no-blank (goal.at.returns-then-stands c).After-blanks-behind }
+returns-then-stands c = let then_stands = (goal.at.returns-then-stands c).Then-stands in
+    let blanks = (goal.at.returns-then-stands c).After-blanks-behind in
+    laws.part-reads (text then_stands) _ _ (from then_stands) (λ l fs. sym (state.spaced-done (drop (behind blanks) (text then_stands)) (name then_stands) (plus then_stands) l fs (behind blanks) (no-blank blanks) (sym c.stands-then-stands.ensures ∙ c.if-stands-2.false)) ∙ spaced blanks l fs)
+    record { name = c.requires.0; exc = (let h = c.requires.0 in omega arith); low = low blanks; high = high blanks; stop = no-blank blanks }
 
 -- no blank: what ends a part
 module _ (e : Else-stands) where

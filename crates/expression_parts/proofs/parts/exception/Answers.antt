@@ -41,47 +41,34 @@ pub overflow_add-result : goal.overflow_add-result
 overflow_add-result c = let h = within (goal.at.overflow_add-result c).After-letters-k in search rules
 
 pub returns-then-k-lt3 : goal.returns-then-k-lt3
-returns-then-k-lt3 c = stuck (λ l fs. sym (laws.ith_bad (text (goal.at.returns-then-k-lt3 c).After-letters-k) (name (goal.at.returns-then-k-lt3 c).After-letters-k) (plus (goal.at.returns-then-k-lt3 c).After-letters-k) (from (goal.at.returns-then-k-lt3 c).After-letters-k) l fs (k (goal.at.returns-then-k-lt3 c).After-letters-k) c.letters-k.ensures c.if-k-lt3.true))
+returns-then-k-lt3 c = let letters = (goal.at.returns-then-k-lt3 c).After-letters-k in
+    stuck (λ l fs. sym (laws.ith_bad (text letters) (name letters) (plus letters) (from letters) l fs (k letters) c.letters-k.ensures c.if-k-lt3.true))
 
 pub overflow_add-gap : goal.overflow_add-gap
 overflow_add-gap c = let h = within (goal.at.overflow_add-gap c).After-letters-k in let i = c.if-k-lt3.false in search rules
 
 -- all of them: a blank is due
 module _ (e : Else-k-lt3) where
-  abbrev text' : List ℕ
-  text' = e.args.text.now
+  abbrev letters_of_e : After-letters-k
+  letters_of_e = (goal.at.Else-k-lt3 e).After-letters-k
 
-  abbrev from' : ℕ
-  from' = e.args.from
-
-  abbrev name' : List ℕ
-  name' = take e.args.n (drop e.args.at text')
-
-  abbrev plus' : Bool
-  plus' = e.args.plus
-
-  abbrev k' : ℕ
-  k' = e.letters-k.result
-
-  ith : (l : Level) (fs : List Level) → run (drop (from') (text')) (Ctl.withs (name') (plus') (73 ∷ 84 ∷ 72 ∷ [])) l fs (from') ≡ run (drop (from' + 3) (text')) (Ctl.withs (name') (plus') []) l fs (from' + 3)
-  ith l fs = laws.ith (text') (name') (plus') (from') l fs (k') e.letters-k.ensures e.if-k-lt3.false
+  ith : (l : Level) (fs : List Level) → run (drop (from letters_of_e) (text letters_of_e)) (Ctl.withs (name letters_of_e) (plus letters_of_e) (73 ∷ 84 ∷ 72 ∷ [])) l fs (from letters_of_e) ≡ run (drop ((from letters_of_e) + 3) (text letters_of_e)) (Ctl.withs (name letters_of_e) (plus letters_of_e) []) l fs ((from letters_of_e) + 3)
+  ith l fs = laws.ith (text letters_of_e) (name letters_of_e) (plus letters_of_e) (from letters_of_e) l fs (k letters_of_e) e.letters-k.ensures e.if-k-lt3.false
 
 pub returns-then-not-stands : goal.returns-then-not-stands
-returns-then-not-stands c = stuck (λ l fs. sym (ith (goal.at.returns-then-not-stands c).Else-k-lt3 l fs ∙ state.with-stuck (drop (from (goal.at.returns-then-not-stands c).After-letters-k + 3) (text (goal.at.returns-then-not-stands c).After-letters-k)) (name (goal.at.returns-then-not-stands c).After-letters-k) (plus (goal.at.returns-then-not-stands c).After-letters-k) l fs (from (goal.at.returns-then-not-stands c).After-letters-k + 3) (sym c.stands.ensures ∙ not-true _ (ap not c.if-not-stands.true))))
+returns-then-not-stands c = let letters = (goal.at.returns-then-not-stands c).After-letters-k in
+    stuck (λ l fs. sym (ith (goal.at.returns-then-not-stands c).Else-k-lt3 l fs ∙ state.with-stuck (drop (from letters + 3) (text letters)) (name letters) (plus letters) l fs (from letters + 3) (sym c.stands.ensures ∙ not-true _ (ap not c.if-not-stands.true))))
 
 -- the blank stands
 module _ (e : Else-not-stands) where
-  abbrev text'' : List ℕ
-  text'' = e.args.text.now
+  abbrev letters_of_e' : After-letters-k
+  letters_of_e' = (goal.at.Else-not-stands e).After-letters-k
 
-  abbrev from'' : ℕ
-  from'' = e.args.from
-
-  blank : head_is 32 (drop (from'' + 3) (text'')) ≡ true
+  blank : head_is 32 (drop ((from letters_of_e') + 3) (text letters_of_e')) ≡ true
   blank = sym e.stands.ensures ∙ not-false _ (ap not e.if-not-stands.false)
 
-  past : from'' + 3 < length (text'')
-  past = head-within (text'') (from'' + 3) 32 blank
+  past : (from letters_of_e') + 3 < length (text letters_of_e')
+  past = head-within (text letters_of_e') ((from letters_of_e') + 3) 32 blank
 
 pub overflow_add-gap-2 : goal.overflow_add-gap-2
 overflow_add-gap-2 c = let h = past (goal.at.overflow_add-gap-2 c).Else-not-stands in search rules
@@ -91,29 +78,14 @@ blanks-x-requires c = let h = past (goal.at.blanks-x-requires c).Else-not-stands
 
 -- and the exception is counted
 module _ (d : After-ids-xn) where
-  abbrev text''' : List ℕ
-  text''' = d.args.text.now
+  abbrev letters_of_d : After-letters-k
+  letters_of_d = (goal.at.After-ids-xn d).After-letters-k
 
-  abbrev from''' : ℕ
-  from''' = d.args.from
+  abbrev else_not_stands_of_d : Else-not-stands
+  else_not_stands_of_d = (goal.at.After-ids-xn d).Else-not-stands
 
-  abbrev name''' : List ℕ
-  name''' = take d.args.n (drop d.args.at text''')
-
-  abbrev plus''' : Bool
-  plus''' = d.args.plus
-
-  abbrev k''' : ℕ
-  k''' = d.letters-k.result
-
-  ith''' : (l : Level) (fs : List Level) → run (drop (from''') (text''')) (Ctl.withs (name''') (plus''') (73 ∷ 84 ∷ 72 ∷ [])) l fs (from''') ≡ run (drop (from''' + 3) (text''')) (Ctl.withs (name''') (plus''') []) l fs (from''' + 3)
-  ith''' l fs = laws.ith (text''') (name''') (plus''') (from''') l fs (k''') d.letters-k.ensures d.if-k-lt3.false
-
-  blank''' : head_is 32 (drop (from''' + 3) (text''')) ≡ true
-  blank''' = sym d.stands.ensures ∙ not-false _ (ap not d.if-not-stands.false)
-
-  past''' : from''' + 3 < length (text''')
-  past''' = head-within (text''') (from''' + 3) 32 blank'''
+  abbrev else_k_lt3_of_d : Else-k-lt3
+  else_k_lt3_of_d = (goal.at.After-ids-xn d).Else-k-lt3
 
   abbrev x : ℕ
   x = d.blanks-x.result
@@ -121,18 +93,20 @@ module _ (d : After-ids-xn) where
   abbrev xn : ℕ
   xn = d.ids-xn.result
 
-  x-high : x ≤ length (text''')
-  x-high = let h = past''' in blanks-high (text''') (from''' + 3 + 1) x (omega arith) d.blanks-x.ensures
+  x-high : x ≤ length (text letters_of_d)
+  x-high = let h = (past else_not_stands_of_d) in blanks-high (text letters_of_d) ((from letters_of_d) + 3 + 1) x (omega arith) d.blanks-x.ensures
 
-  inside : x + xn ≤ length (text''')
-  inside = ids_in (text''') x xn x-high d.ids-xn.ensures
+  inside : x + xn ≤ length (text letters_of_d)
+  inside = ids_in (text letters_of_d) x xn x-high d.ids-xn.ensures
 
   -- past the exception's bytes, of which there are some
-  excepted : 0 < xn → (l : Level) (fs : List Level) → run (drop (from''') (text''')) (Ctl.withs (name''') (plus''') (73 ∷ 84 ∷ 72 ∷ [])) l fs (from''') ≡ run (drop (x + xn) (text''')) (Ctl.exc (name''') (plus''') (take xn (drop x (text''')))) l fs (x + xn)
-  excepted h l fs = ith''' l fs ∙ laws.exc-on (text''') (name''') (plus''') (from''' + 3) l fs x xn (blank''') d.blanks-x.ensures d.ids-xn.ensures h
+  excepted : 0 < xn → (l : Level) (fs : List Level) → run (drop (from letters_of_d) (text letters_of_d)) (Ctl.withs (name letters_of_d) (plus letters_of_d) (73 ∷ 84 ∷ 72 ∷ [])) l fs (from letters_of_d) ≡ run (drop (x + xn) (text letters_of_d)) (Ctl.exc (name letters_of_d) (plus letters_of_d) (take xn (drop x (text letters_of_d)))) l fs (x + xn)
+  excepted h l fs = (ith else_k_lt3_of_d) l fs ∙ laws.exc-on (text letters_of_d) (name letters_of_d) (plus letters_of_d) ((from letters_of_d) + 3) l fs x xn (blank else_not_stands_of_d) d.blanks-x.ensures d.ids-xn.ensures h
 
 pub returns-then-xn-eq0 : goal.returns-then-xn-eq0
-returns-then-xn-eq0 c = stuck (λ l fs. sym (ith (goal.at.returns-then-xn-eq0 c).Else-k-lt3 l fs ∙ laws.with-on (text (goal.at.returns-then-xn-eq0 c).After-letters-k) (name (goal.at.returns-then-xn-eq0 c).After-letters-k) (plus (goal.at.returns-then-xn-eq0 c).After-letters-k) (from (goal.at.returns-then-xn-eq0 c).After-letters-k + 3) l fs (x (goal.at.returns-then-xn-eq0 c).After-ids-xn) (blank (goal.at.returns-then-xn-eq0 c).Else-not-stands) c.blanks-x.ensures ∙ state.due-stuck (drop (x (goal.at.returns-then-xn-eq0 c).After-ids-xn) (text (goal.at.returns-then-xn-eq0 c).After-letters-k)) (name (goal.at.returns-then-xn-eq0 c).After-letters-k) (plus (goal.at.returns-then-xn-eq0 c).After-letters-k) l fs (x (goal.at.returns-then-xn-eq0 c).After-ids-xn) (blanks-stop (text (goal.at.returns-then-xn-eq0 c).After-letters-k) (from (goal.at.returns-then-xn-eq0 c).After-letters-k + 3 + 1) (x (goal.at.returns-then-xn-eq0 c).After-ids-xn) c.blanks-x.ensures) (ids_none (text (goal.at.returns-then-xn-eq0 c).After-letters-k) (x (goal.at.returns-then-xn-eq0 c).After-ids-xn) (xn (goal.at.returns-then-xn-eq0 c).After-ids-xn) c.ids-xn.ensures c.if-xn-eq0.true)))
+returns-then-xn-eq0 c = let letters = (goal.at.returns-then-xn-eq0 c).After-letters-k in
+    let ids = (goal.at.returns-then-xn-eq0 c).After-ids-xn in
+    stuck (λ l fs. sym (ith (goal.at.returns-then-xn-eq0 c).Else-k-lt3 l fs ∙ laws.with-on (text letters) (name letters) (plus letters) (from letters + 3) l fs (x ids) (blank (goal.at.returns-then-xn-eq0 c).Else-not-stands) c.blanks-x.ensures ∙ state.due-stuck (drop (x ids) (text letters)) (name letters) (plus letters) l fs (x ids) (blanks-stop (text letters) (from letters + 3 + 1) (x ids) c.blanks-x.ensures) (ids_none (text letters) (x ids) (xn ids) c.ids-xn.ensures c.if-xn-eq0.true)))
 
 pub is_word-requires : goal.is_word-requires
 is_word-requires c = (x-high (goal.at.is_word-requires c).After-ids-xn, c.ids-xn.ensures)
@@ -142,14 +116,16 @@ overflow_add-result-then-is_word c = let h = inside (goal.at.overflow_add-result
 
 -- some bytes
 module _ (e : Else-xn-eq0) where
-  abbrev xn'''' : ℕ
-  xn'''' = e.ids-xn.result
+  abbrev ids_of_e : After-ids-xn
+  ids_of_e = (goal.at.Else-xn-eq0 e).After-ids-xn
 
-  some : 0 < xn''''
+  some : 0 < (xn ids_of_e)
   some = let h = e.if-xn-eq0.false in omega arith
 
 pub returns-then-is_word : goal.returns-then-is_word
-returns-then-is_word c = stuck (λ l fs. sym (excepted (goal.at.returns-then-is_word c).After-ids-xn (some (goal.at.returns-then-is_word c).Else-xn-eq0) l fs ∙ state.exc-word (drop (x (goal.at.returns-then-is_word c).After-ids-xn + xn (goal.at.returns-then-is_word c).After-ids-xn) (text (goal.at.returns-then-is_word c).After-letters-k)) (name (goal.at.returns-then-is_word c).After-letters-k) (take (xn (goal.at.returns-then-is_word c).After-ids-xn) (drop (x (goal.at.returns-then-is_word c).After-ids-xn) (text (goal.at.returns-then-is_word c).After-letters-k))) (plus (goal.at.returns-then-is_word c).After-letters-k) l fs (x (goal.at.returns-then-is_word c).After-ids-xn + xn (goal.at.returns-then-is_word c).After-ids-xn) (ids_stop (text (goal.at.returns-then-is_word c).After-letters-k) (x (goal.at.returns-then-is_word c).After-ids-xn) (xn (goal.at.returns-then-is_word c).After-ids-xn) c.ids-xn.ensures) (sym c.is_word.ensures ∙ c.if-is_word.true)))
+returns-then-is_word c = let ids = (goal.at.returns-then-is_word c).After-ids-xn in
+    let letters = (goal.at.returns-then-is_word c).After-letters-k in
+    stuck (λ l fs. sym (excepted ids (some (goal.at.returns-then-is_word c).Else-xn-eq0) l fs ∙ state.exc-word (drop (x ids + xn ids) (text letters)) (name letters) (take (xn ids) (drop (x ids) (text letters))) (plus letters) l fs (x ids + xn ids) (ids_stop (text letters) (x ids) (xn ids) c.ids-xn.ensures) (sym c.is_word.ensures ∙ c.if-is_word.true)))
 
 pub overflow_add-x : goal.overflow_add-x
 overflow_add-x c = let h = inside (goal.at.overflow_add-x c).After-ids-xn in search rules
@@ -159,46 +135,25 @@ after_part-requires c = inside (goal.at.after_part-requires c).After-ids-xn
 
 -- no word: what stands behind it
 module _ (g : After-after_part) where
-  abbrev text''''' : List ℕ
-  text''''' = g.args.text.now
+  abbrev letters_of_g : After-letters-k
+  letters_of_g = (goal.at.After-after_part g).After-letters-k
 
-  abbrev from''''' : ℕ
-  from''''' = g.args.from
+  abbrev ids_of_g : After-ids-xn
+  ids_of_g = (goal.at.After-after_part g).After-ids-xn
 
-  abbrev name''''' : List ℕ
-  name''''' = take g.args.n (drop g.args.at text''''')
+  abbrev else_xn_eq0_of_g : Else-xn-eq0
+  else_xn_eq0_of_g = (goal.at.After-after_part g).Else-xn-eq0
 
-  abbrev plus''''' : Bool
-  plus''''' = g.args.plus
-
-  abbrev k''''' : ℕ
-  k''''' = g.letters-k.result
-
-  ith''''' : (l : Level) (fs : List Level) → run (drop (from''''') (text''''')) (Ctl.withs (name''''') (plus''''') (73 ∷ 84 ∷ 72 ∷ [])) l fs (from''''') ≡ run (drop (from''''' + 3) (text''''')) (Ctl.withs (name''''') (plus''''') []) l fs (from''''' + 3)
-  ith''''' l fs = laws.ith (text''''') (name''''') (plus''''') (from''''') l fs (k''''') g.letters-k.ensures g.if-k-lt3.false
-
-  blank''''' : head_is 32 (drop (from''''' + 3) (text''''')) ≡ true
-  blank''''' = sym g.stands.ensures ∙ not-false _ (ap not g.if-not-stands.false)
-
-  abbrev x''''' : ℕ
-  x''''' = g.blanks-x.result
-
-  abbrev xn''''' : ℕ
-  xn''''' = g.ids-xn.result
-
-  excepted''''' : 0 < xn''''' → (l : Level) (fs : List Level) → run (drop (from''''') (text''''')) (Ctl.withs (name''''') (plus''''') (73 ∷ 84 ∷ 72 ∷ [])) l fs (from''''') ≡ run (drop (x''''' + xn''''') (text''''')) (Ctl.exc (name''''') (plus''''') (take xn''''' (drop x''''' (text''''')))) l fs (x''''' + xn''''')
-  excepted''''' h l fs = ith''''' l fs ∙ laws.exc-on (text''''') (name''''') (plus''''') (from''''' + 3) l fs x''''' xn''''' (blank''''') g.blanks-x.ensures g.ids-xn.ensures h
-
-  some''''' : 0 < xn'''''
-  some''''' = let h = g.if-xn-eq0.false in omega arith
-
-  ends : (l : Level) (fs : List Level) → ending (leaf (part (name''''') (plus''''') (take (xn''''') (drop (x''''') (text'''''))))) (drop (x''''' + xn''''') (text''''')) l fs (x''''' + xn''''') ≡ run (drop (from''''') (text''''')) (Ctl.withs (name''''') (plus''''') (73 ∷ 84 ∷ 72 ∷ [])) l fs (from''''')
+  ends : (l : Level) (fs : List Level) → ending (leaf (part (name letters_of_g) (plus letters_of_g) (take (xn ids_of_g) (drop (x ids_of_g) (text letters_of_g))))) (drop ((x ids_of_g) + (xn ids_of_g)) (text letters_of_g)) l fs ((x ids_of_g) + (xn ids_of_g)) ≡ run (drop (from letters_of_g) (text letters_of_g)) (Ctl.withs (name letters_of_g) (plus letters_of_g) (73 ∷ 84 ∷ 72 ∷ [])) l fs (from letters_of_g)
   ends l fs =
-      sym (excepted''''' (some''''') l fs ∙ state.exc-ends (drop (x''''' + xn''''') (text''''')) (name''''') (take (xn''''') (drop (x''''') (text'''''))) (plus''''') l fs (x''''' + xn''''') (ids_stop (text''''') (x''''') (xn''''') g.ids-xn.ensures) (sym g.is_word.ensures ∙ g.if-is_word.false))
+      sym ((excepted ids_of_g) (some else_xn_eq0_of_g) l fs ∙ state.exc-ends (drop ((x ids_of_g) + (xn ids_of_g)) (text letters_of_g)) (name letters_of_g) (take (xn ids_of_g) (drop (x ids_of_g) (text letters_of_g))) (plus letters_of_g) l fs ((x ids_of_g) + (xn ids_of_g)) (ids_stop (text letters_of_g) (x ids_of_g) (xn ids_of_g) g.ids-xn.ensures) (sym g.is_word.ensures ∙ g.if-is_word.false))
 
 pub returns-in-Bad : goal.returns-in-Bad
-returns-in-Bad c = stuck (λ l fs. laws.halted (text (goal.at.returns-in-Bad c).After-letters-k) (x (goal.at.returns-in-Bad c).After-ids-xn + xn (goal.at.returns-in-Bad c).After-ids-xn) c.in-Bad.is c.after_part.ensures _ l fs ∙ ends (goal.at.returns-in-Bad c).After-after_part l fs)
+returns-in-Bad c = let ids = (goal.at.returns-in-Bad c).After-ids-xn in
+    stuck (λ l fs. laws.halted (text (goal.at.returns-in-Bad c).After-letters-k) (x ids + xn ids) c.in-Bad.is c.after_part.ensures _ l fs ∙ ends (goal.at.returns-in-Bad c).After-after_part l fs)
 
 pub returns-in-At : goal.returns-in-At
 unfolding part_of
-returns-in-At c = laws.part-goes (text (goal.at.returns-in-At c).After-letters-k) _ _ (x (goal.at.returns-in-At c).After-ids-xn + xn (goal.at.returns-in-At c).After-ids-xn) (from (goal.at.returns-in-At c).After-letters-k) (omega (arith, past (goal.at.returns-in-At c).Else-not-stands, c.blanks-x.ensures)) c.requires.0 (inside (goal.at.returns-in-At c).After-ids-xn) (ends (goal.at.returns-in-At c).After-after_part) (laws.went (text (goal.at.returns-in-At c).After-letters-k) (x (goal.at.returns-in-At c).After-ids-xn + xn (goal.at.returns-in-At c).After-ids-xn) c.in-At.is c.after_part.ensures)
+returns-in-At c = let letters = (goal.at.returns-in-At c).After-letters-k in
+    let ids = (goal.at.returns-in-At c).After-ids-xn in
+    laws.part-goes (text letters) _ _ (x ids + xn ids) (from letters) (omega (arith, past (goal.at.returns-in-At c).Else-not-stands, c.blanks-x.ensures)) c.requires.0 (inside ids) (ends (goal.at.returns-in-At c).After-after_part) (laws.went (text letters) (x ids + xn ids) c.in-At.is c.after_part.ensures)

@@ -72,7 +72,9 @@ after_simple-requires c = let h = plus-in (goal.at.after_simple-requires c).Afte
 
 pub returns-then-plus : goal.returns-then-plus
 unfolding plus_len
-returns-then-plus c = laws.read_back (omega (arith, (fits (goal.at.returns-then-plus c).After-simple_at (later (goal.at.returns-then-plus c).Then-plus)).0)) (behind (goal.at.returns-then-plus c).After-simple_at true (later (goal.at.returns-then-plus c).Then-plus) (at (goal.at.returns-then-plus c).After-simple_at + c.in-Of.n + 1) (omega arith)) c.after_simple.ensures
+returns-then-plus c = let simple_at = (goal.at.returns-then-plus c).After-simple_at in
+    let then_plus = (goal.at.returns-then-plus c).Then-plus in
+    laws.read_back (omega (arith, (fits simple_at (later then_plus)).0)) (behind simple_at true (later then_plus) (at simple_at + c.in-Of.n + 1) (omega arith)) c.after_simple.ensures
 
 pub overflow_add-at-in-Of : goal.overflow_add-at-in-Of
 unfolding plus_len
@@ -84,4 +86,6 @@ after_simple-requires-in-Of c = let h = plus-in (goal.at.after_simple-requires-i
 
 pub returns-else-plus : goal.returns-else-plus
 unfolding plus_len
-returns-else-plus c = laws.read_back (omega (arith, (fits (goal.at.returns-else-plus c).After-simple_at (only (goal.at.returns-else-plus c).Else-plus)).0)) (behind (goal.at.returns-else-plus c).After-simple_at false (only (goal.at.returns-else-plus c).Else-plus) (at (goal.at.returns-else-plus c).After-simple_at + c.in-Of.n) (omega arith)) c.after_simple-in-Of.ensures
+returns-else-plus c = let simple_at = (goal.at.returns-else-plus c).After-simple_at in
+    let else_plus = (goal.at.returns-else-plus c).Else-plus in
+    laws.read_back (omega (arith, (fits simple_at (only else_plus)).0)) (behind simple_at false (only else_plus) (at simple_at + c.in-Of.n) (omega arith)) c.after_simple-in-Of.ensures

@@ -27,13 +27,17 @@ module _ (k : After-read_into-n2) where
   two = drops_as (by_table dropped_in k.requires.0 dropped-table) (points source) k.read_into-n2.ensures
 
 pub blackbox_urls-end-requires : goal.blackbox_urls-end-requires
-blackbox_urls-end-requires c = (by_table space_in c.requires.0 space-table, omega (arith, kept-short (source (goal.at.blackbox_urls-end-requires c).After-read_into-n2) (to (goal.at.blackbox_urls-end-requires c).After-read_into-n2) c.requires.1 (omega arith) (two (goal.at.blackbox_urls-end-requires c).After-read_into-n2)), urls-room (source (goal.at.blackbox_urls-end-requires c).After-read_into-n2) (to (goal.at.blackbox_urls-end-requires c).After-read_into-n2) c.requires.1 (omega arith) (two (goal.at.blackbox_urls-end-requires c).After-read_into-n2))
+blackbox_urls-end-requires c = let read_into = (goal.at.blackbox_urls-end-requires c).After-read_into-n2 in
+    (by_table space_in c.requires.0 space-table, omega (arith, kept-short (source read_into) (to read_into) c.requires.1 (omega arith) (two read_into)), urls-room (source read_into) (to read_into) c.requires.1 (omega arith) (two read_into))
 
 pub overflow_sub-n3 : goal.overflow_sub-n3
-overflow_sub-n3 c = urls-end-low (source (goal.at.overflow_sub-n3 c).After-read_into-n2) (to (goal.at.overflow_sub-n3 c).After-read_into-n2) c.requires.1 (omega arith) (two (goal.at.overflow_sub-n3 c).After-read_into-n2) c.blackbox_urls-end.ensures
+overflow_sub-n3 c = let read_into = (goal.at.overflow_sub-n3 c).After-read_into-n2 in
+    urls-end-low (source read_into) (to read_into) c.requires.1 (omega arith) (two read_into) c.blackbox_urls-end.ensures
 
 pub join_signs-n5-requires : goal.join_signs-n5-requires
-join_signs-n5-requires c = (c.requires.0, omega (arith, urls-end-high (source (goal.at.join_signs-n5-requires c).After-read_into-n2) (to (goal.at.join_signs-n5-requires c).After-read_into-n2) c.requires.1 (omega arith) (two (goal.at.join_signs-n5-requires c).After-read_into-n2) c.blackbox_urls-end.ensures, length-take (length c.blackbox_urls-end.new.area - to (goal.at.join_signs-n5-requires c).After-read_into-n2) (drop (to (goal.at.join_signs-n5-requires c).After-read_into-n2) c.blackbox_urls-end.new.area), length-drop (to (goal.at.join_signs-n5-requires c).After-read_into-n2) c.blackbox_urls-end.new.area))
+join_signs-n5-requires c = let read_into = (goal.at.join_signs-n5-requires c).After-read_into-n2 in
+    (c.requires.0, omega (arith, urls-end-high (source read_into) (to read_into) c.requires.1 (omega arith) (two read_into) c.blackbox_urls-end.ensures, length-take (length c.blackbox_urls-end.new.area - to read_into) (drop (to read_into) c.blackbox_urls-end.new.area), length-drop (to read_into) c.blackbox_urls-end.new.area))
 
 pub returns : goal.returns
-returns c = fill_done (source (goal.at.returns c).After-read_into-n2) (to (goal.at.returns c).After-read_into-n2) c.requires.1 (omega arith) (two (goal.at.returns c).After-read_into-n2) c.blackbox_urls-end.ensures _ _ _ (omega arith) c.join_signs-n5.ensures
+returns c = let read_into = (goal.at.returns c).After-read_into-n2 in
+    fill_done (source read_into) (to read_into) c.requires.1 (omega arith) (two read_into) c.blackbox_urls-end.ensures _ _ _ (omega arith) c.join_signs-n5.ensures

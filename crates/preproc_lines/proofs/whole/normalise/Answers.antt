@@ -45,27 +45,33 @@ pub slice_bounds-put_line-end : goal.slice_bounds-put_line-end
 slice_bounds-put_line-end c = omega (arith, within (goal.at.slice_bounds-put_line-end c).After-line_len)
 
 pub put_line-s-requires : goal.put_line-s-requires
-put_line-s-requires c = (c.requires.0, omega (arith, long (goal.at.put_line-s-requires c).After-line_len, within (goal.at.put_line-s-requires c).After-line_len, (going (goal.at.put_line-s-requires c).After-line_len).low), omega (arith, long (goal.at.put_line-s-requires c).After-line_len, within (goal.at.put_line-s-requires c).After-line_len, (going (goal.at.put_line-s-requires c).After-line_len).fits, c.loop-at.invariant.1, c.requires.2))
+put_line-s-requires c = let line_len = (goal.at.put_line-s-requires c).After-line_len in
+    (c.requires.0, omega (arith, long line_len, within line_len, (going line_len).low), omega (arith, long line_len, within line_len, (going line_len).fits, c.loop-at.invariant.1, c.requires.2))
 
 pub set_line-requires : goal.set_line-requires
-set_line-requires c = let p = c.put_line-s.ensures in
-    let v = end_top (source (goal.at.set_line-requires c).After-line_len) c.loop-at.at (len (goal.at.set_line-requires c).After-line_len) c.line_len.ensures (inside (goal.at.set_line-requires c).After-line_len) (going (goal.at.set_line-requires c).After-line_len) p (room (goal.at.set_line-requires c).After-line_len) in
-    (room (goal.at.set_line-requires c).After-line_len, omega (arith, p.order, short (goal.at.set_line-requires c).After-line_len, v), omega (arith, short (goal.at.set_line-requires c).After-line_len, v))
+set_line-requires c = let line_len = (goal.at.set_line-requires c).After-line_len in
+    let p = c.put_line-s.ensures in
+    let v = end_top (source line_len) c.loop-at.at (len line_len) c.line_len.ensures (inside line_len) (going line_len) p (room line_len) in
+    (room line_len, omega (arith, p.order, short line_len, v), omega (arith, short line_len, v))
 
 pub overflow_add-to : goal.overflow_add-to
-overflow_add-to c = omega (arith, c.put_line-s.ensures.high, long (goal.at.overflow_add-to c).After-line_len, within (goal.at.overflow_add-to c).After-line_len, (going (goal.at.overflow_add-to c).After-line_len).fits, short (goal.at.overflow_add-to c).After-line_len)
+overflow_add-to c = let line_len = (goal.at.overflow_add-to c).After-line_len in
+    omega (arith, c.put_line-s.ensures.high, long line_len, within line_len, (going line_len).fits, short line_len)
 
 pub overflow_add-at : goal.overflow_add-at
-overflow_add-at c = omega (arith, within (goal.at.overflow_add-at c).After-line_len, short (goal.at.overflow_add-at c).After-line_len)
+overflow_add-at c = let line_len = (goal.at.overflow_add-at c).After-line_len in
+    omega (arith, within line_len, short line_len)
 
 pub overflow_add-count : goal.overflow_add-count
-overflow_add-count c = omega (arith, (going (goal.at.overflow_add-count c).After-line_len).few, inside (goal.at.overflow_add-count c).After-line_len, short (goal.at.overflow_add-count c).After-line_len)
+overflow_add-count c = let line_len = (goal.at.overflow_add-count c).After-line_len in
+    omega (arith, (going line_len).few, inside line_len, short line_len)
 
 pub loop-at-smaller : goal.loop-at-smaller
 loop-at-smaller c = omega (arith, inside (goal.at.loop-at-smaller c).After-line_len)
 
 pub loop-at-preserved : goal.loop-at-preserved
-loop-at-preserved c = (refl, c.put_line-s.auto.area ∙ c.loop-at.invariant.1, c.set_line.auto.table ∙ c.loop-at.invariant.2, rw c.set_line.ensures (going_on (source (goal.at.loop-at-preserved c).After-line_len) c.loop-at.at (len (goal.at.loop-at-preserved c).After-line_len) c.line_len.ensures (inside (goal.at.loop-at-preserved c).After-line_len) (going (goal.at.loop-at-preserved c).After-line_len) c.put_line-s.ensures (room (goal.at.loop-at-preserved c).After-line_len)))
+loop-at-preserved c = let line_len = (goal.at.loop-at-preserved c).After-line_len in
+    (refl, c.put_line-s.auto.area ∙ c.loop-at.invariant.1, c.set_line.auto.table ∙ c.loop-at.invariant.2, rw c.set_line.ensures (going_on (source line_len) c.loop-at.at (len line_len) c.line_len.ensures (inside line_len) (going line_len) c.put_line-s.ensures (room line_len)))
 
 pub returns : goal.returns
 returns c = going_end (omega arith) c.loop-at.invariant.3

@@ -32,12 +32,13 @@ pub slice_bounds-last_passes-start : goal.slice_bounds-last_passes-start
 slice_bounds-last_passes-start c = omega (arith, less (goal.at.slice_bounds-last_passes-start c).After-title_len-title, c.first_passes-n4.ensures.within)
 
 pub last_passes-s-requires : goal.last_passes-s-requires
-last_passes-s-requires c = let a = c.title_len-title.result in
+last_passes-s-requires c = let title_len = (goal.at.last_passes-s-requires c).After-title_len-title in
+    let a = c.title_len-title.result in
     let s = take c.args.n c.args.buf.now in
-    let room = lent-room s (B (goal.at.last_passes-s-requires c).After-title_len-title) c.first_passes-n4.result a c.first_passes-n4.ensures c.title_len-title.ensures.0 (omega (arith, c.requires.2)) in (
+    let room = lent-room s (B title_len) c.first_passes-n4.result a c.first_passes-n4.ensures c.title_len-title.ensures.0 (omega (arith, c.requires.2)) in (
       c.requires.0,
-      rw (part-rest a (B (goal.at.last_passes-s-requires c).After-title_len-title), length-drop) (omega (arith, less (goal.at.last_passes-s-requires c).After-title_len-title, c.first_passes-n4.ensures.within)),
-      omega (arith, room, ap length (part-rest a (B (goal.at.last_passes-s-requires c).After-title_len-title)), length-drop a (B (goal.at.last_passes-s-requires c).After-title_len-title)),
+      rw (part-rest a (B title_len), length-drop) (omega (arith, less title_len, c.first_passes-n4.ensures.within)),
+      omega (arith, room, ap length (part-rest a (B title_len)), length-drop a (B title_len)),
     )
 
 pub returns : goal.returns

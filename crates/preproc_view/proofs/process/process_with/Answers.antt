@@ -16,10 +16,10 @@ pub join_lines-len-requires : goal.join_lines-len-requires
 join_lines-len-requires c = rw c.view_start-to.ensures (ready-below c.requires.0 c.requires.1, ready-room c.requires.0 c.requires.1)
 
 pub passes-s-requires : goal.passes-s-requires
-passes-s-requires c = (
+passes-s-requires c = let join_lines = (goal.at.passes-s-requires c).After-join_lines-len in (
   c.requires.0.classes,
-  rw (part-rest c.view_start-to.result (B (goal.at.passes-s-requires c).After-join_lines-len)) c.join_lines-len.ensures.there.within,
-  ready-encoded c.requires.0 c.requires.1 c.view_start-to.ensures (B (goal.at.passes-s-requires c).After-join_lines-len) c.join_lines-len.ensures (omega arith),
+  rw (part-rest c.view_start-to.result (B join_lines)) c.join_lines-len.ensures.there.within,
+  ready-encoded c.requires.0 c.requires.1 c.view_start-to.ensures (B join_lines) c.join_lines-len.ensures (omega arith),
 )
 
 pub returns : goal.returns

@@ -35,20 +35,24 @@ module _ (k : After-read_u32-count) where
 
 pub put_number-b-requires : goal.put_number-b-requires
 unfolding entry_told
-put_number-b-requires c = part-space (decimal (entry (goal.at.put_number-b-requires c).After-read_u32-count).count) (58 ∷ hexed (bytes (goal.at.put_number-b-requires c).After-read_u32-count)) refl (part-wrote (32 ∷ []) refl c.put_byte-a.ensures (begun (goal.at.put_number-b-requires c).After-read_u32-count))
+put_number-b-requires c = let read_u32 = (goal.at.put_number-b-requires c).After-read_u32-count in
+    part-space (decimal (entry read_u32).count) (58 ∷ hexed (bytes read_u32)) refl (part-wrote (32 ∷ []) refl c.put_byte-a.ensures (begun read_u32))
 
 pub put_byte-c-requires : goal.put_byte-c-requires
 unfolding entry_told
-put_byte-c-requires c = part_room refl (part-wrote (decimal (entry (goal.at.put_byte-c-requires c).After-read_u32-count).count) refl c.put_number-b.ensures (part-wrote (32 ∷ []) refl c.put_byte-a.ensures (begun (goal.at.put_byte-c-requires c).After-read_u32-count)))
+put_byte-c-requires c = let read_u32 = (goal.at.put_byte-c-requires c).After-read_u32-count in
+    part_room refl (part-wrote (decimal (entry read_u32).count) refl c.put_number-b.ensures (part-wrote (32 ∷ []) refl c.put_byte-a.ensures (begun read_u32)))
 
 pub put_hex-requires : goal.put_hex-requires
 unfolding entry_told
-put_hex-requires c = let p = part-wrote (decimal (entry (goal.at.put_hex-requires c).After-read_u32-count).count) refl c.put_number-b.ensures (part-wrote (32 ∷ []) refl c.put_byte-a.ensures (begun (goal.at.put_hex-requires c).After-read_u32-count)) in
-    part-space (hexed (bytes (goal.at.put_hex-requires c).After-read_u32-count)) [] (sym (append-nil _)) (part-wrote (58 ∷ []) refl c.put_byte-c.ensures p)
+put_hex-requires c = let read_u32 = (goal.at.put_hex-requires c).After-read_u32-count in
+    let p = part-wrote (decimal (entry read_u32).count) refl c.put_number-b.ensures (part-wrote (32 ∷ []) refl c.put_byte-a.ensures (begun read_u32)) in
+    part-space (hexed (bytes read_u32)) [] (sym (append-nil _)) (part-wrote (58 ∷ []) refl c.put_byte-c.ensures p)
 
 pub returns : goal.returns
 unfolding entry_told
-returns c = let p = part-wrote (decimal (entry (goal.at.returns c).After-read_u32-count).count) refl c.put_number-b.ensures (part-wrote (32 ∷ []) refl c.put_byte-a.ensures (begun (goal.at.returns c).After-read_u32-count)) in
+returns c = let read_u32 = (goal.at.returns c).After-read_u32-count in
+    let p = part-wrote (decimal (entry read_u32).count) refl c.put_number-b.ensures (part-wrote (32 ∷ []) refl c.put_byte-a.ensures (begun read_u32)) in
     let q = part-wrote (58 ∷ []) refl c.put_byte-c.ensures p in
-    let w = part_end refl (part-wrote (hexed (bytes (goal.at.returns c).After-read_u32-count)) (sym (append-nil _)) c.put_hex.ensures q) in
-    let e = wrote-end c.args.to (entry_told (entry (goal.at.returns c).After-read_u32-count)) (omega arith) w in record { told = rw (← c.read_u32-count.ensures, ← part_slice (c.args.at + 8) (c.args.at + 8 + c.args.len) c.args.body.now) w; short = omega (arith, e, told-length (goal.at.returns c).After-read_u32-count) }
+    let w = part_end refl (part-wrote (hexed (bytes read_u32)) (sym (append-nil _)) c.put_hex.ensures q) in
+    let e = wrote-end c.args.to (entry_told (entry read_u32)) (omega arith) w in record { told = rw (← c.read_u32-count.ensures, ← part_slice (c.args.at + 8) (c.args.at + 8 + c.args.len) c.args.body.now) w; short = omega (arith, e, told-length read_u32) }
