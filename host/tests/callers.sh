@@ -18,7 +18,15 @@ callers() {
 callers ngram_meet scoring 'license_charge'
 callers license_charge charge 'detect'
 callers license_charge charge_exact 'license_bounds replay_scores score_work'
-callers license_charge scorings_of 'bounds_work replay_scores scan_job score_work'
+# the type's name is known where it is handed on; who makes one writes Scorings::of, and nobody gives the type another name
+made=$(grep -rlE 'Scorings::of\(' crates --include='*.rt' --exclude-dir=out | sed 's|crates/\([^/]*\)/.*|\1|' | sort -u | tr '\n' ' ')
+renamed=$(grep -rlE 'Scorings as |[^a-z_]of as |= *Scorings;' crates --include='*.rt' --exclude-dir=out | tr '\n' ' ')
+if [ "$made" = 'bounds_work replay_scores scan_job score_work ' ] && [ -z "$renamed" ]; then
+    passed=$((passed + 1))
+else
+    echo "Scorings::of is called from: ${made:-nowhere }; it may be called from: bounds_work replay_scores scan_job score_work; other names: ${renamed:-none}"
+    failed=$((failed + 1))
+fi
 # and none takes them in under another name
 for crate in ngram_meet license_charge; do
     if grep -rlzE "use $crate( as |::\*|;|::\{([^}]*[^a-z_])?(self[^a-z_]|\*))" crates --include='*.rt' --exclude-dir=out; then

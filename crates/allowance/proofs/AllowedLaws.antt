@@ -19,13 +19,14 @@ use mathlib.Core.List.{List, [], ◌∷◌}
 use lib.ListN.{length}
 use lib.Dec.{ltb, eqb}
 use borrow.Author.Tests.{lt-ltb, le-ltb, eqb-true, eqb-false, ltb-true, ltb-false, ne_eqb}
+use Rattle.rules.specs.declared.Areas.{Areas}
 use Rattle.rules.specs.declared.Limits.{Limits}
 use Rattle.rules.specs.declared.Mode.{Mode}
 use Rattle.rules.specs.declared.Scanned.{Scanned}
 use Rattle.rules.specs.Lines.{lines}
 use Rattle.rules.specs.Book.{shelved, edition_of, name_parts}
 use Rattle.rules.specs.Scan.{events, scorings}
-use Rattle.rules.specs.Refusal.{row, refusal, Areas, before_scan, over_budget, of_scan}
+use Rattle.rules.specs.Refusal.{row, refusal, before_scan, over_budget, of_scan}
 use Rattle.rules.specs.Jobs.{lent, area_after, answered, scan, results_after, ScanDone}
 use Rattle.rules.proofs.RefusalLaws.{not_early, early, refusal-first, refusal_then, refusal-early, scan-numbered, scan-before, scan_then, scan-count, scan_only, scan-none}
 use Rattle.allowance.specs.declared.Allowance.{Allowance}

@@ -1,11 +1,12 @@
 -- A scan that is charged to an allowance: the plain-budget scan with what is left of it, unless more is used than its cap.
 -- Assumes nothing.
 use Rattle.std.specs.Prelude.{◌≡◌, ℕ, ◌+◌, ◌-◌, false, cond, List, [], ◌∷◌, ◌++◌, ltb, eqb, length}
+use Rattle.rules.specs.declared.Areas.{Areas}
 use Rattle.rules.specs.declared.Limits.{Limits}
 use Rattle.rules.specs.declared.Mode.{Mode}
 use Rattle.rules.specs.declared.Scanned.{Scanned}
 use Rattle.rules.specs.Book.{name_parts}
-use Rattle.rules.specs.Refusal.{Row, row, refusal, Areas, before_scan, over_budget}
+use Rattle.rules.specs.Refusal.{Row, row, refusal, before_scan, over_budget}
 use Rattle.rules.specs.Jobs.{lent, area_after, answered, scan, results_after}
 use Rattle.allowance.specs.declared.Allowance.{Allowance}
 

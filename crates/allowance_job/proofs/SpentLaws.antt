@@ -27,12 +27,11 @@ use Rattle.allowance.specs.Allowed.{with_used, charged, AllowedDone}
 use Rattle.allowance.proofs.AllowedLaws.{refused, unless_overdrawn, overdrawn_answer, allowed_as_plain, allowed-count}
 use Rattle.allowance.proofs.ScoringLaws.{scan_scores}
 
--- what is used is handed out beside the answer
-pub spent_done : {t : List ℕ} {bs read : List (List ℕ)} {lim : Limits} {mode : Mode} {x : Allowance} {b₀ b w₀ w r₀ r : List ℕ} {a : Scanned} →
-    read ≡ bs → AllowedDone t read lim mode x (charged x a) b₀ b w₀ w r₀ r a → AllowedDone t bs lim mode x (with_used x (x.used + a.count)) b₀ b w₀ w r₀ r a
+-- what is used is handed out beside the answer, by the answer's count
+pub spent_done : {t : List ℕ} {bs : List (List ℕ)} {lim : Limits} {mode : Mode} {x : Allowance} {b₀ b w₀ w r₀ r : List ℕ} {a : Scanned} {n : ℕ} →
+    n ≡ a.count → AllowedDone t bs lim mode x (charged x a) b₀ b w₀ w r₀ r a → AllowedDone t bs lim mode x (with_used x (x.used + n)) b₀ b w₀ w r₀ r a
 unfolding charged
-spent_done {t} {bs} {read} {lim} {mode} {x} {b₀} {b} {w₀} {w} {r₀} {r} {a} e d =
-    subst (λ (books : List (List ℕ)). AllowedDone t books lim mode x (charged x a) b₀ b w₀ w r₀ r a) e d
+spent_done {t} {bs} {lim} {mode} {x} {b₀} {b} {w₀} {w} {r₀} {r} {a} e d = rw e d
 
 -- ---- the name's part is as long as the name, as of every scan
 pub allowed-length : {t first second : List ℕ} {bs : List (List ℕ)} {lim : Limits} {mode : Mode} {x₀ x : Allowance} {b₀ b w₀ w r₀ r : List ℕ} {a : Scanned} →

@@ -2,18 +2,20 @@
 // Assumes nothing.
 #![tactic(auto)]
 
-ghost use Rattle.detection_shelf.specs.Shelves.{shelf, books_of, Lends};
+ghost use Rattle.std.specs.Prelude.{◌≡◌, option_copied};
+ghost use Rattle.rules.specs.Told.{scanned_told};
+ghost use Rattle.refusals.specs.Lent.{books_lent};
 ghost use Rattle.allowance.specs.Allowed.{charged, AllowedDone};
 
 use allowance::Allowance;
-use allowance_overdrawn::{lent_second, overdrawn};
-use rules::{Limits, Mode, Scanned};
+use allowance_overdrawn::overdrawn;
+use rules::{Areas, Findings, Limits, Mode, Refusal};
 use scan_job::scan_lent;
 
-// What a scan answers, and what is used of the allowance after it.
+// What a scan finds, and what is used of the allowance after it.
 #[derive(Clone, Copy)]
 pub struct Spent {
-    pub answer: Scanned,
+    pub answer: Result<Findings, Refusal>,
     pub used: u64,
 }
 
@@ -21,8 +23,7 @@ pub struct Spent {
 fn scan_left<'a>(
     text: &[u8],
     book: &'a [u8],
-    second: &'a [u8],
-    two: bool,
+    second: Option<&'a [u8]>,
     limits: Limits,
     mode: Mode,
     cap: u64,
@@ -30,28 +31,20 @@ fn scan_left<'a>(
     area: &mut [u8],
     words: &mut [u32],
     results: &mut [u32],
-) -> Scanned
-    requires { Lends (shelf book.now second.now) two }
-    ensures { AllowedDone text.now (books_of (shelf book.now second.now) two) limits mode (record { cap = cap; used = used }) (charged (record { cap = cap; used = used }) result) area.old area.new words.old words.new results.old results.new result }
+) -> Result<Findings, Refusal>
+    ensures { AllowedDone text.now (books_lent book.now (option_copied second.entry)) limits mode (record { cap = cap; used = used }) (charged (record { cap = cap; used = used }) (scanned_told result)) area.old area.new words.old words.new results.old results.new (scanned_told result) }
 {
     if cap < used {
-        return overdrawn(
-            text,
-            book,
-            second,
-            two,
-            limits,
-            mode,
-            area.len(),
-            words.len(),
-            results.len(),
-        );
+        let areas = Areas {
+            bytes: area.len(),
+            words: words.len(),
+        };
+        return Err(overdrawn(text, book, second, limits, mode, areas, results.len()));
     }
     scan_lent(
         text,
         book,
         second,
-        two,
         limits,
         mode,
         cap - used,
@@ -61,12 +54,21 @@ fn scan_left<'a>(
     )
 }
 
-// Over plain numbers: cap and used at entry, and the answer with what is used after it. `two`: the second book is lent.
+// The scorings that an answer has made: none where it is refused.
+fn count_of(answer: Result<Findings, Refusal>) -> u64
+    ensures { result ≡ (scanned_told answer).count }
+{
+    match answer {
+        Ok(found) => found.count,
+        Err(_) => 0,
+    }
+}
+
+// Over plain numbers: cap and used at entry, and what is found with what is used after it.
 pub fn scan_within<'a>(
     text: &[u8],
     book: &'a [u8],
-    second: &'a [u8],
-    two: bool,
+    second: Option<&'a [u8]>,
     limits: Limits,
     mode: Mode,
     cap: u64,
@@ -75,15 +77,14 @@ pub fn scan_within<'a>(
     words: &mut [u32],
     results: &mut [u32],
 ) -> Spent
-    ensures { AllowedDone text.now (books_of (shelf book.now second.now) two) limits mode (record { cap = cap; used = used }) (record { cap = cap; used = result.used }) area.old area.new words.old words.new results.old results.new result.answer }
+    ensures { AllowedDone text.now (books_lent book.now (option_copied second.entry)) limits mode (record { cap = cap; used = used }) (record { cap = cap; used = result.used }) area.old area.new words.old words.new results.old results.new (scanned_told result.answer) }
 {
-    let beside = lent_second(second, two);
     let answer = scan_left(
-        text, book, beside, two, limits, mode, cap, used, area, words, results,
+        text, book, second, limits, mode, cap, used, area, words, results,
     );
     Spent {
         answer,
-        used: used + answer.count,
+        used: used + count_of(answer),
     }
 }
 
@@ -91,22 +92,20 @@ pub fn scan_within<'a>(
 pub fn scan_allowed<'a>(
     text: &[u8],
     book: &'a [u8],
-    second: &'a [u8],
-    two: bool,
+    second: Option<&'a [u8]>,
     limits: Limits,
     mode: Mode,
     allowance: &mut Allowance,
     area: &mut [u8],
     words: &mut [u32],
     results: &mut [u32],
-) -> Scanned
-    ensures { AllowedDone text.now (books_of (shelf book.now second.now) two) limits mode allowance.old allowance.new area.old area.new words.old words.new results.old results.new result }
+) -> Result<Findings, Refusal>
+    ensures { AllowedDone text.now (books_lent book.now (option_copied second.entry)) limits mode allowance.old allowance.new area.old area.new words.old words.new results.old results.new (scanned_told result) }
 {
     let spent = scan_within(
         text,
         book,
         second,
-        two,
         limits,
         mode,
         allowance.cap,

@@ -1,5 +1,12 @@
--- The answers as C has them, read as the jobs'; a scan's part is as long as the name.
+-- The answers as C has them, read as the jobs'; a scan's part is as long as the name. And the jobs' answers by what they find.
 -- Assumes nothing.
+use Rattle.std.specs.Prelude.{ℕ, false, None, replicate}
+use Rattle.rules.specs.Sizes.{name_most}
+use Rattle.rules.specs.Table.{no_value}
+use Rattle.rules.specs.Jobs.{bounded_as}
+use Rattle.rules.specs.Told.{licence_kind, licence_part}
+use Rattle.rules.specs.declared.Located.{Located}
+use Rattle.rules.specs.declared.Findings.{Findings}
 use Rattle.rules.specs.declared.Checked.{Checked}
 use Rattle.rules.specs.declared.Compiled.{Compiled}
 use Rattle.rules.specs.declared.Scored.{Scored}
@@ -41,3 +48,25 @@ scanned_of r = record {
 
 abbrev pub named_of : TextNamed → NamedText
 named_of r = record { refusal = r.refusal; kind = r.kind; part = record { second = r.second; at = r.at; len = r.len } }
+
+-- a job's answer under the number of a refusal, 0 for none
+abbrev pub located_as : ℕ → Located → Bounded
+located_as n x = bounded_as n (record { first = x.first; after = x.after; value = x.value }) x.count
+
+abbrev pub scanned_as : ℕ → Findings → Scanned
+scanned_as n x = record {
+  refusal = n;
+  name = x.name;
+  len = (licence_part x.licence).len;
+  kind = licence_kind x.licence;
+  score = x.value.score;
+  m = x.value.m;
+  t = x.value.t;
+  count = x.count;
+  records = x.records;
+  part = licence_part x.licence;
+}
+
+-- where nothing is found
+abbrev pub nothing : Findings
+nothing = record { licence = None; name = replicate name_most 0; value = no_value; count = 0; records = 0; over_budget = false }

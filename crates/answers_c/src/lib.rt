@@ -4,10 +4,32 @@
 
 ghost use Rattle.std.specs.Prelude.{◌≡◌, cond, ◌≤◌};
 ghost use Rattle.rules.specs.Sizes.{name_most};
+ghost use Rattle.rules.specs.Jobs.{scored_as};
+ghost use Rattle.rules.specs.Told.{licence_kind, licence_part, checked_told, compiled_told, scored_told, bounded_told, scanned_told, named_told};
 ghost use Rattle.rules.specs.declared.Mode.TheVariants.{Elimination, TopDown};
-ghost use Rattle.answers_c.specs.Answers.{checked_of, compiled_of, scored_of, bounded_of, scanned_of, named_of};
+ghost use Rattle.answers_c.specs.Answers.{checked_of, compiled_of, scored_of, bounded_of, scanned_of, named_of, located_as, scanned_as, nothing};
 
-use rules::{Bounded, Checked, Compiled, Mode, NAME_MOST, NamedText, Scanned, Scored};
+use rules::{Findings, Licence, Located, Mode, NAME_MOST, Named, Refusal, Value};
+
+// What a refusal's answer has beside its number: a score of 0.0 and nothing shared of nothing, no lines, and no name, the empty part at the first book's start.
+const NO_VALUE: Value = Value {
+    score: 0.0,
+    m: 0,
+    t: 0,
+};
+
+const NO_LINES: Located = Located {
+    first: 0,
+    after: 0,
+    value: NO_VALUE,
+    count: 0,
+};
+
+const NO_PART: Named = Named {
+    second: false,
+    at: 0,
+    len: 0,
+};
 
 // The number of the refusal, 0 for none; and N.
 #[repr(C)]
@@ -17,12 +39,17 @@ pub struct BookChecked {
     pub texts: u32,
 }
 
-pub fn checked_for_c(checked: Checked) -> BookChecked
-    ensures { checked ≡ checked_of result }
-{
-    BookChecked {
-        refusal: checked.refusal,
-        texts: checked.texts,
+impl From<Result<u32, Refusal>> for BookChecked {
+    ghost from_gives = { λ r c. checked_of c ≡ checked_told r };
+
+    fn from(checked: Result<u32, Refusal>) -> BookChecked {
+        match checked {
+            Ok(texts) => BookChecked { refusal: 0, texts },
+            Err(refused) => BookChecked {
+                refusal: u32::from(refused),
+                texts: 0,
+            },
+        }
     }
 }
 
@@ -34,12 +61,17 @@ pub struct TextCompiled {
     pub len: usize,
 }
 
-pub fn compiled_for_c(compiled: Compiled) -> TextCompiled
-    ensures { compiled ≡ compiled_of result }
-{
-    TextCompiled {
-        refusal: compiled.refusal,
-        len: compiled.len,
+impl From<Result<usize, Refusal>> for TextCompiled {
+    ghost from_gives = { λ r c. compiled_of c ≡ compiled_told r };
+
+    fn from(compiled: Result<usize, Refusal>) -> TextCompiled {
+        match compiled {
+            Ok(len) => TextCompiled { refusal: 0, len },
+            Err(refused) => TextCompiled {
+                refusal: u32::from(refused),
+                len: 0,
+            },
+        }
     }
 }
 
@@ -53,14 +85,27 @@ pub struct ViewScored {
     pub t: u32,
 }
 
-pub fn scored_for_c(scored: Scored) -> ViewScored
-    ensures { scored ≡ scored_of result }
-{
-    ViewScored {
-        refusal: scored.refusal,
-        score: scored.score,
-        m: scored.m,
-        t: scored.t,
+impl ViewScored {
+    fn of(refusal: u32, value: Value) -> ViewScored
+        ensures { scored_of result ≡ scored_as refusal value }
+    {
+        ViewScored {
+            refusal,
+            score: value.score,
+            m: value.m,
+            t: value.t,
+        }
+    }
+}
+
+impl From<Result<Value, Refusal>> for ViewScored {
+    ghost from_gives = { λ r c. scored_of c ≡ scored_told r };
+
+    fn from(scored: Result<Value, Refusal>) -> ViewScored {
+        match scored {
+            Ok(value) => ViewScored::of(0, value),
+            Err(refused) => ViewScored::of(u32::from(refused), NO_VALUE),
+        }
     }
 }
 
@@ -77,17 +122,30 @@ pub struct BoundsFound {
     pub count: u64,
 }
 
-pub fn bounded_for_c(bounded: Bounded) -> BoundsFound
-    ensures { bounded ≡ bounded_of result }
-{
-    BoundsFound {
-        refusal: bounded.refusal,
-        first: bounded.first,
-        after: bounded.after,
-        score: bounded.score,
-        m: bounded.m,
-        t: bounded.t,
-        count: bounded.count,
+impl BoundsFound {
+    fn of(refusal: u32, located: Located) -> BoundsFound
+        ensures { bounded_of result ≡ located_as refusal located }
+    {
+        BoundsFound {
+            refusal,
+            first: located.first,
+            after: located.after,
+            score: located.value.score,
+            m: located.value.m,
+            t: located.value.t,
+            count: located.count,
+        }
+    }
+}
+
+impl From<Result<Located, Refusal>> for BoundsFound {
+    ghost from_gives = { λ r c. bounded_of c ≡ bounded_told r };
+
+    fn from(bounded: Result<Located, Refusal>) -> BoundsFound {
+        match bounded {
+            Ok(located) => BoundsFound::of(0, located),
+            Err(refused) => BoundsFound::of(u32::from(refused), NO_LINES),
+        }
     }
 }
 
@@ -109,25 +167,63 @@ pub struct NoteScanned {
     pub at: usize,
 }
 
-// The part is as long as the name, so one length says both.
-pub fn scanned_for_c(s: Scanned) -> NoteScanned
-    requires { s.part.len ≡ s.len }
-    ensures { s ≡ scanned_of result }
+fn nothing_found() -> Findings
+    ensures { result ≡ nothing }
 {
-    let name = s.name;
-    let part = s.part;
-    NoteScanned {
-        refusal: s.refusal,
-        records: s.records,
-        count: s.count,
-        score: s.score,
-        m: s.m,
-        t: s.t,
-        kind: s.kind,
-        len: s.len,
-        name,
-        second: part.second,
-        at: part.at,
+    Findings {
+        licence: None,
+        name: [0; NAME_MOST],
+        value: NO_VALUE,
+        count: 0,
+        records: 0,
+        over_budget: false,
+    }
+}
+
+// The kind of the licence that is named, and where its name stands: of none, 0 and no part.
+fn kind_and_part(licence: Option<Licence>) -> (u32, Named)
+    ensures kind { result.0 ≡ licence_kind licence }
+    ensures part { result.1 ≡ licence_part licence }
+    ensures short { result.1.len ≤ name_most }
+{
+    match licence {
+        Some(named) => (u32::from(named.kind), named.part),
+        None => (0, NO_PART),
+    }
+}
+
+impl NoteScanned {
+    // The part is as long as the name, so one length says both.
+    fn of(refusal: u32, found: Findings) -> NoteScanned
+        ensures { scanned_of result ≡ scanned_as refusal found }
+    {
+        let (kind, part) = kind_and_part(found.licence);
+        let name = found.name;
+        NoteScanned {
+            refusal,
+            records: found.records,
+            count: found.count,
+            score: found.value.score,
+            m: found.value.m,
+            t: found.value.t,
+            kind,
+            len: part.len as u32,
+            name,
+            second: part.second,
+            at: part.at,
+        }
+    }
+}
+
+impl From<Result<Findings, Refusal>> for NoteScanned {
+    ghost from_gives = { λ r c. scanned_of c ≡ scanned_told r };
+
+    fn from(scanned: Result<Findings, Refusal>) -> NoteScanned {
+        match scanned {
+            Ok(found) if found.over_budget => NoteScanned::of(u32::from(Refusal::Budget), found),
+            Ok(found) => NoteScanned::of(0, found),
+            Err(refused) => NoteScanned::of(u32::from(refused), nothing_found()),
+        }
     }
 }
 
@@ -143,17 +239,26 @@ pub struct TextNamed {
 }
 
 // A name has at most 64 bytes, so its length needs no more than a scan's does.
-pub fn named_for_c(named: NamedText) -> TextNamed
-    requires { named.part.len ≤ name_most }
-    ensures { named ≡ named_of result }
-{
-    let place = named.part;
-    TextNamed {
-        refusal: named.refusal,
-        kind: named.kind,
-        len: place.len as u32,
-        second: place.second,
-        at: place.at,
+impl From<Result<Licence, Refusal>> for TextNamed {
+    ghost from_gives = { λ r c. named_of c ≡ named_told r };
+
+    fn from(named: Result<Licence, Refusal>) -> TextNamed {
+        match named {
+            Ok(licence) => TextNamed {
+                refusal: 0,
+                kind: u32::from(licence.kind),
+                len: licence.part.len as u32,
+                second: licence.part.second,
+                at: licence.part.at,
+            },
+            Err(refused) => TextNamed {
+                refusal: u32::from(refused),
+                kind: 0,
+                len: 0,
+                second: false,
+                at: 0,
+            },
+        }
     }
 }
 

@@ -8,7 +8,7 @@ ghost use Rattle.rules.specs.Sizes.{record_width};
 
 use detection_check::check_book;
 use detection_texts::texts::stored_at;
-use rules::{Limits, Mode, RECORD_WIDTH, Scanned};
+use rules::{Findings, Kind, Licence, Limits, Mode, RECORD_WIDTH, Refusal};
 use scan_job::scan;
 use telling::{print, print_bits, print_count, print_number, score_bits};
 
@@ -28,9 +28,9 @@ fn word_area() -> [u32; 12352] {
     [0; 12352]
 }
 
-fn tell_refusal(refusal: u32) {
+fn tell_refusal(refusal: Refusal) {
     print(b"refusal ");
-    print_number(refusal);
+    print_number(u32::from(refusal));
     print(b"\x0a");
 }
 
@@ -41,51 +41,43 @@ fn end_with_score(bits: u32) {
     print(b"\x0a");
 }
 
-fn tell_kind(kind: u32) {
-    if kind == 2 {
-        print(b" original");
-        return;
+fn tell_kind(kind: Kind) {
+    match kind {
+        Kind::Original => print(b" original"),
+        Kind::Alternate => print(b" alternate"),
+        Kind::Header => print(b" header"),
     }
-    if kind == 3 {
-        print(b" alternate");
-        return;
-    }
-    print(b" header");
 }
 
-// The licence that is named, or `none`. A name has 64 bytes at most, so the test of its length never fails.
-fn tell_licence(name: [u8; 64], len: u32, kind: u32) {
-    if kind == 0 {
+// The licence that is named, or `none`.
+fn tell_licence(name: [u8; 64], licence: Option<Licence>) {
+    let Some(licence) = licence else {
         print(b"none");
         return;
-    }
-    if len <= 64 {
-        print(&name[..len as usize]);
-    }
-    tell_kind(kind);
+    };
+    print(&name[..licence.part.len]);
+    tell_kind(licence.kind);
 }
 
-fn tell_overall(answer: Scanned) {
+fn tell_overall(found: Findings) {
     print(b"overall ");
-    let name = answer.name;
-    tell_licence(name, answer.len, answer.kind);
-    end_with_score(score_bits(answer.score));
+    tell_licence(found.name, found.licence);
+    end_with_score(score_bits(found.value.score));
 }
 
 // The name and kind of a stored text. A record's number is below N, so no test here fails.
 fn tell_text(book: &[u8], number: u32) {
-    let checked = check_book(book);
-    if checked.refusal != 0 {
+    let Ok(texts) = check_book(book) else {
         return;
-    }
-    if checked.texts <= number {
+    };
+    if texts <= number {
         return;
     }
     let text = stored_at(book, number);
     let a = text.name;
     let e = text.past;
     print(&book[a..e]);
-    tell_kind(text.kind as u32);
+    tell_kind(text.kind);
 }
 
 // One record: its lines, its text and its score, as the three lines have them.
@@ -105,14 +97,8 @@ fn tell_range(book: &[u8], numbers: &[u32])
 fn tell_ranges(book: &[u8], results: &[u32], records: u32)
     requires { 10 * record_width ≤ length results.now }
 {
-    let mut i: usize = 0;
-    while i < 10 {
-        if records as usize <= i {
-            return;
-        }
-        let at = RECORD_WIDTH * i;
-        tell_range(book, &results[at..]);
-        i += 1;
+    for i in 0..10.min(records as usize) {
+        tell_range(book, &results[RECORD_WIDTH * i..]);
     }
 }
 
@@ -133,7 +119,7 @@ fn tell_scan(note: &[u8], book: &[u8]) {
     };
     let mode = Mode::Elimination(true, 10);
     let budget = 18446744073709551615;
-    let answer = scan(
+    let scanned = scan(
         note,
         book,
         limits,
@@ -143,13 +129,15 @@ fn tell_scan(note: &[u8], book: &[u8]) {
         &mut words,
         &mut results,
     );
-    if answer.refusal != 0 {
-        tell_refusal(answer.refusal);
-        return;
+    match scanned {
+        Ok(found) if found.over_budget => tell_refusal(Refusal::Budget),
+        Ok(found) => {
+            tell_overall(found);
+            tell_ranges(book, &results, found.records);
+            tell_count(found.count);
+        }
+        Err(refusal) => tell_refusal(refusal),
     }
-    tell_overall(answer);
-    tell_ranges(book, &results, answer.records);
-    tell_count(answer.count);
 }
 
 // A note of more than 1,024 bytes is too long for this program: refusal 1, as the rules number a text that is too long.
@@ -157,7 +145,7 @@ fn main() {
     let mut note = note_area();
     let n = io::read_full(STDIN, &mut note);
     if 1024 < n {
-        tell_refusal(1);
+        tell_refusal(Refusal::TextLong);
         return;
     }
     tell_scan(

@@ -1,19 +1,16 @@
--- The answer of the job `bounds`, case by case of what the search found; and what fits its numbers.
+-- What the job `bounds` finds, of what the search found; and what fits its numbers.
 -- Assumes nothing.
-use Rattle.std.specs.Prelude.{ℕ, ◌-◌, ◌≤◌}
-use Rattle.rules.specs.declared.Bounded.{Bounded}
+use Rattle.std.specs.Prelude.{ℕ, ◌-◌, ◌≤◌, Option, None, Some}
+use Rattle.rules.specs.declared.Located.{Located}
+use Rattle.rules.specs.declared.Bounds.{Bounds}
 use Rattle.rules.specs.Sizes.{lines_most}
-use Rattle.rules.specs.Jobs.{bounded_as, no_bounds}
-use Rattle.license_bounds.specs.declared.Ranged.{Ranged}
-use Rattle.license_bounds.specs.declared.Ranged.TheVariants.{Out, Found}
+use Rattle.license_charge.specs.declared.Charged.{Charged}
 
-abbrev pub refused_by : ℕ → Bounded
-refused_by n = bounded_as n no_bounds 0
+-- none where the budget was out
+unfoldable pub answer_for : Option (Charged Bounds) → ℕ → Option Located
+answer_for None budget = None
+answer_for (Some x) budget = Some (record { first = x.value.first; after = x.value.after; value = x.value.value; count = budget - x.left.count })
 
-unfoldable pub answer_for : Ranged → ℕ → Bounded
-answer_for Out budget = refused_by 0
-answer_for (Found b left) budget = bounded_as 0 b (budget - left.count)
-
-unfoldable pub FitsAnswer : Ranged → ℕ → Type 0
-FitsAnswer Out budget = Unit {0}
-FitsAnswer (Found b left) budget = (b.first ≤ lines_most) × (b.after ≤ lines_most) × (left.count ≤ budget)
+unfoldable pub FitsAnswer : Option (Charged Bounds) → ℕ → Type 0
+FitsAnswer None budget = Unit {0}
+FitsAnswer (Some x) budget = (x.value.first ≤ lines_most) × (x.value.after ≤ lines_most) × (x.left.count ≤ budget)

@@ -3,39 +3,37 @@
 // SPDX-License-Identifier: Apache-2.0), changed: refusals around the work. Assumes nothing.
 #![tactic(auto)]
 
-ghost use Rattle.detection_shelf.specs.Shelves.{shelf, books_of, Lends};
-ghost use Rattle.std.specs.Prelude.{[], ◌∷◌};
+ghost use Rattle.std.specs.Prelude.{[], ◌∷◌, option_copied};
 ghost use Rattle.rules.specs.Jobs.{BoundsDone};
+ghost use Rattle.rules.specs.Told.{bounded_told};
+ghost use Rattle.refusals.specs.Lent.{books_lent};
 
-use bounds_answer::refused;
 use bounds_work::bounds_laid;
 use license_notes::clear;
-use refusals::admit_view;
-use rules::{Bounded, View};
+use refusals::{admit_view, second_bytes};
+use rules::{Areas, Located, Refusal, View};
 
-// Over lent books, two or one: refusals 1 to 5 and 8 to 10, or the bounds. The areas are zero after an answer, and as they were after a refusal.
+// Over lent books, one or two: refusals 1 to 5, 8 to 10 and 15, or the bounds. The areas are zero after an answer, and as they were after a refusal.
 fn bounds_lent<'a>(
     text: &[u8],
     book: &'a [u8],
-    second: &'a [u8],
-    two: bool,
+    second: Option<&'a [u8]>,
     v: View,
     k: u32,
     area: &mut [u8],
     words: &mut [u32],
-) -> Bounded
-    requires { Lends (shelf book.now second.now) two }
-    ensures { BoundsDone text.now (books_of (shelf book.now second.now) two) v k area.old area.new words.old words.new result }
+) -> Result<Located, Refusal>
+    ensures { BoundsDone text.now (books_lent book.now (option_copied second.entry)) v k area.old area.new words.old words.new (bounded_told result) }
 {
-    let admitted = admit_view(text, book, second, two, v, k, area.len(), words.len());
-    let refusal = admitted.refusal;
-    if refusal != 0 {
-        return refused(refusal);
-    }
-    let counts = admitted.texts;
-    let bounded = bounds_laid(text, book, second, counts, v, k, area, words);
+    let areas = Areas {
+        bytes: area.len(),
+        words: words.len(),
+    };
+    let admitted = admit_view(text, book, second, v, k, areas)?;
+    let beside = second_bytes(second);
+    let located = bounds_laid(text, book, beside, admitted.texts, v, k, area, words);
     clear(area, words);
-    bounded
+    Ok(located)
 }
 
 // Two books, whose texts count on from the first into the second.
@@ -47,10 +45,10 @@ pub fn bounds_both<'a>(
     k: u32,
     area: &mut [u8],
     words: &mut [u32],
-) -> Bounded
-    ensures { BoundsDone text.now (book.now ∷ second.now ∷ []) v k area.old area.new words.old words.new result }
+) -> Result<Located, Refusal>
+    ensures { BoundsDone text.now (book.now ∷ second.now ∷ []) v k area.old area.new words.old words.new (bounded_told result) }
 {
-    bounds_lent(text, book, second, true, v, k, area, words)
+    bounds_lent(text, book, Some(second), v, k, area, words)
 }
 
 // One book, refused by its own rows; below them nothing stands beside it.
@@ -61,8 +59,8 @@ pub fn bounds_of(
     k: u32,
     area: &mut [u8],
     words: &mut [u32],
-) -> Bounded
-    ensures { BoundsDone text.now (book.now ∷ []) v k area.old area.new words.old words.new result }
+) -> Result<Located, Refusal>
+    ensures { BoundsDone text.now (book.now ∷ []) v k area.old area.new words.old words.new (bounded_told result) }
 {
-    bounds_lent(text, book, &book[..0], false, v, k, area, words)
+    bounds_lent(text, book, None, v, k, area, words)
 }

@@ -3,10 +3,11 @@
 // SPDX-License-Identifier: Apache-2.0), changed: `optimize_bounds`. Assumes what holds of all that is let through (`ViewThrough`).
 #![tactic(auto)]
 
-ghost use Rattle.std.specs.Prelude.{◌≡◌};
+ghost use Rattle.std.specs.Prelude.{◌≡◌, Ok};
 ghost use Rattle.rules.specs.Lines.{lines};
 ghost use Rattle.rules.specs.Book.{edition};
 ghost use Rattle.rules.specs.Jobs.{lent, bounds_found};
+ghost use Rattle.rules.specs.Told.{bounded_told};
 ghost use Rattle.detection_shelf.specs.Shelves.{shelf, texts, CountsOf};
 ghost use Rattle.refusals.specs.Admits.{ViewThrough};
 
@@ -14,9 +15,9 @@ use bounds_answer::answer;
 use detection_edition::edition_of;
 use detection_shelf::{Counts, body_of, stored_on};
 use license_bounds::find_bounds;
-use license_charge::scorings_of;
+use license_charge::Scorings;
 use license_notes::lay;
-use rules::{Bounded, View};
+use rules::{Located, View};
 use slices::class::class_table;
 
 // What pays every search of a note that is let through: 24 rounds take 65,536 lines down to four, a round takes two scorings and the end at most four, so
@@ -33,10 +34,10 @@ pub fn bounds_laid<'a>(
     k: u32,
     area: &mut [u8],
     words: &mut [u32],
-) -> Bounded
+) -> Located
     requires view_through { ViewThrough text.now (shelf book.now second.now) v k (lent area.old words.old) }
     requires counts_of { CountsOf (shelf book.now second.now) counts }
-    ensures { result ≡ bounds_found (lines (edition book.now) text.now) (texts (shelf book.now second.now)) v k }
+    ensures { bounded_told (Ok result) ≡ bounds_found (lines (edition book.now) text.now) (texts (shelf book.now second.now)) v k }
 {
     let class = class_table(edition_of(book));
     let n = text.len();
@@ -51,7 +52,9 @@ pub fn bounds_laid<'a>(
         lines,
         v,
         body,
-        scorings_of(BOUNDS_MOST),
+        Scorings::of(BOUNDS_MOST),
     );
-    answer(ranged, BOUNDS_MOST)
+    let located = answer(ranged, BOUNDS_MOST);
+    // The budget pays: `bounds-most`.
+    located.unwrap()
 }

@@ -6,6 +6,7 @@
 // (proofs/Expected.antt, `lines_hold`, one equation by `refl`). Assumes nothing but the C library's write.
 #![tactic(auto)]
 
+use answers_c::NoteScanned;
 use rules::{Limits, Mode, RECORD_WIDTH};
 use scan_job::scan;
 use telling::{print, print_count, print_number, print_records};
@@ -28,7 +29,7 @@ fn tell(text: &[u8], limits: Limits, mode: Mode, budget: u64) {
     let mut area = byte_area();
     let mut words = word_area();
     let mut results = results_area();
-    let answer = scan(
+    let answer = NoteScanned::from(scan(
         text,
         b"\x01\x00\x00\x00\x01\x00A-\x00\x00\x00\x02\x00\x02\x00\x00\x00\x02\x00\x00\x00\x01\x00\x00\x00\x0d\x00\x00\x00first license\x01\x00\x00\x00\x08\x00\x00\x00my first",
         limits,
@@ -37,7 +38,7 @@ fn tell(text: &[u8], limits: Limits, mode: Mode, budget: u64) {
         &mut area,
         &mut words,
         &mut results,
-    );
+    ));
     print_number(answer.refusal);
     print(b" ");
     print_count(answer.count);

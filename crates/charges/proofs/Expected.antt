@@ -7,13 +7,13 @@ use mathlib.Core.List.{List, [], ◌∷◌, ◌++◌}
 use Prim.Native.Nat.{ℕ, zero, suc, ◌*◌}
 use lib.Ieee.{of_bits, binary32}
 use lib.ListN.{drop, get_or, replicate}
+use Rattle.rules.specs.declared.Areas.{Areas}
 use Rattle.rules.specs.declared.Limits.{Limits}
 use Rattle.rules.specs.declared.Mode.TheVariants.{Elimination}
 use Rattle.rules.specs.declared.Scanned.{Scanned}
 use Rattle.rules.specs.Sizes.{record_width}
 use Rattle.rules.specs.Bytes.{text}
 use Rattle.rules.specs.Book.{written, compiled}
-use Rattle.rules.specs.Refusal.{Areas}
 use Rattle.rules.proofs.Opened.{opened}
 use Rattle.allowance.specs.declared.Allowance.{Allowance}
 use Rattle.allowance.specs.Allowed.{of_allowed, allowed, allowed_results, charged}

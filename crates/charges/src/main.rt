@@ -6,7 +6,8 @@
 #![tactic(auto)]
 
 use allowance_job::scan_within;
-use rules::{Limits, Mode, RECORD_WIDTH, Scanned};
+use answers_c::NoteScanned;
+use rules::{Limits, Mode, RECORD_WIDTH};
 use telling::{print, print_count, print_number, print_records};
 
 // Room for a text of 128 bytes and the records of ten passes.
@@ -23,7 +24,7 @@ fn results_area() -> [u32; 20 * RECORD_WIDTH] {
 }
 
 // An answer, without the end of its line.
-fn tell_answer(answer: Scanned, results: &[u32]) {
+fn tell_answer(answer: NoteScanned, results: &[u32]) {
     print_number(answer.refusal);
     print(b" ");
     print_count(answer.count);
@@ -32,7 +33,7 @@ fn tell_answer(answer: Scanned, results: &[u32]) {
     print_records(results, answer.records);
 }
 
-// Tells the scan of text 2, charged to an allowance, and hands back what is then used. The second book is none, and not lent.
+// Tells the scan of text 2, charged to an allowance, and hands back what is then used. No second book is lent.
 fn charged(cap: u64, used: u64) -> u64 {
     let mut area = byte_area();
     let mut words = word_area();
@@ -44,8 +45,7 @@ fn charged(cap: u64, used: u64) -> u64 {
     let spent = scan_within(
         b"copyright 20xx me irl\x0a// My First License\x0afn hello() {\x0a ...",
         b"\x01\x00\x00\x00\x01\x00A-\x00\x00\x00\x02\x00\x02\x00\x00\x00\x02\x00\x00\x00\x01\x00\x00\x00\x0d\x00\x00\x00first license\x01\x00\x00\x00\x08\x00\x00\x00my first",
-        b"no book",
-        false,
+        None,
         limits,
         Mode::Elimination(true, 10),
         cap,
@@ -54,8 +54,7 @@ fn charged(cap: u64, used: u64) -> u64 {
         &mut words,
         &mut results,
     );
-    let answer = spent.answer;
-    tell_answer(answer, &results);
+    tell_answer(NoteScanned::from(spent.answer), &results);
     print(b" used ");
     print_count(spent.used);
     print(b"\x0a");

@@ -11,6 +11,7 @@ use native.Mathlib.Omega.{arith}
 use lib.Dec.{leb}
 use lib.ListN.{length}
 use borrow.Author.Tests.{le-leb}
+use Rattle.rules.specs.declared.Areas.{Areas}
 use Rattle.rules.specs.declared.Limits.{Limits}
 use Rattle.rules.specs.declared.Mode.{Mode}
 use Rattle.rules.specs.declared.Named.{Named}
@@ -21,7 +22,7 @@ use Rattle.rules.specs.Lines.{slip, gap, lines}
 use Rattle.rules.specs.declared.View.{View}
 use Rattle.rules.specs.Search.{Stored}
 use Rattle.rules.specs.Book.{number, Piece, Front, front, whole, broken, record_form, Record, record_of, records_of, also, go_on, placed, record_at, sound_edition, sound_body, follows, sound_records, stored_kind, stored_in, stored_of, stored_from, stored, said_by, said_at, edition, filled, sound, shelved, all_sound, edition_of, all_of, differ, names_in, names_of, name_parts, compiled}
-use Rattle.rules.specs.Refusal.{Areas, of_text, of_books, before_compile, of_compile, of_view, of_name, over_budget, before_scan, of_scan}
+use Rattle.rules.specs.Refusal.{of_text, of_books, before_compile, of_compile, of_view, of_name, over_budget, before_scan, of_scan}
 use Rattle.rules.specs.Jobs.{compile, output_after, score_job, bounds_job, happened, scan, results_after, name_job, numbered}
 use Rattle.rules.proofs.BoolLaws.{and_left, and_right, and_both}
 use Rattle.rules.proofs.PointLaws.{ascii-taken}

@@ -3,7 +3,7 @@
 // nothing else of the same call, and that the allowance is not null.
 #![tactic(auto)]
 
-ghost use Rattle.std.specs.Prelude.{◌≡◌, cond, [], ◌∷◌};
+ghost use Rattle.std.specs.Prelude.{◌≡◌, cond, [], ◌∷◌, None, Some, option_copied};
 ghost use Rattle.rules.specs.Search.{view};
 ghost use Rattle.rules.specs.Book.{edition};
 ghost use Rattle.rules.specs.declared.Mode.TheVariants.{Elimination, TopDown};
@@ -14,10 +14,9 @@ ghost use Rattle.allowance.specs.Allowed.{AllowedDone};
 ghost use Rattle.expression.specs.Jobs.{WriteDone, satisfy as satisfied};
 
 use allowance::Allowance;
-use allowance_job::scan_within;
+use allowance_job::scan_allowed;
 use answers_c::{
-    BookChecked, BoundsFound, NoteScanned, TextCompiled, TextNamed, ViewScored, bounded_for_c,
-    checked_for_c, compiled_for_c, mode_from_c, named_for_c, scanned_for_c, scored_for_c,
+    BookChecked, BoundsFound, NoteScanned, TextCompiled, TextNamed, ViewScored, mode_from_c,
 };
 use bounds_job::{bounds_both, bounds_of};
 use compile::compile;
@@ -33,8 +32,7 @@ use score_job::{score_both, score_view};
 pub fn chultarvi_check_book(book: &[u8]) -> BookChecked
     ensures { (result.refusal ≡ (check book.now).refusal) × (result.texts ≡ (check book.now).texts) }
 {
-    let checked = check_book(book);
-    checked_for_c(checked)
+    BookChecked::from(check_book(book))
 }
 
 // The edition of any bytes: of a sound book, its own.
@@ -54,8 +52,7 @@ pub fn chultarvi_compile(
 ) -> TextCompiled
     ensures { CompileDone edition text.now area.old area.new words.old words.new out.old out.new (compiled_of result) }
 {
-    let compiled = compile(text, edition, area, words, out);
-    compiled_for_c(compiled)
+    TextCompiled::from(compile(text, edition, area, words, out))
 }
 
 // The view [start, end) of the text's lines against the stored text `number`.
@@ -71,8 +68,7 @@ pub fn chultarvi_score(
     ensures { ScoreDone text.now (book.now ∷ []) (view start end) number area.old area.new words.old words.new (scored_of result) }
 {
     let v = View { start, end };
-    let scored = score_view(text, book, v, number, area, words);
-    scored_for_c(scored)
+    ViewScored::from(score_view(text, book, v, number, area, words))
 }
 
 pub fn chultarvi_bounds(
@@ -87,8 +83,7 @@ pub fn chultarvi_bounds(
     ensures { BoundsDone text.now (book.now ∷ []) (view start end) number area.old area.new words.old words.new (bounded_of result) }
 {
     let v = View { start, end };
-    let bounded = bounds_of(text, book, v, number, area, words);
-    bounded_for_c(bounded)
+    BoundsFound::from(bounds_of(text, book, v, number, area, words))
 }
 
 pub fn chultarvi_eliminate(
@@ -107,8 +102,7 @@ pub fn chultarvi_eliminate(
 {
     let limits = Limits { threshold, shallow };
     let mode = Mode::Elimination(optimize, passes);
-    let s = scan(text, book, limits, mode, budget, area, words, results);
-    scanned_for_c(s)
+    NoteScanned::from(scan(text, book, limits, mode, budget, area, words, results))
 }
 
 pub fn chultarvi_top_down(
@@ -126,16 +120,14 @@ pub fn chultarvi_top_down(
 {
     let limits = Limits { threshold, shallow };
     let mode = Mode::TopDown(step);
-    let s = scan(text, book, limits, mode, budget, area, words, results);
-    scanned_for_c(s)
+    NoteScanned::from(scan(text, book, limits, mode, budget, area, words, results))
 }
 
 // The kind of the stored text `number`, and where its licence's name stands.
 pub fn chultarvi_name_stored(book: &[u8], number: u32) -> TextNamed
     ensures { NameDone (book.now ∷ []) number (named_of result) }
 {
-    let named = name_of(book, number);
-    named_for_c(named)
+    TextNamed::from(name_of(book, number))
 }
 
 // The same five over two books, whose texts count on from the first into the second.
@@ -152,8 +144,7 @@ pub fn chultarvi_score_both<'a>(
     ensures { ScoreDone text.now (book.now ∷ second.now ∷ []) (view start end) number area.old area.new words.old words.new (scored_of result) }
 {
     let v = View { start, end };
-    let scored = score_both(text, book, second, v, number, area, words);
-    scored_for_c(scored)
+    ViewScored::from(score_both(text, book, second, v, number, area, words))
 }
 
 pub fn chultarvi_bounds_both<'a>(
@@ -169,15 +160,13 @@ pub fn chultarvi_bounds_both<'a>(
     ensures { BoundsDone text.now (book.now ∷ second.now ∷ []) (view start end) number area.old area.new words.old words.new (bounded_of result) }
 {
     let v = View { start, end };
-    let bounded = bounds_both(text, book, second, v, number, area, words);
-    bounded_for_c(bounded)
+    BoundsFound::from(bounds_both(text, book, second, v, number, area, words))
 }
 
 pub fn chultarvi_name_stored_both(book: &[u8], second: &[u8], number: u32) -> TextNamed
     ensures { NameDone (book.now ∷ second.now ∷ []) number (named_of result) }
 {
-    let named = name_both(book, second, number);
-    named_for_c(named)
+    TextNamed::from(name_both(book, second, number))
 }
 
 pub fn chultarvi_eliminate_both<'a>(
@@ -197,10 +186,9 @@ pub fn chultarvi_eliminate_both<'a>(
 {
     let limits = Limits { threshold, shallow };
     let mode = Mode::Elimination(optimize, passes);
-    let s = scan_both(
+    NoteScanned::from(scan_both(
         text, book, second, limits, mode, budget, area, words, results,
-    );
-    scanned_for_c(s)
+    ))
 }
 
 pub fn chultarvi_top_down_both<'a>(
@@ -219,50 +207,19 @@ pub fn chultarvi_top_down_both<'a>(
 {
     let limits = Limits { threshold, shallow };
     let mode = Mode::TopDown(step);
-    let s = scan_both(
+    NoteScanned::from(scan_both(
         text, book, second, limits, mode, budget, area, words, results,
-    );
-    scanned_for_c(s)
+    ))
 }
 
-// What the scan below answers, and what is used of the allowance after it.
-#[derive(Clone, Copy)]
-pub struct NoteSpent {
-    pub answer: NoteScanned,
-    pub used: u64,
-}
-
-// The scan over an allowance's two numbers. `two`: the second book is lent; where it is not it is not looked at.
-fn scan_numbers<'a>(
-    text: &[u8],
-    book: &'a [u8],
-    second: &'a [u8],
-    two: bool,
-    down: bool,
-    threshold: f32,
-    shallow: f32,
-    optimize: bool,
-    passes: u16,
-    step: u64,
-    cap: u64,
-    used: u64,
-    area: &mut [u8],
-    words: &mut [u32],
-    results: &mut [u32],
-) -> NoteSpent
-    ensures { AllowedDone text.now (books_of (shelf book.now second.now) two) (record { threshold = threshold; shallow = shallow }) (cond down (TopDown step) (Elimination optimize passes)) (record { cap = cap; used = used }) (record { cap = cap; used = result.used }) area.old area.new words.old words.new results.old results.new (scanned_of result.answer) }
+// A second book that is not lent is none, whatever stands there.
+fn lent_second<'a>(second: &'a [u8], two: bool) -> Option<&'a [u8]>
+    ensures { option_copied result ≡ cond two (Some second.now) None }
 {
-    let limits = Limits { threshold, shallow };
-    let mode = mode_from_c(down, optimize, passes, step);
-    let spent = scan_within(
-        text, book, second, two, limits, mode, cap, used, area, words, results,
-    );
-    let scanned = spent.answer;
-    let answer = scanned_for_c(scanned);
-    NoteSpent {
-        answer,
-        used: spent.used,
+    if two {
+        return Some(second);
     }
+    None
 }
 
 // One scan for both modes and for one book or two, charged to the allowance in place.
@@ -284,37 +241,24 @@ pub fn chultarvi_scan_allowed<'a>(
 ) -> NoteScanned
     ensures { AllowedDone text.now (books_of (shelf book.now second.now) two) (record { threshold = threshold; shallow = shallow }) (cond down (TopDown step) (Elimination optimize passes)) allowance.old allowance.new area.old area.new words.old words.new results.old results.new (scanned_of result) }
 {
-    let spent = scan_numbers(
-        text,
-        book,
-        second,
-        two,
-        down,
-        threshold,
-        shallow,
-        optimize,
-        passes,
-        step,
-        allowance.cap,
-        allowance.used,
-        area,
-        words,
-        results,
-    );
-    allowance.used = spent.used;
-    spent.answer
+    let limits = Limits { threshold, shallow };
+    let mode = mode_from_c(down, optimize, passes, step);
+    let lent = lent_second(second, two);
+    NoteScanned::from(scan_allowed(
+        text, book, lent, limits, mode, allowance, area, words, results,
+    ))
 }
 
 // Whether a list of accepted parts, one a line, satisfies a licence expression.
 pub fn chultarvi_satisfy(text: &[u8], list: &[u8]) -> Satisfied
     ensures { result ≡ satisfied text.now list.now }
 {
-    satisfy(text, list)
+    Satisfied::from(satisfy(text, list))
 }
 
 // A licence expression written back with single spaces and only the parentheses that it needs.
 pub fn chultarvi_write_expression(text: &[u8], out: &mut [u8]) -> Spelled
     ensures { WriteDone text.now out.old out.new result }
 {
-    write_expression(text, out)
+    Spelled::from(write_expression(text, out))
 }

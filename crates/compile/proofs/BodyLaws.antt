@@ -1,5 +1,6 @@
 -- The body of a table that stands in the areas: what measuring and writing it ask, and what they leave of the output.
 -- Assumes nothing.
+use Rattle.std.proofs.Common.{Result, Ok, Err}
 use mathlib.Core.Path.{◌≡◌, refl, sym, ap, ap₂, ◌∙◌, subst}
 use mathlib.Core.Bool.{true, false}
 use mathlib.Core.List.{List, ◌++◌}
@@ -12,7 +13,8 @@ use borrow.Author.Tests.{lt-ltb, le-ltb}
 use Rattle.lists.specs.Wrote.{Wrote}
 use Rattle.lists.proofs.SliceLaws.{part_slice}
 use Rattle.rules.specs.declared.View.{View}
-use Rattle.rules.specs.declared.Compiled.{Compiled}
+use Rattle.rules.specs.declared.Refusal.{Refusal}
+use Rattle.rules.specs.declared.Refusal.TheVariants as refused
 use Rattle.rules.specs.Lines.{lines, line_count}
 use Rattle.rules.specs.Search.{viewed}
 use Rattle.rules.specs.Table.{Table, bigrams, table_of, view_table}
@@ -47,17 +49,17 @@ module _ (area words : List ℕ) (n : ℕ) (t : Viewed) (h : Tabled n area words
 
 -- ---- the output
 module _ (made body out₀ : List ℕ) (len : ℕ) (e : made ≡ body) (l : len ≡ length made) where
-  pub body-over : length out₀ < len → Bodied body out₀ (record { refusal = 11; len = 0 }) out₀
+  pub body-over : length out₀ < len → Bodied body out₀ (Err refused.OutputShort) out₀
   body-over h =
       let k : ltb (length out₀) (length body) ≡ true = lt-ltb (length out₀) (length body) (omega (arith, ap length e)) in
-      record { number = simp k; len = simp k; bytes = simp k }
+      record { answer = rw k; bytes = rw k }
 
-  pub body-put : (r : ℕ) (out : List ℕ) → len ≤ length out₀ → Wrote made out₀ r out → Bodied body out₀ (record { refusal = 0; len = len }) out
+  pub body-put : (r : ℕ) (out : List ℕ) → len ≤ length out₀ → Wrote made out₀ r out → Bodied body out₀ (Ok len) out
   unfolding over
   body-put r out h w =
       let k : ltb (length out₀) (length body) ≡ false = le-ltb (length out₀) (length body) (omega (arith, ap length e)) in
       let o : out ≡ body ++ drop (length body) out₀ = w.bytes ∙ ap₂ (λ (m : List ℕ) (j : ℕ). m ++ drop j out₀) e (w.count ∙ ap length e) in
-      record { number = simp k; len = simp k (l ∙ ap length e); bytes = simp k o }
+      record { answer = rw k (ap Ok (l ∙ ap length e)); bytes = rw k o }
 
 -- ---- the whole view of a text is its lines
 whole-viewed : (ls : List (List ℕ)) (v : View) → v.start ≡ 0 → v.end ≡ length ls → viewed ls v ≡ ls
@@ -71,7 +73,7 @@ compiled-is e t ls n u l c h =
     let w = whole-viewed ls (record { start = 0; end = n }) refl (c ∙ sym (lines-count e t) ∙ ap length (sym l)) in
     ap table_out (h ∙ ap view_table (w ∙ l))
 
-pub bodied_as : (a b out₀ : List ℕ) (r : Compiled) (out : List ℕ) → a ≡ b → Bodied a out₀ r out → Bodied b out₀ r out
+pub bodied_as : (a b out₀ : List ℕ) (r : Result ℕ Refusal) (out : List ℕ) → a ≡ b → Bodied a out₀ r out → Bodied b out₀ r out
 bodied_as a b out₀ r out e h = subst (λ (l : List ℕ). Bodied l out₀ r out) e h
 
 -- ---- zeroes over an area that kept its length

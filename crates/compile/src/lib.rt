@@ -3,10 +3,11 @@
 // SPDX-License-Identifier: Apache-2.0), changed: the table goes to lent memory as bytes. Assumes nothing.
 #![tactic(auto)]
 
-ghost use Rattle.std.specs.Prelude.{◌≡◌, ◌≤◌, ltb, length, replicate};
+ghost use Rattle.std.specs.Prelude.{◌≡◌, ◌≤◌, length, replicate};
 ghost use Rattle.rules.specs.Sizes.{byte_area, word_area};
 ghost use Rattle.rules.specs.Book.{table_out, compiled};
 ghost use Rattle.rules.specs.Jobs.{CompileDone};
+ghost use Rattle.rules.specs.Told.{compiled_told};
 ghost use Rattle.preproc_test.specs.Counts.{Passed};
 ghost use Rattle.license_views.specs.Tabled.{Tabled, table_over};
 ghost use Rattle.compile.specs.Bodied.{Bodied};
@@ -17,17 +18,17 @@ use ngram_body::{body_len, put_body};
 use ngram_table::TableSize;
 use preproc_table::table_end;
 use refusals::admit_compile;
-use rules::{Compiled, View};
+use rules::{Areas, Refusal, View};
 use slices::class::class_table;
 
-fn too_short(room: usize, len: usize) -> bool
-    ensures { result ≡ ltb room len }
-{
-    room < len
-}
-
 // The body of the table that stands in the areas, at the front of the output, where it fits.
-fn write_body(area: &[u8], words: &[u32], n: usize, t: Viewed, out: &mut [u8]) -> Compiled
+fn write_body(
+    area: &[u8],
+    words: &[u32],
+    n: usize,
+    t: Viewed,
+    out: &mut [u8],
+) -> Result<usize, Refusal>
     requires { Tabled n area.now words.now t }
     ensures { Bodied (table_out (table_over area.now t)) out.old result out.new }
 {
@@ -39,14 +40,11 @@ fn write_body(area: &[u8], words: &[u32], n: usize, t: Viewed, out: &mut [u8]) -
         distinct: t.distinct,
     };
     let len = body_len(&area[start..end], &words[from..], size);
-    if too_short(out.len(), len) {
-        return Compiled {
-            refusal: 11,
-            len: 0,
-        };
+    if out.len() < len {
+        return Err(Refusal::OutputShort);
     }
     put_body(&area[start..end], &words[from..], size, out);
-    Compiled { refusal: 0, len }
+    Ok(len)
 }
 
 // The work, on a text that is let through in areas that fit. Both areas are zero after it.
@@ -56,7 +54,7 @@ pub fn compile_through(
     area: &mut [u8],
     words: &mut [u32],
     out: &mut [u8],
-) -> Compiled
+) -> Result<usize, Refusal>
     requires { Passed text.now × (byte_area (length text.now) ≤ length area.old) × (word_area (length text.now) ≤ length words.old) }
     ensures body { Bodied (compiled edition text.now) out.old result out.new }
     ensures bytes { area.new ≡ replicate (length area.old) 0 }
@@ -82,15 +80,13 @@ pub fn compile(
     area: &mut [u8],
     words: &mut [u32],
     out: &mut [u8],
-) -> Compiled
-    ensures { CompileDone edition text.now area.old area.new words.old words.new out.old out.new result }
+) -> Result<usize, Refusal>
+    ensures { CompileDone edition text.now area.old area.new words.old words.new out.old out.new (compiled_told result) }
 {
-    let number = admit_compile(text, edition, area.len(), words.len());
-    if number != 0 {
-        return Compiled {
-            refusal: number,
-            len: 0,
-        };
-    }
+    let areas = Areas {
+        bytes: area.len(),
+        words: words.len(),
+    };
+    admit_compile(text, edition, areas)?;
     compile_through(text, edition, area, words, out)
 }

@@ -39,14 +39,14 @@ fn texts_of_one_licence(texts: usize)
     book[4] = 1;
     book[6] = b'A';
     put_empty(&mut book, 7, 2);
-    let mut i = 1;
-    while i < texts {
+    for i in 1..texts {
         put_empty(&mut book, 7 + 14 * i, 3);
-        i += 1;
     }
     let n = 7 + 14 * texts;
-    let answer = check_book(&book[..n]);
-    tell(answer.refusal, answer.texts);
+    match check_book(&book[..n]) {
+        Ok(texts) => tell(0, texts),
+        Err(refusal) => tell(u32::from(refusal), 0),
+    }
 }
 
 pub fn limit_of_texts() {

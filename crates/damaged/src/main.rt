@@ -13,7 +13,7 @@ mod limit;
 
 use crate::limit::limit_of_texts;
 use detection_check::check_book;
-use rules::Checked;
+use rules::Refusal;
 
 // The number of standard output.
 pub const STDOUT: i32 = 1;
@@ -24,14 +24,12 @@ const BOOK: [u8; 58] = [
     102, 105, 114, 115, 116,
 ];
 
-fn sign(c: Checked) -> u8 {
-    if c.refusal != 0 {
-        return b'.';
+fn sign(checked: Result<u32, Refusal>) -> u8 {
+    match checked {
+        Ok(texts) if texts < 10 => b'0' + texts as u8,
+        Ok(_) => b'+',
+        Err(_) => b'.',
     }
-    if c.texts < 10 {
-        return 48 + c.texts as u8;
-    }
-    b'+'
 }
 
 fn show(book: &[u8]) {
@@ -45,12 +43,9 @@ fn new_line() {
 
 // Every cut of the book, from none of it to all.
 fn cuts(book: &[u8]) {
-    let mut n: usize = 0;
-    while n < book.len() {
+    for n in 0..=book.len() {
         show(&book[..n]);
-        n += 1;
     }
-    show(book);
     new_line();
 }
 
@@ -59,11 +54,9 @@ fn changes(at: usize)
     requires { at < 58 }
 {
     let mut book = BOOK;
-    let mut v: u16 = 0;
-    while v < 256 {
-        book[at] = v as u8;
+    for value in 0..=255 {
+        book[at] = value;
         show(&book);
-        v += 1;
     }
     new_line();
 }
@@ -377,10 +370,8 @@ fn accent_bytes() {
 fn main() {
     let book = BOOK;
     cuts(&book);
-    let mut at: usize = 0;
-    while at < 58 {
+    for at in 0..58 {
         changes(at);
-        at += 1;
     }
     lengths();
     name_books();

@@ -10,20 +10,14 @@ ghost use Rattle.license_notes.specs.Laid.{Laid};
 ghost use Rattle.license_views.specs.Tabled.{Tabled, table_over};
 ghost use Rattle.detect.specs.Bests.{BestOf, BestAbove, BestDone};
 
-use detect_best::{Best, no_best, to_beat, wins};
+use detect_best::{Best, to_beat, wins};
 use detection_shelf::{Counts, after_on, body_of, first_spot, next_on};
-use license_charge::{Scorings, charge, spent};
+use license_charge::{Charged, Scorings, charge};
 use license_views::{Viewed, view_table};
 use rules::View;
 
-// The budget is out, or the best and the scorings left.
-#[derive(Clone, Copy)]
-pub enum Chosen {
-    Out,
-    Found(Best, Scorings),
-}
-
-// The best of the books' texts for the table of a view, as far as it is not below the floor: each is scored once, in order.
+// The best of the books' texts for the table of a view, as far as it is not below the floor: each is scored once, in order. None of the books' is
+// the best where they store none.
 pub fn best_of<'a>(
     area: &[u8],
     words: &[u32],
@@ -34,17 +28,18 @@ pub fn best_of<'a>(
     texts: Counts,
     floor: f32,
     budget: Scorings,
-) -> Chosen
+) -> Option<Charged<Option<Best>>>
     requires tabled { Tabled n area.now words.now t }
     requires counts_of { CountsOf (shelf book.now second.now) texts }
     ensures { BestOf (shelf book.now second.now) (table_over area.now t) floor budget.count result }
 {
-    let mut best = no_best();
+    let mut best = None;
     let mut left = budget;
     let mut spot = first_spot();
+    // A while: the spot that it counts by holds a place in a book as well.
     while spot.number < texts.all {
-        if spent(left) {
-            return Chosen::Out;
+        if left.is_spent() {
+            return None;
         }
         let text = next_on(book, second, texts, spot);
         let body = body_of(book, second, text);
@@ -55,10 +50,10 @@ pub fn best_of<'a>(
         let next = Best { text, value };
         spot = after_on(text);
         if wins(best, next) {
-            best = next;
+            best = Some(next);
         }
     }
-    Chosen::Found(best, left)
+    Some(Charged { value: best, left })
 }
 
 // The best stored text of a view, as far as it is not below the floor: its table is made once.
@@ -74,7 +69,7 @@ pub fn best_above<'a>(
     texts: Counts,
     floor: f32,
     budget: Scorings,
-) -> Chosen
+) -> Option<Charged<Option<Best>>>
     requires classes { Classes class.now × Laid n lines area.old words.old }
     requires start_le_end { (v.start ≤ v.end) × (v.end ≤ lines) }
     requires counts_of { CountsOf (shelf book.now second.now) texts }
@@ -96,7 +91,7 @@ pub fn best_text<'a>(
     second: &'a [u8],
     texts: Counts,
     budget: Scorings,
-) -> Chosen
+) -> Option<Charged<Option<Best>>>
     requires classes { Classes class.now × Laid n lines area.old words.old }
     requires start_le_end { (v.start ≤ v.end) × (v.end ≤ lines) }
     requires counts_of { CountsOf (shelf book.now second.now) texts }

@@ -1,2 +1,3 @@
 pub mod ByteLaws
 pub mod EntryLaws
+mod RiseLaws

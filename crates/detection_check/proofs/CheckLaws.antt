@@ -25,8 +25,10 @@ use Rattle.rules.proofs.SoundLaws.{book_too_long}
 use Rattle.records.proofs.StepLaws.{RecordHere}
 use Rattle.detection_check.specs.Walks.{refused, found, record_sound, book_verdict, Within, name_in, verdict_at, verdict_before, verdict_of, Onward, onward, ended, Stepped}
 use Rattle.detection_check.specs.declared.Walk.{Walk}
-use Rattle.detection_check.specs.declared.Step.{Step}
-use Rattle.detection_check.specs.declared.Step.TheVariants.{Next, Done}
+use Rattle.std.specs.Prelude.{Result, Ok, Err, IsErrAnd}
+use Rattle.rules.specs.declared.Refusal.{Refusal}
+use Rattle.rules.specs.declared.Refusal.TheVariants.{BookUnsound}
+use Rattle.rules.specs.Told.{checked_told}
 use Rattle.detection_bodies.proofs.ByteLaws.{and_false}
 
 -- ---- how many stored texts
@@ -126,23 +128,23 @@ module _ (book : List ℕ) (w : Walk) (kind start len : ℕ) where
   same : lent_record ≡ this
   same = let k : start + len - start ≡ len = omega arith in rw k
 
-  abbrev Stepping : Step → Type 0
+  abbrev Stepping : Result Walk Refusal → Type 0
   Stepping r = Stepped book w (verdict_before book w this (start + len)) r
 
-  pub step_bad : (c : Checked) → c ≡ refused → record_sound w.wide w.kind (name_in book w) lent_record ≡ false → Stepping (Done c)
+  pub step_bad : record_sound w.wide w.kind (name_in book w) lent_record ≡ false → Stepping (Err BookUnsound)
   unfolding verdict_of verdict_before
-  step_bad c e h =
+  step_bad h =
       record {
-        same = e ∙ sym (verdict_bad w.wide w.kind (name_in book w) w.texts this (records_of (drop (start + len) book)) (rw same at h));
-        on = ended c;
+        same = sym (verdict_bad w.wide w.kind (name_in book w) w.texts this (records_of (drop (start + len) book)) (rw same at h));
+        on = ended BookUnsound;
       }
 
-  pub step-over : (c : Checked) (n : ℕ) → c ≡ refused → n ≡ counted (stored_kind kind) w.texts → stored_most < n → Stepping (Done c)
+  pub step-over : (n : ℕ) → n ≡ counted (stored_kind kind) w.texts → stored_most < n → Stepping (Err BookUnsound)
   unfolding verdict_of verdict_before
-  step-over c n e q h =
+  step-over n q h =
       record {
-        same = e ∙ sym (verdict-over w.wide w.kind (name_in book w) w.texts this (records_of (drop (start + len) book)) (omega arith));
-        on = ended c;
+        same = sym (verdict-over w.wide w.kind (name_in book w) w.texts this (records_of (drop (start + len) book)) (omega arith));
+        on = ended BookUnsound;
       }
 
   module _ (n : ℕ) (q : n ≡ counted (stored_kind kind) w.texts) (most : n ≤ stored_most) (h : record_sound w.wide w.kind (name_in book w) lent_record ≡ true)
@@ -154,13 +156,13 @@ module _ (book : List ℕ) (w : Walk) (kind start len : ℕ) where
         verdict-next w.wide w.kind (name_in book w) w.texts this (records_of (drop (start + len) book)) (rw same at h) ∙
         ap (λ (k : ℕ). book_verdict w.wide kind (cond (eqb kind 1) (take len (drop start book)) (name_in book w)) k (records_of (drop (start + len) book))) (sym q)
 
-    pub step-name : kind ≡ 1 → Stepping (Next (record { at = start + len; kind = kind; name = start; past = start + len; texts = n; wide = w.wide }))
+    pub step-name : kind ≡ 1 → Stepping (Ok (record { at = start + len; kind = kind; name = start; past = start + len; texts = n; wide = w.wide }))
     unfolding verdict_of verdict_at
     step-name e =
         let k : start + len - start ≡ len = omega arith in
         record { same = rw k (sym (moved ∙ rw (eq-eqb kind 1 e))); on = onward (record { at = start + len; kind = kind; name = start; past = start + len; texts = n; wide = w.wide }) (record { at = fits; name = omega arith; past = fits; texts = most }) later }
 
-    pub step_other : (kind ≡ 1 → ⊥) → Stepping (Next (record { at = start + len; kind = kind; name = w.name; past = w.past; texts = n; wide = w.wide }))
+    pub step_other : (kind ≡ 1 → ⊥) → Stepping (Ok (record { at = start + len; kind = kind; name = w.name; past = w.past; texts = n; wide = w.wide }))
     unfolding verdict_of verdict_at
     step_other e =
         record {
@@ -170,24 +172,24 @@ module _ (book : List ℕ) (w : Walk) (kind start len : ℕ) where
 
 -- what stands at the walk's place
 module _ (book : List ℕ) (w : Walk) where
-  pub step-record : (kind start len : ℕ) (r : Step) → RecordHere book w.at kind start len →
+  pub step-record : (kind start len : ℕ) (r : Result Walk Refusal) → RecordHere book w.at kind start len →
       Stepped book w (verdict_before book w (record { kind = kind; body = take len (drop start book) }) (start + len)) r → Stepped book w (verdict_at book w) r
   unfolding verdict_at verdict_before
   step-record kind start len r h s =
       record { same = s.same ∙ sym (ap (book_verdict w.wide w.kind (name_in book w) w.texts) h.is); on = s.on }
 
-  pub step_end : (c : Checked) → w.texts ≤ stored_most → records_of (drop w.at book) ≡ some [] → c ≡ cond (not (eqb w.kind 1)) (found w.texts) refused →
-      Stepped book w (verdict_at book w) (Done c)
-  unfolding verdict_of verdict_at
-  step_end c most h e =
-      record {
-        same = e ∙ sym (verdict-end w.wide w.kind (name_in book w) w.texts most) ∙ sym (ap (book_verdict w.wide w.kind (name_in book w) w.texts) h);
-        on = ended c;
-      }
+  pub step_end : w.texts ≤ stored_most → records_of (drop w.at book) ≡ some [] → verdict_at book w ≡ cond (not (eqb w.kind 1)) (found w.texts) refused
+  unfolding verdict_at
+  step_end most h = ap (book_verdict w.wide w.kind (name_in book w) w.texts) h ∙ verdict-end w.wide w.kind (name_in book w) w.texts most
 
-  pub step-broken : (c : Checked) → records_of (drop w.at book) ≡ none → c ≡ refused → Stepped book w (verdict_at book w) (Done c)
-  unfolding verdict_of verdict_at book_verdict
-  step-broken c h e = record { same = e ∙ sym (ap (book_verdict w.wide w.kind (name_in book w) w.texts) h); on = ended c }
+  pub step-broken : records_of (drop w.at book) ≡ none → verdict_at book w ≡ refused
+  unfolding verdict_at book_verdict
+  step-broken h = ap (book_verdict w.wide w.kind (name_in book w) w.texts) h
+
+-- a refusal that `?` hands on
+pub told-as : (r : Result ℕ Refusal) (e : Refusal) → IsErrAnd r (λ x. x ≡ e) → checked_told r ≡ checked_told (Err e)
+told-as (Ok n) e h = absurd h
+told-as (Err x) e h = ap (λ (y : Refusal). checked_told (Err y)) h
 
 -- ---- the walk: its verdict is the book's
 pub record CheckWalk (book : List ℕ) (w : Walk) : Type 0 where
@@ -202,20 +204,20 @@ walked_start book h =
       all = sym (verdict-start book h);
     }
 
-module _ (book : List ℕ) (w : Walk) (r : Step) (walked : CheckWalk book w) (s : Stepped book w (verdict_at book w) r) where
-  pub walked_on : (v : Walk) → r ≡ Next v → w.at < v.at
+module _ (book : List ℕ) (w : Walk) (r : Result Walk Refusal) (walked : CheckWalk book w) (s : Stepped book w (verdict_at book w) r) where
+  pub walked_on : (v : Walk) → r ≡ Ok v → w.at < v.at
   walked_on v e = later v (rw e at s.on)
     where
-      later : (v : Walk) → Onward book w (Next v) → w.at < v.at
+      later : (v : Walk) → Onward book w (Ok v) → w.at < v.at
       later v (onward u within l) = l
 
-  pub walked_next : (v : Walk) → r ≡ Next v → CheckWalk book v
+  pub walked_next : (v : Walk) → r ≡ Ok v → CheckWalk book v
   unfolding verdict_of
   walked_next v e = record { within = inside v (rw e at s.on); all = ap (verdict_of book) (sym e) ∙ s.same ∙ walked.all }
     where
-      inside : (v : Walk) → Onward book w (Next v) → Within book v
+      inside : (v : Walk) → Onward book w (Ok v) → Within book v
       inside v (onward u within l) = within
 
-  pub walked_done : (c : Checked) → r ≡ Done c → c ≡ check book
+  pub walked_done : (e : Refusal) → r ≡ Err e → checked_told (Err e) ≡ check book
   unfolding verdict_of
-  walked_done c e = ap (verdict_of book) (sym e) ∙ s.same ∙ walked.all
+  walked_done e q = ap (verdict_of book) (sym q) ∙ s.same ∙ walked.all

@@ -1,14 +1,14 @@
 -- What a walk over a book says at a place: the verdict on what is still to come, which is the book's own at the start.
 -- Assumes nothing.
-use Rattle.std.specs.Prelude.{◌≡◌, ℕ, ◌+◌, ◌-◌, ◌≤◌, ◌<◌, Bool, not, ◌&&◌, ◌||◌, cond, List, [], leb, eqb, length, take, drop}
+use Rattle.std.specs.Prelude.{Result, Ok, Err, ◌≡◌, ℕ, ◌+◌, ◌-◌, ◌≤◌, ◌<◌, Bool, not, ◌&&◌, ◌||◌, cond, List, [], leb, eqb, length, take, drop}
 use Rattle.std.proofs.Math.Option.{Option, none, some}
 use Rattle.rules.specs.declared.Checked.{Checked}
+use Rattle.rules.specs.declared.Refusal.{Refusal}
+use Rattle.rules.specs.Told.{refusal_number}
 use Rattle.rules.specs.Sizes.{stored_most}
 use Rattle.rules.specs.Bytes.{rises}
 use Rattle.rules.specs.Book.{Record, records_of, also, follows, sound_body, sound_records, stored_in}
 use Rattle.detection_check.specs.declared.Walk.{Walk}
-use Rattle.detection_check.specs.declared.Step.{Step}
-use Rattle.detection_check.specs.declared.Step.TheVariants.{Next, Done}
 
 -- the two answers of `check`
 abbrev pub refused : Checked
@@ -45,15 +45,15 @@ verdict_at book w = book_verdict w.wide w.kind (name_in book w) w.texts (records
 unfoldable pub verdict_before : List ℕ → Walk → Record → ℕ → Checked
 verdict_before book w r to = book_verdict w.wide w.kind (name_in book w) w.texts (also r (records_of (drop to book)))
 
--- a step keeps the verdict, and goes on
-unfoldable pub verdict_of : List ℕ → Step → Checked
-verdict_of book (Next w) = verdict_at book w
-verdict_of book (Done c) = c
+-- a step keeps the verdict, and goes on or refuses
+unfoldable pub verdict_of : List ℕ → Result Walk Refusal → Checked
+verdict_of book (Ok w) = verdict_at book w
+verdict_of book (Err r) = record { refusal = refusal_number r; texts = 0 }
 
-pub data Onward (book : List ℕ) (w : Walk) : Step → Type 0 where
-  onward : (v : Walk) → Within book v → w.at < v.at → Onward book w (Next v)
-  ended : (c : Checked) → Onward book w (Done c)
+pub data Onward (book : List ℕ) (w : Walk) : Result Walk Refusal → Type 0 where
+  onward : (v : Walk) → Within book v → w.at < v.at → Onward book w (Ok v)
+  ended : (r : Refusal) → Onward book w (Err r)
 
-pub record Stepped (book : List ℕ) (w : Walk) (all : Checked) (r : Step) : Type 0 where
+pub record Stepped (book : List ℕ) (w : Walk) (all : Checked) (r : Result Walk Refusal) : Type 0 where
   pub same : verdict_of book r ≡ all
   pub on : Onward book w r

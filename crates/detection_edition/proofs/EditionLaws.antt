@@ -1,4 +1,4 @@
--- The edition of a book: it is 1 or 2, whatever the bytes; of a sound book it is what its first record says where that is of kind 6, and no
+-- The edition of a book: it is one that is known, whatever the bytes; of a sound book it is what its first record says where that is of kind 6, and no
 -- other record is.
 -- Assumes nothing.
 use mathlib.Core.Path.{◌≡◌, refl, sym}
@@ -15,9 +15,9 @@ use Rattle.rules.specs.Book.{number, Record, At, record_at, sound_edition, store
 use Rattle.rules.proofs.BoolLaws.{and_left, and_right}
 use Rattle.rules.proofs.DownLaws.{Each}
 
-pub edition-width : (body : List ℕ) → sound_edition body ≡ true → length body ≡ 2
+pub edition_width : (body : List ℕ) → sound_edition body ≡ true → length body ≡ 2
 unfolding sound_edition
-edition-width body h = eqb-true (length body) 2 (and_left (eqb (length body) 2) _ h)
+edition_width body h = eqb-true (length body) 2 (and_left (eqb (length body) 2) _ h)
 
 -- of two bytes, what they say decides
 module _ (body : List ℕ) (n : ℕ) (two : length body ≡ 2) (said : n ≡ number 2 body) where

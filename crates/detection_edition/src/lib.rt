@@ -6,7 +6,7 @@ ghost use Rattle.std.specs.Prelude.{◌≡◌};
 ghost use Rattle.rules.specs.Book.{sound_edition, said_by, edition};
 
 use records::numbers::read_u16;
-use records::pieces::RecordAt;
+use records::pieces::Broken;
 use records::reader::read;
 use rules::{EDITION_FIRST, EDITION_MOST};
 
@@ -27,16 +27,15 @@ pub fn edition_sound(body: &[u8]) -> bool
 }
 
 // What a first record says.
+#[tactic(auto, using(crate::proofs::EditionLaws::edition_width), unfolding(rules::specs::Book::said_by))]
 fn said_by(kind: u16, body: &[u8]) -> u32
     ensures { result ≡ said_by kind body.now }
 {
-    if kind != EDITION_KIND {
-        return EDITION_FIRST;
+    if kind == EDITION_KIND && edition_sound(body) {
+        read_u16(body, 0) as u32
+    } else {
+        EDITION_FIRST
     }
-    if !edition_sound(body) {
-        return EDITION_FIRST;
-    }
-    read_u16(body, 0) as u32
 }
 
 // Of any bytes, sound or not.
@@ -44,8 +43,8 @@ pub fn edition_of(book: &[u8]) -> u32
     ensures { result ≡ edition book.now }
 {
     match read(book, 0) {
-        RecordAt::Whole(kind, start, len) => said_by(kind, &book[start..start + len]),
-        RecordAt::End => EDITION_FIRST,
-        RecordAt::Broken => EDITION_FIRST,
+        Ok(Some(first)) => said_by(first.kind, &book[first.start..first.start + first.len]),
+        Ok(None) => EDITION_FIRST,
+        Err(Broken) => EDITION_FIRST,
     }
 }

@@ -20,13 +20,11 @@ pub fn cut<'a>(s: &'a [u8], start: usize, len: usize) -> &'a [u8]
 }
 
 // len bytes from start on lie within n.
+#[tactic(auto, using(crate::proofs::PartLaws::inside_of))]
 fn inside(start: usize, len: usize, n: usize) -> bool
     ensures { result ≡ leb (start + len) n }
 {
-    if n < start {
-        return false;
-    }
-    len <= n - start
+    start <= n && len <= n - start
 }
 
 // A name's bytes where they stand: a part of the first book or of the second, also where both hold the same bytes. One that does not lie

@@ -16,6 +16,7 @@ use lib.Seq.{get_or-append-add}
 use Rattle.rules.specs.Sizes.{stored_most}
 use Rattle.rules.specs.Search.{Stored, no_text}
 use Rattle.rules.specs.declared.Named.{Named}
+use Rattle.rules.specs.Told.{kind_number}
 use Rattle.rules.specs.Book.{number, table_in, records_of, entries_of, stored, all_sound, no_part, names_of, name_parts, ReadAs}
 use Rattle.rules.proofs.SoundLaws.{StoredSound, sound-most}
 use Rattle.rules.proofs.ShelfLaws.{renumber, two_length, two_first, two_second, shelved-sound, names-length}
@@ -42,7 +43,7 @@ lone book t =
     record {
       number = t.number;
       name = part book t.name t.past;
-      kind = t.kind;
+      kind = kind_number t.kind;
       table = table_in (part book t.body t.end) (entries_of (part book t.body t.end));
     }
 
@@ -50,10 +51,10 @@ text_known : (book : List ℕ) (t : Stored) (r : Text) → TextIs book t r → l
 unfolding table_in
 text_known book t r h =
     let body = part book r.body r.end in
-    ap (λ (o : Option (List _)). record { number = r.number; name = part book r.name r.past; kind = r.kind; table = table_in body o }) h.entries ∙ whole
+    ap (λ (o : Option (List _)). record { number = r.number; name = part book r.name r.past; kind = kind_number r.kind; table = table_in body o }) h.entries ∙ whole
   where
     whole : ◌≡◌ {A = Stored}
-        (record { number = r.number; name = part book r.name r.past; kind = r.kind; table = record { total = number 4 (part book r.body r.end); entries = t.table.entries } })
+        (record { number = r.number; name = part book r.name r.past; kind = kind_number r.kind; table = record { total = number 4 (part book r.body r.end); entries = t.table.entries } })
         t
     whole = simp (h.numbered, h.name, h.kind, h.total)
 
@@ -66,7 +67,7 @@ stands-text s t h = at t.second refl h.found h.inside h.numbered
         record {
           number = t.number;
           name = part (book_in s b) t.text.name t.text.past;
-          kind = t.text.kind;
+          kind = kind_number t.text.kind;
           table = table_in (part (book_in s b) t.text.body t.text.end) (entries_of (part (book_in s b) t.text.body t.text.end));
         }
 
@@ -76,12 +77,12 @@ stands-text s t h = at t.second refl h.found h.inside h.numbered
         let e : t.number ≡ t.text.number = omega (arith, n) in
         let k = text_known s.first (get_or (stored s.first) t.text.number no_text) t.text f.is in
         ap (λ (k : ℕ). get_or (texts s) k no_text) e ∙ two_first s.first s.second t.text.number i ∙ sym k ∙
-        ap (λ (k : ℕ). record { number = k; name = (read false).name; kind = t.text.kind; table = (read false).table }) (sym e)
+        ap (λ (k : ℕ). record { number = k; name = (read false).name; kind = kind_number t.text.kind; table = (read false).table }) (sym e)
     at true q f i n =
         let k = text_known s.second (get_or (stored s.second) t.text.number no_text) t.text f.is in
         ap (λ (k : ℕ). get_or (texts s) k no_text) n ∙ two_second s.first s.second t.text.number i ∙
         ap (renumber (length (stored s.first))) (sym k) ∙
-        ap (λ (k : ℕ). record { number = k; name = (read true).name; kind = t.text.kind; table = (read true).table }) (sym n)
+        ap (λ (k : ℕ). record { number = k; name = (read true).name; kind = kind_number t.text.kind; table = (read true).table }) (sym n)
 
 -- ---- where its name stands
 pub stands-part : (s : Shelf) (t : Shelved) → Stands s t → get_or (parts_of s) t.number no_part ≡ part_held t

@@ -2,6 +2,7 @@
 -- Assumes nothing.
 use Rattle.std.specs.Prelude.{◌≡◌, ℕ, ◌+◌, ◌≤◌, ◌<◌, Bool, true, false, cond, List, [], ◌∷◌, length}
 use Rattle.rules.specs.declared.Named.{Named}
+use Rattle.rules.specs.Told.{kind_number}
 use Rattle.rules.specs.Search.{Stored}
 use Rattle.rules.specs.Book.{entries_of, table_in, stored, sound, shelved, name_parts}
 use Rattle.detection_shelf.specs.declared.Counts.{Counts}
@@ -63,7 +64,7 @@ text_in s t =
     record {
       number = t.number;
       name = part (book_in s t.second) t.text.name t.text.past;
-      kind = t.text.kind;
+      kind = kind_number t.text.kind;
       table = table_in (body_in s t) (entries_of (body_in s t));
     }
 

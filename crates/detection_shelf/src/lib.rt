@@ -17,7 +17,7 @@ pub struct Counts {
     pub all: u32,
 }
 
-// A stored text: of which book, its number over both, and what it is in its book, by its number there.
+// A stored text: of which book (a bool, as `Named` tells it to C), its number over both, and what it is in its book, by its number there.
 #[derive(Clone, Copy)]
 pub struct Shelved {
     pub second: bool,

@@ -37,23 +37,6 @@ high_point x q =
     let l = ltb-false x 128 q in
     rw (le-leb 97 x (omega arith), lt-leb x 122 (omega arith), le-leb 48 x (omega arith), lt-leb x 57 (omega arith)) (ne_eqb x 95 (λ e. omega arith))
 
-pub plain-is : (x : ℕ) → plain_point x ≡ plain_term x
-unfolding plain_term
-plain-is x = at (ltb x 128) refl
-  where
-    at : (t : Bool) → ltb x 128 ≡ t → plain_point x ≡ (ltb x 128 && term_point x)
-    at true q = rw q (sym (low_point x q))
-    at false q = rw q (high_point x q)
-
-pub wide_is : (p : ℕ) → 128 ≤ p → (among (170 ∷ 181 ∷ 186 ∷ []) p || (within 223 255 p && not (eqb p 247))) ≡ term_point p
-unfolding term_point lower digit within
-wide_is p h = rw (le-leb 97 p (omega arith), lt-leb p 122 (omega arith), le-leb 48 p (omega arith), lt-leb p 57 (omega arith), ne_eqb p 95 (λ e. omega arith)) (at (among (170 ∷ 181 ∷ 186 ∷ []) p) (leb 223 p && leb p 255 && not (eqb p 247)))
-  where
-    at : (a b : Bool) → (a || b) ≡ (((false || a) || b) || false || false)
-    at true b = refl
-    at false true = refl
-    at false false = refl
-
 -- ---- a code point of two bytes
 pub wide_closed : (x : ℕ) (s : List ℕ) → opens x ≡ false → wide_term x s ≡ false
 unfolding wide_term

@@ -4,52 +4,27 @@
 #![tactic(auto)]
 
 ghost use Rattle.std.specs.Prelude.{◌≡◌, ◌≤◌, drop};
-ghost use Rattle.rules.specs.Bytes.{within as within_b, split};
+ghost use Rattle.rules.specs.Bytes.{split};
 ghost use Rattle.rules.specs.Book.{two_terms};
 ghost use Rattle.detection_terms.specs.Terms.{term_point, plain_term, wide_term};
 
 use points::read::{is_lead, is_second, point_of};
 
-pub fn within(lo: u16, hi: u16, x: u16) -> bool
-    ensures { result ≡ within_b lo hi x }
-{
-    if x < lo {
-        return false;
-    }
-    x <= hi
-}
-
 // a-z, 0-9 or `_`.
+#[tactic(auto, unfolding(rules::specs::Bytes::within, rules::specs::Bytes::among, rules::specs::Bytes::lower, rules::specs::Bytes::digit, crate::specs::Terms::term_point, crate::specs::Terms::plain_term))]
 fn is_plain(x: u8) -> bool
     ensures { result ≡ plain_term x }
 {
-    if within(97, 122, x as u16) {
-        return true;
-    }
-    if within(48, 57, x as u16) {
-        return true;
-    }
-    x == 95
+    matches!(x, b'a'..=b'z') || matches!(x, b'0'..=b'9') || x == b'_'
 }
 
 // A letter above 127 that lower case leaves.
+#[tactic(auto, unfolding(rules::specs::Bytes::within, rules::specs::Bytes::among, rules::specs::Bytes::lower, rules::specs::Bytes::digit, crate::specs::Terms::term_point))]
 fn is_wide(p: u8) -> bool
     requires { 128 ≤ p }
     ensures { result ≡ term_point p }
 {
-    if p == 170 {
-        return true;
-    }
-    if p == 181 {
-        return true;
-    }
-    if p == 186 {
-        return true;
-    }
-    if p == 247 {
-        return false;
-    }
-    within(223, 255, p as u16)
+    matches!(p, 170 | 181 | 186 | 223..=246 | 248..=255)
 }
 
 // Whether x opens such a letter, and what stands at i is its second byte.
@@ -63,14 +38,11 @@ fn wide_at(s: &[u8], x: u8, i: usize) -> bool
         return false;
     }
     let y = s[i];
-    if !is_second(y) {
-        return false;
-    }
-    is_wide(point_of(x, y))
+    is_second(y) && is_wide(point_of(x, y))
 }
 
 // Two words with one space between. `start`: where the second begins, 0 as long as the first is read. One walk, the plain bytes first: they are most
-// of what a book holds.
+// of what a book holds. A while: a letter of two bytes is passed in one turn.
 pub fn two_terms(wide: bool, s: &[u8]) -> bool
     ensures { result ≡ two_terms wide (split 32 s.now) }
 {
@@ -100,8 +72,5 @@ pub fn two_terms(wide: bool, s: &[u8]) -> bool
         }
         i += 1;
     }
-    if start == 0 {
-        return false;
-    }
-    start < s.len()
+    0 < start && start < s.len()
 }

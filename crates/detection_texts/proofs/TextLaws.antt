@@ -2,8 +2,7 @@
 --     before-first      it starts before text 0
 --     before-next       past a record that is no stored text
 --     found_as          at one that is
---     not_done          while a text is to come, the records neither end nor break off
---     on-record         one record of the way to a text: it fits, the way stands as it should after it, and less is ahead
+--     not_done, not_broken     while a text is to come, the records neither end nor break off
 -- Assumes nothing.
 use mathlib.Core.Path.{◌≡◌, refl, sym, ap, ◌∙◌, subst}
 use mathlib.Core.Bool.{Bool, true, false, not, ◌&&◌, ◌||◌, cond, false≢true}
@@ -21,17 +20,18 @@ use Rattle.rules.specs.Sizes.{book_most, stored_most, name_most}
 use Rattle.rules.specs.Points.{wide}
 use Rattle.rules.specs.Search.{Stored, no_text}
 use Rattle.rules.specs.Bytes.{within, rises}
-use Rattle.rules.specs.Book.{Record, records_of, also, entries_of, sound_body, stored_kind, follows, sound_records, table_in, stored_in, stored_of, stored_from, stored, names_in, no_part, names_of, edition, filled, sound, At, record_at, next_place}
+use Rattle.rules.specs.Book.{Record, records_of, also, entries_of, sound_body, stored_kind, follows, sound_records, table_in, stored_in, stored_of, stored_from, stored, names_in, no_part, names_of, edition, filled, sound}
 use Rattle.rules.specs.declared.Named.{Named}
 use Rattle.rules.proofs.BoolLaws.{and_left, and_right}
 use Rattle.rules.proofs.DownLaws.{each_at}
 use Rattle.rules.proofs.SoundLaws.{StoredSound, sound-stored, sound-some, body-total, table-size, body-shaped}
-use Rattle.records.proofs.StepLaws.{RecordHere, record-here, record-end, record-broken}
+use Rattle.records.proofs.StepLaws.{RecordHere}
 use Rattle.lists.specs.Parts.{part}
-use Rattle.detection_texts.specs.Texts.{stored_left, name_at, names_from, each_body_sound, sound_bodies, Before, first_place, passed_by, set_out, at_record, past_record, Found, Under}
+use Rattle.detection_texts.specs.Texts.{stored_left, name_at, names_from, each_body_sound, sound_bodies, Before, first_place, passed_by, Found}
 use Rattle.detection_texts.specs.declared.texts.Place.{Place}
 use Rattle.detection_texts.specs.declared.texts.Text.{Text}
-use Rattle.detection_texts.specs.declared.texts.Way.{Way}
+use Rattle.rules.specs.declared.Kind.{Kind}
+use Rattle.rules.specs.Told.{kind_number}
 
 -- ---- a sound book's records have sound bodies
 all_sound_lem : (w : Bool) (rs : List Record) (a : ℕ) (name : List ℕ) → sound_records w a name rs ≡ true → each_body_sound w rs ≡ true
@@ -214,36 +214,37 @@ module _ (book : List ℕ) (p : Place) (b : Before book p) where
       rest-names : (second : Bool) → names_from second (start + len) (name_at second p.name p.past) left ≡ drop (p.number + 1) (names_of second (records_of book))
       rest-names second = sym (ap (drop 1) (cons_names second)) ∙ drop-drop 1 p.number (names_of second (records_of book))
 
-      abbrev here : Text
-      here = record { number = p.number; kind = kind; name = p.name; past = p.past; body = start; end = start + len }
+      module _ (of : Kind) (is_of : kind_number of ≡ kind) where
+        abbrev here : Text
+        here = record { number = p.number; kind = of; name = p.name; past = p.past; body = start; end = start + len }
 
-      found_here : Found book p.number here
-      found_here =
-          let body = take len (drop start book) in
-          let s = body-shaped (wide (edition book)) this sounds.0 q in
-          let m : length body ≡ len = long in
-          record {
-            is = rw first
-                (record {
-                  name-from = b.name;
-                  name-to = b.past;
-                  name = refl;
-                  kind = refl;
-                  numbered = refl;
-                  body-from = omega (arith, table-size body (entries_of body) s);
-                  body-to = h.fits;
-                  total = rw lent (sym (body-total body (entries_of body) s));
-                  entries = rw lent (sound-some body (entries_of body) s);
-                  sound = rw lent s;
-                });
-            numbered = refl;
-            below = omega (arith, b.few);
-            named = first-name;
-            on = record { at = h.fits; name = b.name; past = b.past; few = b.few; bodies = sounds.1; texts = rest; names = rest-names };
-          }
+        found_here : Found book p.number here
+        found_here =
+            let body = take len (drop start book) in
+            let s = body-shaped (wide (edition book)) this sounds.0 q in
+            let m : length body ≡ len = long in
+            record {
+              is = rw first
+                  (record {
+                    name-from = b.name;
+                    name-to = b.past;
+                    name = refl;
+                    kind = is_of;
+                    numbered = refl;
+                    body-from = omega (arith, table-size body (entries_of body) s);
+                    body-to = h.fits;
+                    total = rw lent (sym (body-total body (entries_of body) s));
+                    entries = rw lent (sound-some body (entries_of body) s);
+                    sound = rw lent s;
+                  });
+              numbered = refl;
+              below = omega (arith, b.few);
+              named = first-name;
+              on = record { at = h.fits; name = b.name; past = b.past; few = b.few; bodies = sounds.1; texts = rest; names = rest-names };
+            }
 
-      pub found_as : (k : ℕ) → p.number ≡ k → Found book k here
-      found_as k e = subst (λ (n : ℕ). Found book n here) e found_here
+        pub found_as : (k : ℕ) → p.number ≡ k → Found book k here
+        found_as k e = subst (λ (n : ℕ). Found book n here) e found_here
 
 -- ---- past a record that is no stored text
 either : (t : Bool) (x y : Place) (f : Place → ℕ) (n : ℕ) → f x ≡ n → f y ≡ n → f (cond t x y) ≡ n
@@ -264,56 +265,6 @@ module _ (p : Place) (kind start end : ℕ) where
   pub passed_at : (passed_by p kind start end).at ≡ end
   unfolding passed_by
   passed_at = either (eqb kind 1) named moved (λ (x : Place). x.at) end refl refl
-
--- ---- the way to the next text, record after record
--- what is left of the book, one more while it goes on
-unfoldable pub way_left : List ℕ → Way → ℕ
-way_left book w = cond w.going (suc (length book - w.place.at)) 0
-
-pub under_first : (book : List ℕ) (p : Place) → Before book p → p.number < length (stored book) → Under book p.number (set_out p)
-under_first book p b l = record { on = λ _. (b, refl, l); off = λ e. absurd (false≢true (sym e)) }
-
-pub way_left-on : (book : List ℕ) (w : Way) → w.going ≡ true → way_left book w ≡ suc (length book - w.place.at)
-unfolding way_left
-way_left-on book w e = rw e
-
--- one more record: it can be passed, the way stands as it should, and less is ahead
-pub record OneMore (book : List ℕ) (n : ℕ) (p : Place) (a : At) : Type 0 where
-  pub fits : next_place p.at a ≤ length book
-  pub under : Under book n (past_record p a)
-  pub less : way_left book (past_record p a) < suc (length book - p.at)
-
-module _ (book : List ℕ) (n : ℕ) (p : Place) (b : Before book p) (same : p.number ≡ n) (l : n < length (stored book)) where
-  short : p.number < length (stored book)
-  short = omega (arith, same, l)
-
-  on-whole : (kind start len : ℕ) → RecordHere book p.at kind start len → (t : Bool) → stored_kind kind ≡ t → OneMore book n p (At.whole kind start len)
-  unfolding next_place past_record at_record way_left
-  on-whole kind start len h true e =
-      record {
-        fits = h.fits;
-        under = rw e (record { on = λ z. absurd (false≢true z); off = λ _. found_as book p b kind start len h e short n same });
-        less = rw e (omega arith);
-      }
-  on-whole kind start len h false e =
-      let q = passed_at p kind start (start + len) in
-      record {
-        fits = h.fits;
-        under = rw e
-            (record {
-              on = λ _. (before-next book p b kind start len h e, passed_number p kind start (start + len) ∙ same, l);
-              off = λ z. absurd (false≢true (sym z));
-            });
-        less = rw e (omega (arith, h.later, h.fits, q));
-      }
-
-  pub on-record : OneMore book n p (record_at book p.at)
-  on-record = at (record_at book p.at) refl
-    where
-      at : (a : At) → record_at book p.at ≡ a → OneMore book n p a
-      at At.end e = absurd (not_done book p b short (record-end book p.at e))
-      at (At.whole kind start len) e = on-whole kind start len (record-here book p.at kind start len e) (stored_kind kind) refl
-      at At.broken e = absurd (not_broken book p b (record-broken book p.at e))
 
 -- ---- a text that is found, by another name of its number
 pub found_at : {book : List ℕ} {k n : ℕ} {r : Text} → k ≡ n → Found book k r → Found book n r

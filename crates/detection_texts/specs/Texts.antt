@@ -6,11 +6,11 @@ use Rattle.lists.specs.Parts.{part}
 use Rattle.rules.specs.Sizes.{stored_most}
 use Rattle.rules.specs.Points.{wide}
 use Rattle.rules.specs.Search.{Stored, no_text}
-use Rattle.rules.specs.Book.{number, Record, records_of, entries_of, shaped, sound_body, edition, stored_in, stored_kind, stored, At, names_in, no_part, names_of}
+use Rattle.rules.specs.Book.{number, Record, records_of, entries_of, shaped, sound_body, edition, stored_in, stored, names_in, no_part, names_of}
 use Rattle.rules.specs.declared.Named.{Named}
+use Rattle.rules.specs.Told.{kind_number}
 use Rattle.detection_texts.specs.declared.texts.Place.{Place}
 use Rattle.detection_texts.specs.declared.texts.Text.{Text}
-use Rattle.detection_texts.specs.declared.texts.Way.{Way}
 
 -- the stored texts of the records that are left, from number n on, under `name`
 unfoldable pub stored_left : ℕ → List ℕ → Option (List Record) → List Stored
@@ -49,7 +49,7 @@ pub record TextIs (book : List ℕ) (t : Stored) (r : Text) : Type 0 where
   pub name-from : r.name ≤ r.past
   pub name-to : r.past ≤ length book
   pub name : part book r.name r.past ≡ t.name
-  pub kind : r.kind ≡ t.kind
+  pub kind : kind_number r.kind ≡ t.kind
   pub numbered : r.number ≡ t.number
   pub body-from : r.body + 8 ≤ r.end
   pub body-to : r.end ≤ length book
@@ -68,27 +68,6 @@ passed_by p kind start end =
     cond (eqb kind 1) (record { number = p.number; at = end; name = start; past = end })
     (record { number = p.number; at = end; name = p.name; past = p.past })
 
--- the way to the next text: at a place, stopped there with no text, and what becomes of it at a record
-abbrev pub none_yet : Text
-none_yet = record { number = 0; kind = 0; name = 0; past = 0; body = 0; end = 0 }
-
-abbrev pub set_out : Place → Way
-set_out p = record { going = true; place = p; text = none_yet }
-
-abbrev pub stopped_at : Place → Way
-stopped_at p = record { going = false; place = p; text = none_yet }
-
-abbrev pub text_at : Place → ℕ → ℕ → ℕ → Text
-text_at p kind start end = record { number = p.number; kind = kind; name = p.name; past = p.past; body = start; end = end }
-
-unfoldable pub at_record : Place → ℕ → ℕ → ℕ → Way
-at_record p kind start end = cond (stored_kind kind) (record { going = false; place = p; text = text_at p kind start end }) (set_out (passed_by p kind start end))
-
-unfoldable pub past_record : Place → At → Way
-past_record p At.end = stopped_at p
-past_record p (At.whole kind start len) = at_record p kind start (start + len)
-past_record p At.broken = stopped_at p
-
 -- r is stored text k, its name stands where the definition has it, and the walk goes on after it
 pub record Found (book : List ℕ) (k : ℕ) (r : Text) : Type 0 where
   pub is : TextIs book (get_or (stored book) k no_text) r
@@ -96,8 +75,3 @@ pub record Found (book : List ℕ) (k : ℕ) (r : Text) : Type 0 where
   pub below : k < stored_most
   pub named : (second : Bool) → get_or (names_of second (records_of book)) k no_part ≡ name_at second r.name r.past
   pub on : Before book (after_text r)
-
--- while the way goes on it stands before text n, and once it has stopped it has text n
-pub record Under (book : List ℕ) (n : ℕ) (w : Way) : Type 0 where
-  pub on : w.going ≡ true → Before book w.place × (w.place.number ≡ n) × (n < length (stored book))
-  pub off : w.going ≡ false → Found book n w.text

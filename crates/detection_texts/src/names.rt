@@ -9,7 +9,7 @@ ghost use Rattle.lists.specs.Parts.{part};
 use rules::NAME_MOST;
 use slices::copy::put;
 
-// NAME_MOST bytes, zero-filled, and the length.
+// NAME_MOST bytes, zero-filled, and the length: as C gets them.
 #[derive(Clone, Copy)]
 pub struct Name {
     pub bytes: [u8; NAME_MOST],

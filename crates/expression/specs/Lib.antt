@@ -3,3 +3,4 @@ pub mod Reading
 pub mod Writing
 pub mod Annex
 pub mod Jobs
+pub mod Told

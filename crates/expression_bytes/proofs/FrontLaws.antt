@@ -2,14 +2,15 @@
 -- Assumes nothing.
 use mathlib.Core.Path.{◌≡◌, refl, sym, ap, ◌∙◌}
 use Prim.Native.Nat.{ℕ, zero, suc, ◌+◌, ◌≤◌, ◌<◌}
-use mathlib.Core.Bool.{Bool, true, false, cond, false≢true}
+use mathlib.Core.Bool.{Bool, true, false, cond, ◌&&◌, false≢true}
 use mathlib.Core.List.{List, [], ◌∷◌}
 use native.Mathlib.Omega.{arith}
 use borrow.Author.Tests.{eqb-true, eq-eqb, ne_eqb}
 use lib.Dec.{eqb}
 use lib.ListN.{length, drop, get_or, length-drop}
 use lib.Seq.{drop-drop}
-use Rattle.rules.specs.Bytes.{lead}
+use Rattle.std.specs.List.{prefix_len, zip, starts_with}
+use Rattle.rules.specs.Bytes.{lead, starts}
 use Rattle.lists.proofs.SliceLaws.{drop-next, drop-done}
 use Rattle.rules.proofs.PlaceLaws.{lead-most}
 use Rattle.expression.specs.Reading.{id_byte}
@@ -64,6 +65,12 @@ blank-stop (x ∷ s) = one (eqb 32 x) refl (blank-stop s)
     one true e h = h
     one false e h = eqb-turn x 32 ∙ e
 
+-- ---- as std counts them
+pub lead_prefix : (p : ℕ → Bool) (s : List ℕ) → lead p s ≡ prefix_len p s
+unfolding lead
+lead_prefix p [] = refl
+lead_prefix p (x ∷ s) = let e : suc (lead p s) ≡ 1 + prefix_len p s = omega (arith, lead_prefix p s) in ap (λ (n : ℕ). cond (p x) n 0) e
+
 -- ---- words
 count_most : (t : Bool) (k n : ℕ) → k ≤ n → cond t (suc k) 0 ≤ suc n
 count_most true k n h = omega arith
@@ -81,23 +88,22 @@ spelt-inside [] s = omega arith
 spelt-inside (w ∷ ws) [] = omega arith
 spelt-inside (w ∷ ws) (x ∷ s) = count_most (eqb x w) (spelt ws s) (length s) (spelt-inside ws s)
 
-pub spelt-more : (word s : List ℕ) (n : ℕ) → n < length word → head_is (get_or word n 0) s ≡ true → spelt (drop n word) s ≡ suc (spelt (drop (n + 1) word) (drop 1 s))
-unfolding spelt head_is
-spelt-more word [] n h e = false_true e
-spelt-more word (x ∷ s) n h e = ap (λ (w : List ℕ). spelt w (x ∷ s)) (drop-next word n h) ∙ rw e
+abbrev pub same_byte : ℕ × ℕ → Bool
+same_byte p = eqb p.0 p.1
 
-pub spelt_less : (word s : List ℕ) (n : ℕ) → n < length word → head_is (get_or word n 0) s ≡ false → spelt (drop n word) s ≡ 0
-unfolding spelt head_is
-spelt_less word [] n h e = ap (λ (w : List ℕ). spelt w []) (drop-next word n h)
-spelt_less word (x ∷ s) n h e = ap (λ (w : List ℕ). spelt w (x ∷ s)) (drop-next word n h) ∙ rw e
-
-pub spelt-end : (word s : List ℕ) (n : ℕ) → length word ≤ n → spelt (drop n word) s ≡ 0
+pub spelt_prefix : (ws s : List ℕ) → spelt ws s ≡ prefix_len same_byte (zip s ws)
 unfolding spelt
-spelt-end word s n h = rw (drop-done word n h)
+spelt_prefix [] [] = refl
+spelt_prefix [] (x ∷ s) = refl
+spelt_prefix (w ∷ ws) [] = refl
+spelt_prefix (w ∷ ws) (x ∷ s) = let e : suc (spelt ws s) ≡ 1 + prefix_len same_byte (zip s ws) = omega (arith, spelt_prefix ws s) in ap (λ (n : ℕ). cond (eqb x w) n 0) e
 
-pub spelt-start : (w s : List ℕ) → spelt w s ≡ 0 + spelt (drop 0 w) s
-unfolding drop
-spelt-start w s = omega arith
+-- and as std asks whether one stands there
+pub starts_as : (w s : List ℕ) → starts_with eqb s w ≡ starts w s
+unfolding starts
+starts_as [] s = refl
+starts_as (x ∷ w) [] = refl
+starts_as (x ∷ w) (y ∷ s) = ap (λ (b : Bool). eqb x y && b) (starts_as w s)
 
 -- ---- places in a text
 module _ (l : List ℕ) (at : ℕ) where
@@ -114,9 +120,6 @@ module _ (l : List ℕ) (at : ℕ) where
 
   pub letters_in : (n : ℕ) (ws : List ℕ) → at ≤ length l → n ≡ spelt ws (drop at l) → at + n ≤ length l
   letters_in n ws h e = omega (arith, e, spelt-inside ws (drop at l), length-drop at l)
-
-  pub blanks-low : (r : ℕ) → r ≡ at + lead (eqb 32) (drop at l) → at ≤ r
-  blanks-low r e = omega (arith, e)
 
   pub blanks-high : (r : ℕ) → at ≤ length l → r ≡ at + lead (eqb 32) (drop at l) → r ≤ length l
   blanks-high r h e = omega (arith, e, lead-most (eqb 32) (drop at l), length-drop at l)

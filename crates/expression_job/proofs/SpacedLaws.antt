@@ -1,23 +1,18 @@
 -- Bytes side by side, pair by pair.
 -- Assumes nothing.
-use mathlib.Core.Path.{◌≡◌, refl}
-use Prim.Native.Nat.{ℕ, ◌+◌, ◌≤◌, ◌<◌}
-use mathlib.Core.Bool.{true, ◌&&◌}
+use mathlib.Core.Path.{◌≡◌, refl, ap}
+use Prim.Native.Nat.{ℕ}
+use mathlib.Core.Bool.{Bool, ◌&&◌}
 use mathlib.Core.List.{List, [], ◌∷◌}
-use native.Mathlib.Omega.{arith}
-use lib.ListN.{length, drop, get_or, length-drop}
-use Rattle.lists.proofs.SliceLaws.{drop-next}
+use lib.ListN.{drop}
+use Rattle.std.specs.List.{list_all, zip}
 use Rattle.expression_spelling.specs.Flat.{apart, spaced_out}
 
-pub spaced-next : (l : List ℕ) (i : ℕ) → i + 1 < length l → spaced_out (drop i l) ≡ (apart (get_or l i 0) (get_or l (i + 1) 0) && spaced_out (drop (i + 1) l))
-unfolding spaced_out
-spaced-next l i h = rw (drop-next l i (omega (arith, h)), drop-next l (i + 1) h)
+abbrev pub pair_apart : ℕ × ℕ → Bool
+pair_apart p = apart p.0 p.1
 
-few : (s : List ℕ) → length s ≤ 1 → spaced_out s ≡ true
+pub spaced_pairs : (s : List ℕ) → spaced_out s ≡ list_all pair_apart (zip s (drop 1 s))
 unfolding spaced_out
-few [] h = refl
-few (x ∷ []) h = refl
-few (x ∷ y ∷ s) h = absurd (omega (arith, h))
-
-pub spaced-end : (l : List ℕ) (i : ℕ) → length l ≤ i + 1 → spaced_out (drop i l) ≡ true
-spaced-end l i h = few (drop i l) (omega (arith, h, length-drop i l))
+spaced_pairs [] = refl
+spaced_pairs (x ∷ []) = refl
+spaced_pairs (x ∷ y ∷ s) = ap (λ (b : Bool). apart x y && b) (spaced_pairs (y ∷ s))

@@ -18,8 +18,12 @@ use Rattle.expression_bytes.proofs.FrontLaws.{false_true}
 use Rattle.expression_output.specs.Output.{overlay}
 use Rattle.expression_output.proofs.OutputLaws.{overlay-front}
 use Rattle.expression_joints.specs.declared.Value.{Value}
-use Rattle.expression_levels.specs.declared.Read.{Read}
-use Rattle.expression_levels.specs.declared.Read.TheVariants.{Of, No}
+use Rattle.std.specs.Prelude.{Result, Ok, Err}
+use Rattle.rules.specs.declared.Refusal.TheVariants as because
+use Rattle.rules.specs.Told.{refusal_number}
+use Rattle.expression.specs.declared.Refused.{Refused}
+use Rattle.expression.specs.Told.{satisfied_told, spelled_told}
+use Rattle.expression_parts.specs.Parts.{no_expression}
 use Rattle.expression_levels.specs.Levels.{only_fresh, Valued}
 use Rattle.expression_levels.proofs.LevelLaws.{Tree-read, Tree-none, put-length}
 use Rattle.expression_spelling.specs.Flat.{spaced_out}
@@ -42,22 +46,22 @@ at-end [] t p k = refl
 at-end (x ∷ s) t p k = absurd (omega (arith, k))
 
 module _ {list text s d : List ℕ} where
-  pub all_read : {v : Value} → length text ≤ v.next → Tree-read only_fresh list text 0 0 (32 ∷ 65 ∷ 79 ∷ []) s 0 v d → Whole list text s d (Of v)
+  pub all_read : {v : Value} → length text ≤ v.next → Tree-read only_fresh list text 0 0 (32 ∷ 65 ∷ 79 ∷ []) s 0 v d → Whole list text s d (Ok v)
   unfolding verdict drop
   all_read {v} h w = whole w.tree (sym (w.same tt [] refl) ∙ at-end (drop v.next text) w.tree v.next (omega (arith, length-drop v.next text))) w.value
 
-  pub left_over_lem : {v : Value} → v.next < length text → Tree-read only_fresh list text 0 0 (32 ∷ 65 ∷ 79 ∷ []) s 0 v d → Whole list text s d (No 13 v.next)
+  pub left_over_lem : {v : Value} → v.next < length text → Tree-read only_fresh list text 0 0 (32 ∷ 65 ∷ 79 ∷ []) s 0 v d → Whole list text s d (Err (no_expression v.next))
   unfolding verdict drop
   left_over_lem {v} h w =
       none (sym (w.same tt [] refl) ∙ sym (stuck (drop v.next text) w.tree v.next (omega (arith, h, length-drop v.next text)) w.on.stops.0 w.on.stops.1.0 w.on.stops.1.1.0))
       (put-length 0 (spell w.tree) s w.value.put)
 
-  pub not_read : {k p : ℕ} → Tree-none only_fresh text 0 0 s d k p → Whole list text s d (No k p)
+  pub not_read : {r : Refused} → Tree-none only_fresh text 0 0 s d (refusal_number r.refusal) r.place → Whole list text s d (Err r)
   unfolding verdict drop
   not_read n = none (sym (n.same tt [] refl)) n.kept
 
   -- the output's length is kept
-  pub whole-kept : {r : Read} → Whole list text s d r → length d ≡ length s
+  pub whole-kept : {r : Result Value Refused} → Whole list text s d r → length d ≡ length s
   whole-kept (whole t e w) = put-length 0 (spell t) s w.put
   whole-kept (none e k) = k
 
@@ -68,36 +72,36 @@ pub record Accepted (list text s : List ℕ) (v : Value) (d : List ℕ) : Type 0
   pub value : Valued list s 0 tree v d
 
 module _ {list text s d : List ℕ} where
-  accepted-of : {v : Value} → Whole list text s d (Of v) → Accepted list text s v d
+  accepted-of : {v : Value} → Whole list text s d (Ok v) → Accepted list text s v d
   accepted-of (whole t e w) = record { tree = t; is = e; value = w }
 
-  pub was_accepted : {r : Read} {v : Value} → r ≡ Of v → Whole list text s d r → Accepted list text s v d
+  pub was_accepted : {r : Result Value Refused} {v : Value} → r ≡ Ok v → Whole list text s d r → Accepted list text s v d
   was_accepted e w = accepted-of (rw e at w)
 
-  refused-of : {k p : ℕ} → Whole list text s d (No k p) → verdict text ≡ refused k p
+  refused-of : {r : Refused} → Whole list text s d (Err r) → verdict text ≡ refused (refusal_number r.refusal) r.place
   refused-of (none e k) = e
 
-  pub was_refused : {r : Read} {k p : ℕ} → r ≡ No k p → Whole list text s d r → verdict text ≡ refused k p
+  pub was_refused : {q : Result Value Refused} {r : Refused} → q ≡ Err r → Whole list text s d q → verdict text ≡ refused (refusal_number r.refusal) r.place
   was_refused e w = refused-of (rw e at w)
 
 -- ---- the answers
 module _ (list text : List ℕ) where
-  pub satisfy-no : {k p : ℕ} → verdict text ≡ refused k p → record { refusal = k; satisfied = false; place = p } ≡ satisfy text list
+  pub satisfy-no : (r : Refused) → verdict text ≡ refused (refusal_number r.refusal) r.place → satisfied_told (Err r) ≡ satisfy text list
   unfolding satisfy satisfy_as
-  satisfy-no e = sym (ap (satisfy_as list) e)
+  satisfy-no r e = sym (ap (satisfy_as list) e)
 
-  pub satisfy-yes : {s d : List ℕ} {v : Value} → Accepted list text s v d → record { refusal = 0; satisfied = v.holds; place = 0 } ≡ satisfy text list
+  pub satisfy-yes : {s d : List ℕ} {v : Value} → Accepted list text s v d → satisfied_told (Ok v.holds) ≡ satisfy text list
   unfolding satisfy satisfy_as
   satisfy-yes a =
       ap (λ (b : Bool). let r : Satisfied = record { refusal = 0; satisfied = b; place = 0 } in r) a.value.holds ∙ sym (ap (satisfy_as list) a.is)
 
 module _ (text out : List ℕ) where
-  pub write_no : {k p : ℕ} → verdict text ≡ refused k p → WriteDone text out out (record { refusal = k; place = p; len = 0 })
+  pub write_no : (r : Refused) → verdict text ≡ refused (refusal_number r.refusal) r.place → WriteDone text out out (spelled_told (Err r))
   unfolding spelled_as written_as
-  write_no e = record { answer = sym (ap (λ (v : Verdict). spelled_as v (length out)) e); output = sym (ap (λ (v : Verdict). written_as v out) e) }
+  write_no r e = record { answer = sym (ap (λ (v : Verdict). spelled_as v (length out)) e); output = sym (ap (λ (v : Verdict). written_as v out) e) }
 
   module _ {list s d : List ℕ} {v : Value} (a : Accepted list text s v d) where
-    pub write_short : length out < v.end → WriteDone text out out (record { refusal = 11; place = 0; len = 0 })
+    pub write_short : length out < v.end → WriteDone text out out (spelled_told (Err (record { refusal = because.OutputShort; place = 0 })))
     unfolding spelled_as written_as
     write_short h =
         let short : ltb (length out) (length (spell a.tree)) ≡ true = lt-ltb (length out) (length (spell a.tree)) (omega (arith, h, a.value.put.1)) in
@@ -110,20 +114,22 @@ module _ (text out : List ℕ) where
     spelled (accepted t) = spell t
     spelled (refused k p) = []
 
-    -- read again, it is the same tree
-    again : {other out' : List ℕ} {r : Read} → Whole other text out out' r → out' ≡ overlay 0 (spell a.tree) out
+    is_accepted : Verdict → Bool
+    is_accepted (accepted t) = true
+    is_accepted (refused k p) = false
+
+    -- read again, it is no other verdict
+    pub never_refused : {A : Type 0} {k p : ℕ} → verdict text ≡ refused k p → A
+    unfolding is_accepted
+    never_refused e = false_true (sym (ap is_accepted (sym a.is ∙ e)))
+
+    -- and the same tree
+    again : {other out' : List ℕ} {r : Result Value Refused} → Whole other text out out' r → out' ≡ overlay 0 (spell a.tree) out
     unfolding spelled
     again (whole t e w) = w.put.0 ∙ ap (λ (bs : List ℕ). overlay 0 bs out) (ap spelled (sym e ∙ a.is))
-    again (none e k) = never (ap is_accepted (sym a.is ∙ e))
-      where
-        is_accepted : Verdict → Bool
-        is_accepted (accepted t) = true
-        is_accepted (refused k p) = false
+    again (none e k) = never_refused e
 
-        never : {A : Type 0} → true ≡ false → A
-        never h = false_true (sym h)
-
-    pub write_done : v.end ≤ length out → length out < 18446744073709551615 → {other out' : List ℕ} {r : Read} → Whole other text out out' r → WriteDone text out out' (record { refusal = 0; place = 0; len = v.end })
+    pub write_done : v.end ≤ length out → length out < 18446744073709551615 → {other out' : List ℕ} {r : Result Value Refused} → Whole other text out out' r → WriteDone text out out' (spelled_told (Ok v.end))
     unfolding spelled_as written_as over
     write_done h k w =
         let n = length-is h k in

@@ -2,15 +2,15 @@
 // Assumes nothing.
 #![tactic(auto)]
 
-ghost use Rattle.std.specs.Prelude.{◌≡◌, Bool, true, not, ◌&&◌, ◌||◌, cond, false, List, [], ◌∷◌, ◌++◌, ℕ, ◌+◌, ◌≤◌, length, drop};
+ghost use Rattle.std.specs.Prelude.{◌≡◌, Bool, true, not, ◌&&◌, false, List, [], ◌∷◌, ◌++◌, ℕ, ◌≤◌, length, drop};
 ghost use Rattle.expression.specs.Reading.{anded, ored};
 ghost use Rattle.expression.specs.Writing.{wrap as wrapped};
 ghost use Rattle.expression_bytes.specs.Front.{head_is};
 ghost use Rattle.expression_joints.specs.Joints.{Joined, Shut, Jointed, Lays, and_text, or_text};
 
 use expression_bytes::{blanks, stands};
-use expression_output::{put_word, wrap};
-use expression_parts::parts::Went;
+use expression_output::{put, wrap};
+use expression_parts::parts::Bad;
 
 // What is told of a tree that is read: where the text goes on, whether the list satisfies it, whether it is an OR, and where it ends in the output.
 #[derive(Clone, Copy)]
@@ -21,85 +21,91 @@ pub struct Value {
     pub end: usize,
 }
 
-// An operator is read: where the text and the output go on; or the place of the first byte that cannot go on.
+// Where the text and the output go on behind an operator.
 #[derive(Clone, Copy)]
-pub enum Joint {
-    On(usize, usize),
-    Off(usize),
+pub struct Joint {
+    pub next: usize,
+    pub end: usize,
 }
 
 // After AND or OR: a blank or a parenthesis, and there the operand is due.
-fn after_word(text: &[u8], at: usize) -> Went
+fn after_word(text: &[u8], at: usize) -> Result<usize, Bad>
     ensures { Joined text.now at [] result }
 {
-    if stands(text, at, 32) {
-        return Went::At(at);
+    if stands(text, at, b' ') || stands(text, at, b'(') {
+        return Ok(at);
     }
-    if stands(text, at, 40) {
-        return Went::At(at);
-    }
-    Went::Bad(at)
+    Err(Bad { place: at })
 }
 
 // After the A of AND.
-fn and_word(text: &[u8], at: usize) -> Went
+fn and_word(text: &[u8], at: usize) -> Result<usize, Bad>
     requires { at ≤ length text.now }
     ensures { Joined text.now at (78 ∷ 68 ∷ []) result }
 {
-    if !stands(text, at, 78) {
-        return Went::Bad(at);
+    if !stands(text, at, b'N') {
+        return Err(Bad { place: at });
     }
-    if !stands(text, at + 1, 68) {
-        return Went::Bad(at + 1);
+    if !stands(text, at + 1, b'D') {
+        return Err(Bad { place: at + 1 });
     }
     after_word(text, at + 2)
 }
 
 // After the O of OR.
-fn or_word(text: &[u8], at: usize) -> Went
+fn or_word(text: &[u8], at: usize) -> Result<usize, Bad>
     requires { at ≤ length text.now }
     ensures { Joined text.now at (82 ∷ []) result }
 {
-    if !stands(text, at, 82) {
-        return Went::Bad(at);
+    if !stands(text, at, b'R') {
+        return Err(Bad { place: at });
     }
     after_word(text, at + 1)
 }
 
 // What closes a group, with the blanks behind it.
-pub fn close(text: &[u8], at: usize) -> Went
+pub fn close(text: &[u8], at: usize) -> Result<usize, Bad>
     requires { (at ≤ length text.now) × (head_is 32 (drop at text.now) ≡ false) × (head_is 65 (drop at text.now) ≡ false) × (head_is 79 (drop at text.now) ≡ false) }
     ensures { Shut text.now at result }
 {
-    if stands(text, at, 41) {
-        return Went::At(blanks(text, at + 1));
+    if stands(text, at, b')') {
+        return Ok(blanks(text, at + 1));
     }
-    Went::Bad(at)
+    Err(Bad { place: at })
 }
 
 // AND at `at`, behind an operand that stands in the output from `from` up to `to`; `or`: it is an OR, which parentheses will hold.
-pub fn and_joint(text: &[u8], at: usize, or: bool, out: &mut [u8], from: usize, to: usize) -> Joint
+pub fn and_joint(
+    text: &[u8],
+    at: usize,
+    or: bool,
+    out: &mut [u8],
+    from: usize,
+    to: usize,
+) -> Result<Joint, Bad>
     requires { head_is 65 (drop at text.now) ≡ true }
     ensures { Jointed text.now at anded (λ bs. wrapped or bs ++ and_text) from to out.old out.new result }
 {
-    match and_word(text, at + 1) {
-        Went::Bad(p) => Joint::Off(p),
-        Went::At(n) => {
-            let shut = wrap(or, out, from, to);
-            Joint::On(n, put_word(b" AND ", out, shut))
-        }
-    }
+    let next = and_word(text, at + 1)?;
+    let shut = wrap(or, out, from, to);
+    let end = put(b" AND ", out, shut);
+    Ok(Joint { next, end })
 }
 
 // OR at `at`, behind what stands in the output up to `to`.
-pub fn or_joint(text: &[u8], at: usize, out: &mut [u8], from: usize, to: usize) -> Joint
+pub fn or_joint(
+    text: &[u8],
+    at: usize,
+    out: &mut [u8],
+    from: usize,
+    to: usize,
+) -> Result<Joint, Bad>
     requires { head_is 79 (drop at text.now) ≡ true }
     ensures { Jointed text.now at ored (λ bs. bs ++ or_text) from to out.old out.new result }
 {
-    match or_word(text, at + 1) {
-        Went::Bad(p) => Joint::Off(p),
-        Went::At(n) => Joint::On(n, put_word(b" OR ", out, to)),
-    }
+    let next = or_word(text, at + 1)?;
+    let end = put(b" OR ", out, to);
+    Ok(Joint { next, end })
 }
 
 // The last operand of an AND: alone it stays as it is; behind others an OR is wrapped.
@@ -111,27 +117,8 @@ pub fn last(alone: bool, v: Value, out: &mut [u8], from: usize) -> Value
     }
     let end = wrap(v.or, out, from, v.end);
     Value {
-        next: v.next,
-        holds: v.holds,
         or: false,
-        end: end,
+        end,
+        ..v
     }
-}
-
-pub fn both(a: bool, b: bool) -> bool
-    ensures { result ≡ (a && b) }
-{
-    if a {
-        return b;
-    }
-    false
-}
-
-pub fn either(a: bool, b: bool) -> bool
-    ensures { result ≡ (a || b) }
-{
-    if a {
-        return true;
-    }
-    b
 }

@@ -12,11 +12,13 @@ use Rattle.expression.specs.Writing.{is_or, wrap, spell, satisfied}
 use Rattle.expression_bytes.specs.Front.{head_is}
 use Rattle.expression_output.specs.Output.{Put}
 use Rattle.expression_output.proofs.OutputLaws.{put_then, overlay-length, overlay-none, capped_fits}
+use Rattle.expression_parts.specs.Parts.{no_expression}
 use Rattle.expression_joints.specs.declared.Value.{Value}
 use Rattle.expression_joints.specs.Joints.{Lays, and_text, or_text}
 use Rattle.expression_joints.proofs.JointLaws.{Onward as Goes_on}
-use Rattle.expression_levels.specs.declared.Read.{Read}
-use Rattle.expression_levels.specs.declared.Read.TheVariants.{Of, No}
+use Rattle.std.specs.Prelude.{Result, Ok, Err}
+use Rattle.rules.specs.Told.{refusal_number}
+use Rattle.expression.specs.declared.Refused.{Refused}
 use Rattle.expression_levels.specs.Levels.{only_any, only_fresh, Valued, Onward, Told, told, no}
 
 -- ---- where no blank and no AND stands, what AND joins is one tree; and where no OR stands too, a level is
@@ -141,20 +143,20 @@ pub record Tree-none {X : Type 0} (begins : X → Level) (text : List ℕ) (at d
   pub kept : length d ≡ length s
 
 module _ {X : Type 0} {begins : X → Level} {list text : List ℕ} {at depth : ℕ} {ys s : List ℕ} {o : ℕ} {d : List ℕ} where
-  read_of : {v : Value} → Told begins list text at depth ys s o (Of v) d → Tree-read begins list text at depth ys s o v d
+  read_of : {v : Value} → Told begins list text at depth ys s o (Ok v) d → Tree-read begins list text at depth ys s o v d
   read_of (told t e i w) = record { tree = t; same = e; on = i; value = w }
 
-  pub was_read : {r : Read} {v : Value} → r ≡ Of v → Told begins list text at depth ys s o r d → Tree-read begins list text at depth ys s o v d
+  pub was_read : {r : Result Value Refused} {v : Value} → r ≡ Ok v → Told begins list text at depth ys s o r d → Tree-read begins list text at depth ys s o v d
   was_read e w = read_of (rw e at w)
 
-  none_of : {k p : ℕ} → Told begins list text at depth ys s o (No k p) d → Tree-none begins text at depth s d k p
+  none_of : {r : Refused} → Told begins list text at depth ys s o (Err r) d → Tree-none begins text at depth s d (refusal_number r.refusal) r.place
   none_of (no e l) = record { same = e; kept = l }
 
-  pub was_none : {r : Read} {k p : ℕ} → r ≡ No k p → Told begins list text at depth ys s o r d → Tree-none begins text at depth s d k p
+  pub was_none : {q : Result Value Refused} {r : Refused} → q ≡ Err r → Told begins list text at depth ys s o q d → Tree-none begins text at depth s d (refusal_number r.refusal) r.place
   was_none e w = none_of (rw e at w)
 
   -- the output's length is kept
-  pub told-kept : {r : Read} → Told begins list text at depth ys s o r d → length d ≡ length s
+  pub told-kept : {r : Result Value Refused} → Told begins list text at depth ys s o r d → length d ≡ length s
   told-kept (told t e i w) = put-length o (spell t) s w.put
   told-kept (no e k) = k
 
@@ -164,14 +166,14 @@ Breaks-off text at s d p = ((t : Tree) (l : Level) (fs : List Level) → refused
 
 -- ---- a turn of AND's loop
 module _ {list text s : List ℕ} {at depth o from : ℕ} {all alone : Bool} {end : ℕ} {d : List ℕ} (small : length s < 18446744073709551616) (a : Anding list text s at depth o from all alone end d) where
-  pub anding_no : {k p : ℕ} {e : List ℕ} → Tree-none (λ l. l) text from depth d e k p → Told only_any list text at depth (32 ∷ 65 ∷ []) s o (No k p) e
+  pub anding_no : {r : Refused} {e : List ℕ} → Tree-none (λ l. l) text from depth d e (refusal_number r.refusal) r.place → Told only_any list text at depth (32 ∷ 65 ∷ []) s o (Err r) e
   anding_no n = no (λ any fs h. n.same (record { any = any; all = a.so }) fs h ∙ a.same any fs h) (n.kept ∙ put-length o (and_so_far a.so) s a.put)
 
   module _ {v : Value} {e : List ℕ} (w : Tree-read (λ l. l) list text from depth (32 ∷ []) d end v e) where
     behind : (any : Option Tree) (fs : List Level) → length fs ≡ depth → run (drop v.next text) (Ctl.done w.tree) (record { any = any; all = a.so }) fs v.next ≡ run (drop at text) Ctl.want (only_any any) fs at
     behind any fs h = w.same (record { any = any; all = a.so }) fs h ∙ a.same any fs h
 
-    pub anding_off : {p : ℕ} {f : List ℕ} → Breaks-off text v.next e f p → Told only_any list text at depth (32 ∷ 65 ∷ []) s o (No 13 p) f
+    pub anding_off : {p : ℕ} {f : List ℕ} → Breaks-off text v.next e f p → Told only_any list text at depth (32 ∷ 65 ∷ []) s o (Err (no_expression p)) f
     anding_off b =
         no (λ any fs h. b.0 w.tree (record { any = any; all = a.so }) fs ∙ behind any fs h)
         (b.1 ∙ put-length end (spell w.tree) d w.value.put ∙ put-length o (and_so_far a.so) s a.put)
@@ -190,7 +192,7 @@ module _ {list text s : List ℕ} {at depth o from : ℕ} {all alone : Bool} {en
           put = rw (← and-more a.so w.tree) (put_then o (and_so_far a.so) (wrap (is_or w.tree) (spell w.tree) ++ and_text) s small a.put laid);
         }
 
-    pub anding_done : head_is 65 (drop v.next text) ≡ false → {r : Value} {f : List ℕ} → r.next ≡ v.next → r.holds ≡ (all && v.holds) → r.or ≡ (alone && v.or) → Lays (λ bs. wrap (not alone && v.or) bs) end v.end e f r.end → Told only_any list text at depth (32 ∷ 65 ∷ []) s o (Of r) f
+    pub anding_done : head_is 65 (drop v.next text) ≡ false → {r : Value} {f : List ℕ} → r.next ≡ v.next → r.holds ≡ (all && v.holds) → r.or ≡ (alone && v.or) → Lays (λ bs. wrap (not alone && v.or) bs) end v.end e f r.end → Told only_any list text at depth (32 ∷ 65 ∷ []) s o (Ok r) f
     anding_done stops {r = r} {f = f} n h k lays =
         let laid : Put end (wrap (not (is_none a.so) && is_or w.tree) (spell w.tree)) d f r.end = rw (← a.lone, ← w.value.or) (lays (spell w.tree) d w.value.put.0 w.value.put.1) in
         told {v = r} {d = f} (and_of a.so w.tree)
@@ -204,14 +206,14 @@ module _ {list text s : List ℕ} {at depth o from : ℕ} {all alone : Bool} {en
 
 -- ---- a turn of OR's loop
 module _ {list text s : List ℕ} {at depth o from : ℕ} {any several : Bool} {end : ℕ} {d : List ℕ} (small : length s < 18446744073709551616) (a : Oring list text s at depth o from any several end d) where
-  pub oring_no : {k p : ℕ} {e : List ℕ} → Tree-none only_any text from depth d e k p → Told only_fresh list text at depth (32 ∷ 65 ∷ 79 ∷ []) s o (No k p) e
+  pub oring_no : {r : Refused} {e : List ℕ} → Tree-none only_any text from depth d e (refusal_number r.refusal) r.place → Told only_fresh list text at depth (32 ∷ 65 ∷ 79 ∷ []) s o (Err r) e
   oring_no n = no (λ u fs h. n.same a.so fs h ∙ a.same fs h) (n.kept ∙ put-length o (or_so_far a.so) s a.put)
 
   module _ {v : Value} {e : List ℕ} (w : Tree-read only_any list text from depth (32 ∷ 65 ∷ []) d end v e) where
     beyond : (fs : List Level) → length fs ≡ depth → run (drop v.next text) (Ctl.done w.tree) (only_any a.so) fs v.next ≡ run (drop at text) Ctl.want fresh fs at
     beyond fs h = w.same a.so fs h ∙ a.same fs h
 
-    pub oring_off : {p : ℕ} {f : List ℕ} → Breaks-off text v.next e f p → Told only_fresh list text at depth (32 ∷ 65 ∷ 79 ∷ []) s o (No 13 p) f
+    pub oring_off : {p : ℕ} {f : List ℕ} → Breaks-off text v.next e f p → Told only_fresh list text at depth (32 ∷ 65 ∷ 79 ∷ []) s o (Err (no_expression p)) f
     oring_off b =
         no (λ u fs h. b.0 w.tree (only_any a.so) fs ∙ beyond fs h)
         (b.1 ∙ put-length end (spell w.tree) d w.value.put ∙ put-length o (or_so_far a.so) s a.put)
@@ -229,7 +231,7 @@ module _ {list text s : List ℕ} {at depth o from : ℕ} {any several : Bool} {
           put = rw (← or-more a.so w.tree) (put_then o (or_so_far a.so) (spell w.tree ++ or_text) s small a.put (g.lays (spell w.tree) d w.value.put.0 w.value.put.1));
         }
 
-    pub oring_done : head_is 79 (drop v.next text) ≡ false → {r : Value} → r.next ≡ v.next → r.holds ≡ (any || v.holds) → r.or ≡ (several || v.or) → r.end ≡ v.end → Told only_fresh list text at depth (32 ∷ 65 ∷ 79 ∷ []) s o (Of r) e
+    pub oring_done : head_is 79 (drop v.next text) ≡ false → {r : Value} → r.next ≡ v.next → r.holds ≡ (any || v.holds) → r.or ≡ (several || v.or) → r.end ≡ v.end → Told only_fresh list text at depth (32 ∷ 65 ∷ 79 ∷ []) s o (Ok r) e
     oring_done stops {r = r} n h k i =
         told {v = r} {d = e} (or_of a.so w.tree)
         (λ u fs j. rw n (or-done (drop v.next text) w.tree a.so fs v.next w.on.stops.0 w.on.stops.1.0 stops ∙ beyond fs j))

@@ -15,14 +15,15 @@ use Rattle.expression.specs.Writing.{is_or, spell, spell_part, satisfied, met_in
 use Rattle.expression_bytes.specs.Front.{head_is}
 use Rattle.expression_bytes.proofs.StateLaws as state
 use Rattle.expression_parts.specs.declared.parts.PartAt.{PartAt}
-use Rattle.expression_parts.specs.declared.parts.Got.{Got}
-use Rattle.expression_parts.specs.declared.parts.Got.TheVariants.{Part as PartGot, Bad as NoPart}
-use Rattle.expression_parts.specs.Parts.{part_of, Inside, Reads, reads, stuck}
+use Rattle.expression_parts.specs.declared.parts.Bad.{Bad}
+use Rattle.expression_parts.specs.Parts.{part_of, no_expression, Inside, Reads, reads, stuck}
 use Rattle.expression_parts.proofs.AnswerLaws as answer
 use Rattle.expression_output.specs.Output.{Put}
 use Rattle.expression_joints.specs.declared.Value.{Value}
-use Rattle.expression_levels.specs.declared.Read.{Read}
-use Rattle.expression_levels.specs.declared.Read.TheVariants.{Of, No}
+use Rattle.std.specs.Prelude.{Result, Ok, Err}
+use Rattle.rules.specs.declared.Refusal.TheVariants as because
+use Rattle.rules.specs.Told.{refusal_number}
+use Rattle.expression.specs.declared.Refused.{Refused}
 use Rattle.expression_levels.specs.Levels.{only_fresh, Told, told, no}
 use Rattle.expression_levels.proofs.LevelLaws.{Tree-read, Tree-none}
 
@@ -32,7 +33,7 @@ module _ (text : List ℕ) (at from : ℕ) (b : from ≡ at + lead (eqb 32) (dro
   unfolding next
   over l fs = answer.over-blanks text at Ctl.want l fs refl from b
 
-  pub from-blanks : {list : List ℕ} {depth : ℕ} {ys s : List ℕ} {o : ℕ} {r : Read} {d : List ℕ} → Told (λ l. l) list text from depth ys s o r d → Told (λ l. l) list text at depth ys s o r d
+  pub from-blanks : {list : List ℕ} {depth : ℕ} {ys s : List ℕ} {o : ℕ} {r : Result Value Refused} {d : List ℕ} → Told (λ l. l) list text from depth ys s o r d → Told (λ l. l) list text at depth ys s o r d
   from-blanks (told {v = v} {d = d} t e i w) = told {v = v} {d = d} t (λ l fs h. e l fs h ∙ over l fs) record { low = (let k = i.low in omega arith); high = i.high; stops = i.stops } w
   from-blanks (no e k) = no (λ l fs h. e l fs h ∙ over l fs) k
 
@@ -42,20 +43,20 @@ module _ (text : List ℕ) (from : ℕ) (start : Level → List Level → Verdic
     pub same : (l : Level) (fs : List Level) → run (drop p.next text) (Ctl.done (leaf (part_of text p))) l fs p.next ≡ start l fs
     pub in_text : Inside text from p
 
-  read_of : {p : PartAt} → Reads text from start (PartGot p) → Part-read p
+  read_of : {p : PartAt} → Reads text from start (Ok p) → Part-read p
   read_of (reads e i) = record { same = e; in_text = i }
 
-  pub part-read : {r : Got} {p : PartAt} → r ≡ PartGot p → Reads text from start r → Part-read p
+  pub part-read : {r : Result PartAt Bad} {p : PartAt} → r ≡ Ok p → Reads text from start r → Part-read p
   part-read e w = read_of (rw e at w)
 
-  none_of : {p : ℕ} → Reads text from start (NoPart p) → (l : Level) (fs : List Level) → refused 13 p ≡ start l fs
+  none_of : {b : Bad} → Reads text from start (Err b) → (l : Level) (fs : List Level) → refused 13 b.place ≡ start l fs
   none_of (stuck e) = e
 
-  pub part_none : {r : Got} {p : ℕ} → r ≡ NoPart p → Reads text from start r → (l : Level) (fs : List Level) → refused 13 p ≡ start l fs
+  pub part_none : {r : Result PartAt Bad} {b : Bad} → r ≡ Err b → Reads text from start r → (l : Level) (fs : List Level) → refused 13 b.place ≡ start l fs
   part_none e w = none_of (rw e at w)
 
 module _ (list text : List ℕ) (at depth : ℕ) (s : List ℕ) (o : ℕ) where
-  pub part-told : {p : PartAt} {v : Value} {d : List ℕ} → Part-read text (at + 1) (λ l fs. run (drop at text) Ctl.want l fs at) p → v.next ≡ p.next → v.holds ≡ met_in (part_of text p) (split 10 list) → v.or ≡ false → Put o (spell_part (part_of text p)) s d v.end → Told (λ l. l) list text at depth (32 ∷ []) s o (Of v) d
+  pub part-told : {p : PartAt} {v : Value} {d : List ℕ} → Part-read text (at + 1) (λ l fs. run (drop at text) Ctl.want l fs at) p → v.next ≡ p.next → v.holds ≡ met_in (part_of text p) (split 10 list) → v.or ≡ false → Put o (spell_part (part_of text p)) s d v.end → Told (λ l. l) list text at depth (32 ∷ []) s o (Ok v) d
   unfolding satisfied is_or spell
   part-told {p = p} {v = v} {d = d} r n h k w =
       told {v = v} {d = d} (leaf (part_of text p)) (λ l fs i. rw n (r.same l fs))
@@ -64,10 +65,10 @@ module _ (list text : List ℕ) (at depth : ℕ) (s : List ℕ) (o : ℕ) where
 
   -- ---- a group
   module _ (from : ℕ) (b : from ≡ at + lead (eqb 32) (drop at text)) (opens : head_is 40 (drop from text) ≡ true) where
-    pub too_deep : depth_most ≤ depth → Told (λ l. l) list text at depth (32 ∷ []) s o (No 14 from) s
+    pub too_deep : depth_most ≤ depth → Told (λ l. l) list text at depth (32 ∷ []) s o (Err (record { refusal = because.TooDeep; place = from })) s
     unfolding next opening follow
     too_deep k =
-        no {k = 14} {p = from} (λ l fs h. sym (state.step (drop from text) Ctl.want l fs from 40 opens ∙ rw (h, le-ltb depth depth_most k)) ∙ over text at from b l fs) refl
+        no {r = record { refusal = because.TooDeep; place = from }} (λ l fs h. sym (state.step (drop from text) Ctl.want l fs from 40 opens ∙ rw (h, le-ltb depth depth_most k)) ∙ over text at from b l fs) refl
 
     inside : depth < depth_most → (l : Level) (fs : List Level) → length fs ≡ depth → run (drop (from + 1) text) Ctl.want fresh (l ∷ fs) (from + 1) ≡ run (drop at text) Ctl.want l fs at
     unfolding next opening follow
@@ -77,17 +78,17 @@ module _ (list text : List ℕ) (at depth : ℕ) (s : List ℕ) (o : ℕ) where
     deeper : (fs : List Level) (l : Level) → length fs ≡ depth → length (l ∷ fs) ≡ depth + 1
     deeper fs l h = ap suc h ∙ sym (add-one depth)
 
-    pub group-no : depth < depth_most → {k p : ℕ} {d : List ℕ} → Tree-none only_fresh text (from + 1) (depth + 1) s d k p → Told (λ l. l) list text at depth (32 ∷ []) s o (No k p) d
+    pub group-no : depth < depth_most → {r : Refused} {d : List ℕ} → Tree-none only_fresh text (from + 1) (depth + 1) s d (refusal_number r.refusal) r.place → Told (λ l. l) list text at depth (32 ∷ []) s o (Err r) d
     group-no i n = no (λ l fs h. n.same tt (l ∷ fs) (deeper fs l h) ∙ inside i l fs h) n.kept
 
     module _ (i : depth < depth_most) {v : Value} {d : List ℕ} (w : Tree-read only_fresh list text (from + 1) (depth + 1) (32 ∷ 65 ∷ 79 ∷ []) s o v d) where
       filled : (l : Level) (fs : List Level) → length fs ≡ depth → run (drop v.next text) (Ctl.done w.tree) fresh (l ∷ fs) v.next ≡ run (drop at text) Ctl.want l fs at
       filled l fs h = w.same tt (l ∷ fs) (deeper fs l h) ∙ inside i l fs h
 
-      pub group_open : {p : ℕ} → length d ≡ length s → ((t : Tree) (l : Level) (fs : List Level) → refused 13 p ≡ run (drop v.next text) (Ctl.done t) fresh (l ∷ fs) v.next) → Told (λ l. l) list text at depth (32 ∷ []) s o (No 13 p) d
+      pub group_open : {p : ℕ} → length d ≡ length s → ((t : Tree) (l : Level) (fs : List Level) → refused 13 p ≡ run (drop v.next text) (Ctl.done t) fresh (l ∷ fs) v.next) → Told (λ l. l) list text at depth (32 ∷ []) s o (Err (no_expression p)) d
       group_open k e = no (λ l fs h. e w.tree l fs ∙ filled l fs h) k
 
-      pub group-told : {r : Value} → ((t : Tree) (l : Level) (fs : List Level) → run (drop r.next text) (Ctl.done t) l fs r.next ≡ run (drop v.next text) (Ctl.done t) fresh (l ∷ fs) v.next) → v.next ≤ r.next → r.next ≤ length text → head_is 32 (drop r.next text) ≡ false → r.holds ≡ v.holds → r.or ≡ v.or → r.end ≡ v.end → Told (λ l. l) list text at depth (32 ∷ []) s o (Of r) d
+      pub group-told : {r : Value} → ((t : Tree) (l : Level) (fs : List Level) → run (drop r.next text) (Ctl.done t) l fs r.next ≡ run (drop v.next text) (Ctl.done t) fresh (l ∷ fs) v.next) → v.next ≤ r.next → r.next ≤ length text → head_is 32 (drop r.next text) ≡ false → r.holds ≡ v.holds → r.or ≡ v.or → r.end ≡ v.end → Told (λ l. l) list text at depth (32 ∷ []) s o (Ok r) d
       group-told {r = r} e lo hi st h k z =
           told {v = r} {d = d} w.tree (λ l fs j. e w.tree l fs ∙ filled l fs j)
           record { low = (let x = w.on.low in omega (arith, b)); high = hi; stops = (st, tt) }

@@ -1,16 +1,17 @@
--- Byte strings that are the same letter case aside, byte by byte (`alike-step`): they are as long as each other (`alike-length`).
+-- Byte strings that are the same letter case aside: they are as long as each other (`alike-length`), and std's comparison is this (`alike_is`).
 -- Assumes nothing.
-use mathlib.Core.Path.{◌≡◌, refl, sym, ap, ◌∙◌}
-use Prim.Native.Nat.{ℕ, suc, ◌+◌, ◌≤◌, ◌<◌, compare, Ordering}
-use mathlib.Core.Bool.{Bool, true, false, ◌&&◌}
+use mathlib.Core.Path.{◌≡◌, refl, sym, ap, ap₂, ◌∙◌}
+use Prim.Native.Nat.{ℕ, suc, ◌+◌, compare, Ordering}
+use mathlib.Core.Bool.{Bool, true, false, ◌&&◌, cond}
 use mathlib.Core.List.{List, [], ◌∷◌, map}
 use native.Mathlib.Omega.{arith}
-use borrow.Author.Tests.{ne_eqb}
-use lib.Dec.{eqb, compare_is_eq}
-use lib.ListN.{length, take, drop, get_or, length-drop}
-use lib.Seq.{get_or-take, get_or-drop, length-take-le}
-use Rattle.rules.specs.Bytes.{order, same}
-use Rattle.lists.proofs.SliceLaws.{drop-next, drop-done}
+use Rattle.std.specs.Prelude.{◌↔◌, IsTrue}
+use Rattle.std.specs.Char.{to_ascii_lowercase}
+use borrow.Author.Tests.{ne_eqb, ltb-true, ltb-false, le-leb, lt-leb}
+use lib.Dec.{eqb, ltb, leb, compare_is_eq}
+use lib.ListN.{length}
+use Rattle.rules.specs.Bytes.{order, same, within}
+use Rattle.rules.proofs.PrefixLaws.{same_self, same_true}
 use Rattle.rules.proofs.BoolLaws.{and_right}
 use Rattle.expression.specs.Writing.{lowered, alike}
 use Rattle.expression_bytes.proofs.FrontLaws.{false_true}
@@ -24,14 +25,6 @@ first Ordering.gt r = refl
 alike_cons : (x y : ℕ) (v w : List ℕ) → alike (x ∷ v) (y ∷ w) ≡ (eqb (lowered x) (lowered y) && alike v w)
 unfolding alike same order
 alike_cons x y v w = first (compare (lowered x) (lowered y)) (order (map lowered v) (map lowered w))
-
-pub alike-step : (v w : List ℕ) (k : ℕ) → k < length v → k < length w
-    → alike (drop k v) (drop k w) ≡ (eqb (lowered (get_or v k 0)) (lowered (get_or w k 0)) && alike (drop (k + 1) v) (drop (k + 1) w))
-alike-step v w k h i = rw (drop-next v k h, drop-next w k i) (alike_cons (get_or v k 0) (get_or w k 0) (drop (k + 1) v) (drop (k + 1) w))
-
-pub alike-done : (v w : List ℕ) (k : ℕ) → length v ≤ k → length w ≤ k → true ≡ alike (drop k v) (drop k w)
-unfolding alike same order
-alike-done v w k h i = rw (drop-done v k h, drop-done w k i)
 
 -- ---- by length
 pub alike-length : (v w : List ℕ) → alike v w ≡ true → length v ≡ length w
@@ -52,10 +45,25 @@ unfolding alike same order
 alike-none [] = refl
 alike-none (x ∷ v) = sym (ne_eqb (suc (length v)) 0 (λ e. omega (arith, e)))
 
--- ---- a part of a text
-module _ (l : List ℕ) (at n : ℕ) where
-  pub part_length : at + n ≤ length l → length (take n (drop at l)) ≡ n
-  part_length h = length-take-le n (drop at l) (omega (arith, length-drop at l))
+-- ---- as std compares
+lowered_ascii : (x : ℕ) → to_ascii_lowercase x ≡ lowered x
+unfolding lowered within
+lowered_ascii x = at (ltb x 65) refl (ltb x 91) refl where
+  at : (a : Bool) → ltb x 65 ≡ a → (b : Bool) → ltb x 91 ≡ b → cond a x (cond b (x + 32) x) ≡ cond (leb 65 x && leb x 90) (x + 32) x
+  at true e b f = rw (lt-leb 65 x (ltb-true x 65 e))
+  at false e true f = rw (le-leb 65 x (ltb-false x 65 e), le-leb x 90 (omega (arith, ltb-true x 91 f)))
+  at false e false f = rw (le-leb 65 x (ltb-false x 65 e), lt-leb x 90 (omega (arith, ltb-false x 91 f)))
 
-  pub part_byte : (k : ℕ) → k < n → get_or (take n (drop at l)) k 0 ≡ get_or l (at + k) 0
-  part_byte k h = get_or-take n (drop at l) k 0 h ∙ get_or-drop at l k 0
+map_lowered : (v : List ℕ) → map to_ascii_lowercase v ≡ map lowered v
+map_lowered [] = refl
+map_lowered (x ∷ v) = ap₂ ◌∷◌ (lowered_ascii x) (map_lowered v)
+
+pub alike_is : (r : Bool) (v w : List ℕ) → (IsTrue r ↔ (map to_ascii_lowercase v ≡ map to_ascii_lowercase w)) → r ≡ alike v w
+unfolding alike
+alike_is true v w h =
+    let e : map lowered v ≡ map lowered w = sym (map_lowered v) ∙ h.0 refl ∙ map_lowered w in
+    sym (ap (λ (u : List ℕ). same (map lowered v) u) (sym e) ∙ same_self (map lowered v))
+alike_is false v w h = on (alike v w) refl where
+  on : (t : Bool) → alike v w ≡ t → false ≡ t
+  on true e = h.1 (map_lowered v ∙ same_true (map lowered v) (map lowered w) e ∙ sym (map_lowered w))
+  on false e = refl

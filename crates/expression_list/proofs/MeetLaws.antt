@@ -17,9 +17,10 @@ use Rattle.expression.specs.Writing.{alike, agree, meets, met_in}
 use Rattle.expression_bytes.specs.Front.{spelt}
 use Rattle.expression_bytes.proofs.FrontLaws.{false_true}
 use Rattle.expression_bytes.proofs.KindLaws.{starts-spelt}
+use Rattle.std.specs.Prelude.{Result, Ok, Err}
 use Rattle.expression_parts.specs.declared.names.Simple.{Simple}
-use Rattle.expression_parts.specs.declared.names.Simple.TheVariants.{Of, Stuck}
-use Rattle.expression_parts.specs.Simple.{simple_at}
+use Rattle.expression_parts.specs.declared.names.Stuck.{Stuck}
+use Rattle.expression_parts.specs.Simple.{simple_of, simple_at}
 use Rattle.expression_place.specs.Line.{ends, with_text, exc_here, exc_at, rest_at, line_at, met_by}
 use Rattle.expression_place.proofs.ListLaws.{met-lines}
 use Rattle.expression_list.specs.Rest.{behind, exc_met, rest_met}
@@ -46,12 +47,12 @@ rest-apart v w plus more x t = on (ends t) (starts with_text t) (ltb 0 k && not 
   on false false c = sym (and-false (alike v w && agree plus more))
 
 module _ (v x : List ℕ) (plus : Bool) (s : List ℕ) where
-  pub line-apart : (m : ℕ) (more : Bool) → simple_at s ≡ Of m more
+  pub line-apart : (m : ℕ) (more : Bool) → simple_at s ≡ simple_of m more
       → met_by (part v plus x) (line_at s) ≡ (alike v (take m s) && agree plus more && rest_met x (drop (behind m more) s))
   unfolding by_line
   line-apart m more e = rw (line-simple s, e) (rest-apart v (take m s) plus more x (drop (behind m more) s))
 
-  pub line-stuck : (k : ℕ) → simple_at s ≡ Stuck k → met_by (part v plus x) (line_at s) ≡ false
+  pub line-stuck : (k : Stuck) → simple_at s ≡ Err k → met_by (part v plus x) (line_at s) ≡ false
   unfolding by_line met_by
   line-stuck k e = rw (line-simple s, e)
 
@@ -70,9 +71,9 @@ line_not v x plus s h = rw (line-simple s) (on (simple_at s)) where
       false_true (sym h ∙ ap (alike v) q ∙ e)
   other m false e = refl
 
-  on : (o : Simple) → met_by (part v plus x) (by_line s o) ≡ false
-  on (Of m more) = rest-apart v (take m s) plus more x (drop (behind m more) s) ∙ rw (other m (alike v (take m s)) refl)
-  on (Stuck k) = refl
+  on : (o : Result Simple Stuck) → met_by (part v plus x) (by_line s o) ≡ false
+  on (Ok r) = rest-apart v (take r.len s) plus r.plus x (drop (behind r.len r.plus) s) ∙ rw (other r.len (alike v (take r.len s)) refl)
+  on (Err k) = refl
 
 -- ---- an exception by the tests of its bytes
 pub exc_by : (x s : List ℕ) (k : ℕ) → k ≡ lead id_byte s

@@ -2,7 +2,8 @@
 -- Assumes nothing.
 use mathlib.Core.Path.{◌≡◌, refl, sym, ap, ◌∙◌}
 use Prim.Native.Nat.{ℕ, zero, suc, ◌+◌, ◌≤◌}
-use mathlib.Core.Bool.{Bool, true, false, cond, ◌&&◌}
+use mathlib.Core.Bool.{Bool, true, false, cond, beq, ◌&&◌}
+use mir.Val.{bool_byte}
 use mathlib.Core.List.{List, [], ◌∷◌}
 use mathlib.Core.Option.{Option, none}
 use native.Mathlib.Omega.{arith}
@@ -13,19 +14,21 @@ use lib.Seq.{drop-drop}
 use Rattle.rules.specs.Bytes.{lead, starts}
 use Rattle.rules.proofs.PlaceLaws.{lead-most}
 use Rattle.expression.specs.Reading.{id_byte, license_ref, Kind, bare, license, reference, document, kind_of, Part}
+use Rattle.expression.specs.Writing.{agree}
 use Rattle.expression_bytes.specs.Front.{head_is, spelt}
 use Rattle.expression_bytes.proofs.FrontLaws.{head-within, spelt-inside, drop-one}
 use Rattle.expression_bytes.proofs.KindLaws.{starts-spelt}
+use Rattle.std.specs.Prelude.{Result, Ok, Err}
 use Rattle.expression_parts.specs.declared.names.Simple.{Simple}
-use Rattle.expression_parts.specs.declared.names.Simple.TheVariants.{Of, Stuck}
-use Rattle.expression_parts.specs.Simple.{idstring, after_colon, after_document, by_kind, behind_ids, simple_at}
+use Rattle.expression_parts.specs.declared.names.Stuck.{Stuck}
+use Rattle.expression_parts.specs.Simple.{simple_of, stuck_behind, idstring, after_colon, after_document, by_kind, behind_ids, simple_at}
 use Rattle.expression_place.specs.Line.{colon_ref, rest_at, license_at, ref_here, document_at, kind_at, front_at, line_at}
 use Rattle.expression_list.specs.Rest.{behind}
 
 -- ---- a line by the simple expression at its front
-unfoldable pub by_line : List ℕ → Simple → Option Part
-by_line s (Of n plus) = rest_at (take n s) plus (drop (behind n plus) s)
-by_line s (Stuck k) = none
+unfoldable pub by_line : List ℕ → Result Simple Stuck → Option Part
+by_line s (Ok r) = rest_at (take r.len s) r.plus (drop (behind r.len r.plus) s)
+by_line s (Err k) = none
 
 plus_starts : (s : List ℕ) → starts (43 ∷ []) s ≡ head_is 43 s
 unfolding spelt head_is
@@ -54,7 +57,7 @@ past-ref s n =
     ap (drop 11) (drop-one n s) ∙ drop-drop 11 (n + 1) s ∙ ap (λ (m : ℕ). drop m s) q
 
 module _ (s : List ℕ) (n : ℕ) where
-  license-line : license_at s n ≡ by_line s (Of n (head_is 43 (drop n s)))
+  license-line : license_at s n ≡ by_line s (simple_of n (head_is 43 (drop n s)))
   unfolding license_at by_line behind
   license-line = rw (plus_starts (drop n s)) (on (head_is 43 (drop n s))) where
     on : (t : Bool) → cond t (rest_at (take n s) true (drop (n + 1) s)) (rest_at (take n s) false (drop n s)) ≡ rest_at (take n s) t (drop (behind n t) s)
@@ -66,7 +69,7 @@ module _ (s : List ℕ) (n : ℕ) where
   document-line = rw (colon-starts (drop n s), past-ref s n)
       (on (head_is 58 (drop n s)) (eqb (spelt license_ref (drop 1 (drop n s))) 11) (lead id_byte (drop (n + 12) s)) (spelt license_ref (drop 1 (drop n s)))) where
         on : (a b : Bool) (k m : ℕ) → cond (a && b) (cond (ltb 0 k) (rest_at (take (n + 12 + k) s) false (drop (n + 12 + k) s)) none) none
-            ≡ by_line s (cond a (cond b (cond (eqb k 0) (Stuck (n + 12)) (Of (n + 12 + k) false)) (Stuck (n + 1 + m))) (Stuck n))
+            ≡ by_line s (cond a (cond b (cond (eqb k 0) (stuck_behind (n + 12)) (simple_of (n + 12 + k) false)) (stuck_behind (n + 1 + m))) (stuck_behind n))
         on true true zero m = refl
         on true true (suc k) m = rw (eqb-suc-zero k, lt-ltb 0 (suc k) (omega arith))
         on true false k m = refl
@@ -82,7 +85,7 @@ module _ (s : List ℕ) (n : ℕ) where
   front-line : front_at s n ≡ by_line s (behind_ids n s)
   unfolding front_at behind_ids by_line
   front-line = on (eqb n 0) where
-    on : (t : Bool) → cond t none (kind_at (kind_of (take n s)) s n) ≡ by_line s (cond t (Stuck 0) (by_kind (kind_of (take n s)) n (drop n s)))
+    on : (t : Bool) → cond t none (kind_at (kind_of (take n s)) s n) ≡ by_line s (cond t (stuck_behind 0) (by_kind (kind_of (take n s)) n (drop n s)))
     on true = refl
     on false = kind-line (kind_of (take n s))
 
@@ -91,12 +94,12 @@ unfolding line_at simple_at
 line-simple s = front-line s (lead id_byte s)
 
 -- ---- its identifier and + stand in the list
-abbrev pub Fits : List ℕ → Simple → Type 0
-Fits s (Of n plus) = behind n plus ≤ length s
-Fits s (Stuck k) = Unit {0}
+abbrev pub Fits : List ℕ → Result Simple Stuck → Type 0
+Fits s (Ok r) = behind r.len r.plus ≤ length s
+Fits s (Err k) = Unit {0}
 
 module _ (s : List ℕ) (n : ℕ) (h : n ≤ length s) where
-  license_fits : Fits s (Of n (head_is 43 (drop n s)))
+  license_fits : Fits s (simple_of n (head_is 43 (drop n s)))
   unfolding behind
   license_fits = on (head_is 43 (drop n s)) refl where
     on : (t : Bool) → head_is 43 (drop n s) ≡ t → behind n t ≤ length s
@@ -113,7 +116,7 @@ module _ (s : List ℕ) (n : ℕ) (h : n ≤ length s) where
     m = lead id_byte (drop 11 d)
 
     on : (a : Bool) → head_is 58 (drop n s) ≡ a → (b : Bool) → eqb (spelt license_ref d) 11 ≡ b → (c : Bool)
-        → Fits s (cond a (cond b (cond c (Stuck (n + 12)) (Of (n + 12 + m) false)) (Stuck (n + 1 + spelt license_ref d))) (Stuck n))
+        → Fits s (cond a (cond b (cond c (stuck_behind (n + 12)) (simple_of (n + 12 + m) false)) (stuck_behind (n + 1 + spelt license_ref d))) (stuck_behind n))
     on true e true f true = tt
     on true e true f false =
         let i = head-within s n 58 e in
@@ -135,17 +138,21 @@ simple_fits s = on (eqb n 0) where
   n : ℕ
   n = lead id_byte s
 
-  on : (t : Bool) → Fits s (cond t (Stuck 0) (by_kind (kind_of (take n s)) n (drop n s)))
+  on : (t : Bool) → Fits s (cond t (stuck_behind 0) (by_kind (kind_of (take n s)) n (drop n s)))
   on true = tt
   on false = kind_fits s n (lead-most id_byte s) (kind_of (take n s))
 
-pub behind_plus : (n : ℕ) (t : Bool) → t ≡ true → behind n t ≡ n + 1
+pub behind_byte : (n : ℕ) (t : Bool) → n + bool_byte t ≡ behind n t
 unfolding behind
-behind_plus n t e = rw e
+behind_byte n true = refl
+behind_byte n false = omega arith
 
-pub behind_only : (n : ℕ) (t : Bool) → t ≡ false → behind n t ≡ n
-unfolding behind
-behind_only n t e = rw e
+pub agree_beq : (a b : Bool) → agree a b ≡ beq a b
+unfolding agree
+agree_beq true true = refl
+agree_beq true false = refl
+agree_beq false true = refl
+agree_beq false false = refl
 
 pub behind_least : (n : ℕ) (t : Bool) → n ≤ behind n t
 unfolding behind

@@ -2,154 +2,99 @@
 // part, and its end looked for. Assumes nothing.
 #![tactic(auto)]
 
-ghost use Rattle.std.specs.Prelude.{◌≡◌, ◌&&◌, ◌+◌, ◌≤◌, length, drop, take};
+ghost use Rattle.std.specs.Prelude.{◌≡◌, ◌&&◌, ◌+◌, ◌≤◌, length, drop};
 ghost use Rattle.rules.specs.Bytes.{split};
 ghost use Rattle.expression.specs.Reading.{part as part_from};
-ghost use Rattle.expression.specs.Writing.{lowered, alike as is_alike, agree, met_in};
+ghost use Rattle.expression.specs.Writing.{alike as is_alike, agree, met_in};
 ghost use Rattle.expression_parts.specs.Parts.{part_of};
 ghost use Rattle.expression_place.specs.Line.{ends, line_at, met_by};
 ghost use Rattle.expression_list.specs.Rest.{behind, exc_met, rest_met};
 
 use expression_bytes::{ids, letters};
-use expression_parts::names::{Simple, is_word, simple_at};
+use expression_parts::names::{Span, is_word, simple_at};
 use expression_parts::parts::PartAt;
 use slices::lead::line_len;
 
-fn lower(x: u8) -> u8
-    ensures { result ≡ lowered x }
+// The same, letter case aside.
+fn alike(a: &[u8], b: &[u8]) -> bool
+    ensures { result ≡ is_alike a.now b.now }
 {
-    if x < 65 {
-        return x;
-    }
-    if 90 < x {
-        return x;
-    }
-    x + 32
-}
-
-// The n bytes at i of the list are those at `at` of the text, letter case aside.
-fn alike(list: &[u8], i: usize, text: &[u8], at: usize, n: usize) -> bool
-    requires { (i + n ≤ length list.now) × (at + n ≤ length text.now) }
-    ensures { result ≡ is_alike (take n (drop at text.now)) (take n (drop i list.now)) }
-{
-    let mut k = 0;
-    while k < n {
-        if lower(text[at + k]) != lower(list[i + k]) {
-            return false;
-        }
-        k += 1;
-    }
-    true
+    a.eq_ignore_ascii_case(b)
 }
 
 // A line ends at `at`.
 fn line_ends(list: &[u8], at: usize) -> bool
     ensures { result ≡ ends (drop at list.now) }
 {
-    if at < list.len() {
-        return list[at] == 10;
-    }
-    true
+    list.len() <= at || list[at] == b'\n'
 }
 
-// The exception at `at` of the list ends its line, and is that of xn bytes at x of the text.
-fn exc_meets(list: &[u8], at: usize, text: &[u8], x: usize, xn: usize) -> bool
-    requires { (at ≤ length list.now) × (x + xn ≤ length text.now) }
-    ensures { result ≡ exc_met (take xn (drop x text.now)) (drop at list.now) }
+// The exception at `at` of the list ends its line, and is this.
+fn exc_meets(list: &[u8], at: usize, exception: &[u8]) -> bool
+    requires { at ≤ length list.now }
+    ensures { result ≡ exc_met exception.now (drop at list.now) }
 {
-    let k = ids(list, at);
-    if k == 0 {
+    let len = ids(list, at);
+    if len == 0 || !line_ends(list, at + len) {
         return false;
     }
-    if k != xn {
-        return false;
-    }
-    if !line_ends(list, at + k) {
-        return false;
-    }
-    if is_word(list, at, k) {
-        return false;
-    }
-    alike(list, at, text, x, k)
+    let found = Span { at, len };
+    !is_word(found.of(list)) && alike(exception, found.of(list))
 }
 
 // Behind a line's identifier and its +.
-fn rest_meets(list: &[u8], at: usize, text: &[u8], x: usize, xn: usize) -> bool
-    requires { (at ≤ length list.now) × (x + xn ≤ length text.now) }
-    ensures { result ≡ rest_met (take xn (drop x text.now)) (drop at list.now) }
+fn rest_meets(list: &[u8], at: usize, exception: &[u8]) -> bool
+    requires { at ≤ length list.now }
+    ensures { result ≡ rest_met exception.now (drop at list.now) }
 {
     if line_ends(list, at) {
-        return xn == 0;
+        return exception.is_empty();
     }
-    if letters(list, at, b" WITH ") < 6 {
-        return false;
-    }
-    exc_meets(list, at + 6, text, x, xn)
+    letters(list, at, b" WITH ") == 6 && exc_meets(list, at + 6, exception)
 }
 
 // Behind a line's identifier, whose + stands at `at` if there is one.
-fn sign_meets(
-    list: &[u8],
-    at: usize,
-    more: bool,
-    text: &[u8],
-    plus: bool,
-    x: usize,
-    xn: usize,
-) -> bool
-    requires { (behind at more ≤ length list.now) × (x + xn ≤ length text.now) }
-    ensures { result ≡ (agree plus more && rest_met (take xn (drop x text.now)) (drop (behind at more) list.now)) }
+fn sign_meets(list: &[u8], at: usize, more: bool, plus: bool, exception: &[u8]) -> bool
+    requires { behind at more ≤ length list.now }
+    ensures { result ≡ (agree plus more && rest_met exception.now (drop (behind at more) list.now)) }
 {
-    if plus {
-        if !more {
-            return false;
-        }
-        return rest_meets(list, at + 1, text, x, xn);
-    }
-    if more {
-        return false;
-    }
-    rest_meets(list, at, text, x, xn)
+    plus == more && rest_meets(list, at + usize::from(more), exception)
 }
 
-// The line at i is a part, and meets that of the text.
-fn line_meets(
-    list: &[u8],
-    i: usize,
-    text: &[u8],
-    at: usize,
-    n: usize,
-    plus: bool,
-    x: usize,
-    xn: usize,
-) -> bool
-    requires { (i ≤ length list.now) × (at + n ≤ length text.now) × (x + xn ≤ length text.now) }
-    ensures { result ≡ met_by (part_from (take n (drop at text.now)) plus (take xn (drop x text.now))) (line_at (drop i list.now)) }
+// The line at i is a part, and meets this.
+fn line_meets(list: &[u8], i: usize, name: &[u8], plus: bool, exception: &[u8]) -> bool
+    requires { i ≤ length list.now }
+    ensures { result ≡ met_by (part_from name.now plus exception.now) (line_at (drop i list.now)) }
 {
-    if list.len() - i < n {
+    let len = name.len();
+    if list.len() - i < len {
         return false;
     }
-    if !alike(list, i, text, at, n) {
+    let front = Span { at: i, len };
+    if !alike(name, front.of(list)) {
         return false;
     }
     match simple_at(list, i) {
-        Simple::Of(m, more) => {
-            if m != n {
+        Ok(found) => {
+            if found.len != len {
                 return false;
             }
-            sign_meets(list, i + n, more, text, plus, x, xn)
+            sign_meets(list, i + len, found.plus, plus, exception)
         }
-        Simple::Stuck(_) => false,
+        Err(_) => false,
     }
 }
 
 pub fn part_in(list: &[u8], text: &[u8], part: PartAt) -> bool
-    requires { (part.at + part.n ≤ length text.now) × (part.x + part.xn ≤ length text.now) }
+    requires { (part.name.at + part.name.len ≤ length text.now) × (part.exception.at + part.exception.len ≤ length text.now) }
     ensures { result ≡ met_in (part_of text.now part) (split 10 list.now) }
 {
+    let name = part.name.of(text);
+    let exception = part.exception.of(text);
+    // A while: the step varies, a line at a time.
     let mut i = 0;
     while i <= list.len() {
-        if line_meets(list, i, text, part.at, part.n, part.plus, part.x, part.xn) {
+        if line_meets(list, i, name, part.plus, exception) {
             return true;
         }
         i += line_len(list, i) + 1;

@@ -13,9 +13,6 @@ use Rattle.expression_output.specs.Output.{overlay, capped, Put}
 pub capped_fits : (n : ℕ) → n < 18446744073709551616 → capped n ≡ n
 capped_fits n h = omega arith
 
-pub capped_add : (a b : ℕ) → capped (capped a + b) ≡ capped (a + b)
-capped_add a b = omega arith
-
 -- ---- what an overlay leaves as it was
 pub overlay-length : (o : ℕ) (bs s : List ℕ) → length (overlay o bs s) ≡ length s
 unfolding overlay

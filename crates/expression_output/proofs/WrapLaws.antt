@@ -11,7 +11,7 @@ use lib.ListN.{length, take, drop, set, get_or, length-append, length-drop}
 use lib.Seq.{take-suc, length-take-le, get_or-drop}
 use Rattle.expression.specs.Writing.{wrap}
 use Rattle.expression_output.specs.Output.{overlay, capped, Put, Wrapped}
-use Rattle.expression_output.proofs.OutputLaws.{overlay-none, overlay-one, overlay-over, overlay-behind, overlay-length, overlay-capped, put_then}
+use Rattle.expression_output.proofs.OutputLaws.{overlay-none, overlay-one, overlay-over, overlay-behind, overlay-length, overlay-capped}
 
 -- ---- the move as a whole: k of the bytes are moved, the last one and t are put behind them
 shift_front : (c k : ℕ) (bs t s : List ℕ) → k ≡ min (length bs) (length s)
@@ -78,11 +78,10 @@ pub wrapped_none : (from to : ℕ) (s : List ℕ) → Wrapped false from to s s 
 unfolding wrap
 wrapped_none from to s bs s₀ e q = (e, q)
 
-pub wrapped : (to : ℕ) {s d e f : List ℕ} {from end i c p r : ℕ} → Shifting 40 s d from end i c → end ≤ i → end ≡ min to (length s) → length s < 18446744073709551616
-    → Put to (c ∷ []) d e p → Put p (41 ∷ []) e f r → Wrapped true from to s f r
+pub wrapped : (to : ℕ) {s d f : List ℕ} {from end i c r : ℕ} → Shifting 40 s d from end i c → end ≤ i → end ≡ min to (length s) → length s < 18446744073709551616
+    → Put to (c ∷ 41 ∷ []) d f r → Wrapped true from to s f r
 unfolding wrap
-wrapped to {s} {d} {e} {f} {from} {end} {i} {c} {p} {r} h m n k u v bs s₀ x y =
-    let w : Put to (c ∷ 41 ∷ []) d f r = put_then to (c ∷ []) (41 ∷ []) d (omega (arith, shifting_long h)) u v in
+wrapped to {s} {d} {f} {from} {end} {i} {c} {r} h m n k w bs s₀ x y =
     let l : length s ≡ length s₀ = ap length x ∙ overlay-length from bs s₀ in
     let q = shift_count from to end i (length bs) (length s₀) h.low h.high m (n ∙ ap (min to) l) (omega arith) y in (
       w.0 ∙ ap (λ (n : ℕ). overlay n (c ∷ 41 ∷ []) d) y ∙ overlay-capped (from + length bs) (c ∷ 41 ∷ []) d (omega (arith, shifting_long h))

@@ -15,10 +15,8 @@ use Rattle.expression_bytes.specs.Front.{head_is, spelt, ending}
 use Rattle.expression_bytes.proofs.FrontLaws.{drop-one, head-within, head-none, spelt-most, blanks-high, blanks-stop}
 use Rattle.expression_bytes.proofs.StateLaws as state
 use Rattle.expression_parts.specs.declared.parts.PartAt.{PartAt}
-use Rattle.expression_parts.specs.declared.parts.Got.{Got}
-use Rattle.expression_parts.specs.declared.parts.Got.TheVariants.{Part as PartGot}
-use Rattle.expression_parts.specs.declared.parts.Went.{Went}
-use Rattle.expression_parts.specs.declared.parts.Went.TheVariants.{At, Bad}
+use Rattle.std.specs.Prelude.{Result, Ok, Err}
+use Rattle.expression_parts.specs.declared.parts.Bad.{Bad}
 use Rattle.expression_parts.specs.Parts.{part_of, Inside, Reads, reads, stuck, Goes, Behind, goes, halts}
 use Rattle.expression_parts.proofs.RunLaws.{exc-starts, exc-more}
 
@@ -35,7 +33,7 @@ module _ (text : List ℕ) (at : ℕ) (c : Ctl) (l : Level) (fs : List Level) wh
 
 -- ---- behind an operand
 module _ (text : List ℕ) (from : ℕ) where
-  pub behind-end : from ≤ length text → length text ≤ from → Behind text from (At from)
+  pub behind-end : from ≤ length text → length text ≤ from → Behind text from (Ok from)
   behind-end lo h =
       goes record {
         same = λ t l fs. state.ended-end t (drop from text) l fs from (omega (arith, length-drop from text));
@@ -44,7 +42,7 @@ module _ (text : List ℕ) (from : ℕ) where
         stop = head-none text from 32 h;
       }
 
-  pub behind-blank : (n : ℕ) → head_is 32 (drop from text) ≡ true → n ≡ from + 1 + lead (eqb 32) (drop (from + 1) text) → Behind text from (At n)
+  pub behind-blank : (n : ℕ) → head_is 32 (drop from text) ≡ true → n ≡ from + 1 + lead (eqb 32) (drop (from + 1) text) → Behind text from (Ok n)
   unfolding next at_done at_ended
   behind-blank n h e =
       let k = head-within text from 32 h in
@@ -55,7 +53,7 @@ module _ (text : List ℕ) (from : ℕ) where
         stop = blanks-stop text (from + 1) n e;
       }
 
-  pub behind_close : head_is 32 (drop from text) ≡ false → head_is 41 (drop from text) ≡ true → Behind text from (At from)
+  pub behind_close : head_is 32 (drop from text) ≡ false → head_is 41 (drop from text) ≡ true → Behind text from (Ok from)
   behind_close f h =
       goes record {
         same = λ t l fs. state.ended_close t (drop from text) l fs from h;
@@ -64,20 +62,20 @@ module _ (text : List ℕ) (from : ℕ) where
         stop = f;
       }
 
-  pub behind_bad : from < length text → head_is 32 (drop from text) ≡ false → head_is 41 (drop from text) ≡ false → Behind text from (Bad from)
+  pub behind_bad : from < length text → head_is 32 (drop from text) ≡ false → head_is 41 (drop from text) ≡ false → Behind text from (Err (record { place = from }))
   behind_bad k f h = halts (λ t l fs. sym (state.ended_stuck t (drop from text) l fs from (omega (arith, length-drop from text)) f h))
 
-  goes_of : {n : ℕ} → Behind text from (At n) → Goes text from n
+  goes_of : {n : ℕ} → Behind text from (Ok n) → Goes text from n
   goes_of (goes g) = g
 
-  halts-of : {p : ℕ} → Behind text from (Bad p) → (t : Tree) (l : Level) (fs : List Level) → refused 13 p ≡ ending t (drop from text) l fs from
+  halts-of : {b : Bad} → Behind text from (Err b) → (t : Tree) (l : Level) (fs : List Level) → refused 13 b.place ≡ ending t (drop from text) l fs from
   halts-of (halts h) = h
 
   -- of an answer that is known to be the one or the other
-  pub went : {r : Went} {n : ℕ} → r ≡ At n → Behind text from r → Goes text from n
+  pub went : {r : Result ℕ Bad} {n : ℕ} → r ≡ Ok n → Behind text from r → Goes text from n
   went e b = goes_of (rw e at b)
 
-  pub halted : {r : Went} {p : ℕ} → r ≡ Bad p → Behind text from r → (t : Tree) (l : Level) (fs : List Level) → refused 13 p ≡ ending t (drop from text) l fs from
+  pub halted : {r : Result ℕ Bad} {b : Bad} → r ≡ Err b → Behind text from r → (t : Tree) (l : Level) (fs : List Level) → refused 13 b.place ≡ ending t (drop from text) l fs from
   halted e b = halts-of (rw e at b)
 
 -- ---- an exception, from WITH's I
@@ -107,16 +105,16 @@ module _ (text w : List ℕ) (t : Bool) (from : ℕ) (l : Level) (fs : List Leve
 
 -- ---- a part that is read
 module _ (text : List ℕ) (start : Level → List Level → Verdict) (p : PartAt) (from : ℕ) where
-  pub part-reads : ((l : Level) (fs : List Level) → run (drop p.next text) (Ctl.done (leaf (part_of text p))) l fs p.next ≡ start l fs) → Inside text from p → Reads text from start (PartGot p)
+  pub part-reads : ((l : Level) (fs : List Level) → run (drop p.next text) (Ctl.done (leaf (part_of text p))) l fs p.next ≡ start l fs) → Inside text from p → Reads text from start (Ok p)
   part-reads e i = reads {p = p} e i
 
   -- behind its last byte
-  pub part-goes : (least : ℕ) → least ≤ from → p.at + p.n ≤ length text → p.x + p.xn ≤ length text → ((l : Level) (fs : List Level) → ending (leaf (part_of text p)) (drop from text) l fs from ≡ start l fs) → Goes text from p.next → Reads text least start (PartGot p)
+  pub part-goes : (least : ℕ) → least ≤ from → p.name.at + p.name.len ≤ length text → p.exception.at + p.exception.len ≤ length text → ((l : Level) (fs : List Level) → ending (leaf (part_of text p)) (drop from text) l fs from ≡ start l fs) → Goes text from p.next → Reads text least start (Ok p)
   part-goes least k a b e g =
       reads {p = p} (λ l fs. g.same (leaf (part_of text p)) l fs ∙ e l fs)
       record { name = a; exc = b; low = (let h = g.low in omega arith); high = g.high; stop = g.stop }
 
 -- ---- a verdict kept is kept from an earlier place too
-pub read_back : {text : List ℕ} {m n : ℕ} {v u : Level → List Level → Verdict} {r : Got} → m ≤ n → ((l : Level) (fs : List Level) → v l fs ≡ u l fs) → Reads text n v r → Reads text m u r
+pub read_back : {text : List ℕ} {m n : ℕ} {v u : Level → List Level → Verdict} {r : Result PartAt Bad} → m ≤ n → ((l : Level) (fs : List Level) → v l fs ≡ u l fs) → Reads text n v r → Reads text m u r
 read_back h e (reads {p = p} f i) = reads {p = p} (λ l fs. f l fs ∙ e l fs) record { name = i.name; exc = i.exc; low = (let k = i.low in omega arith); high = i.high; stop = i.stop }
 read_back h e (stuck f) = stuck (λ l fs. f l fs ∙ e l fs)

@@ -19,9 +19,10 @@ use Rattle.expression.proofs.WordLaws.{id_not}
 use Rattle.expression_bytes.proofs.FrontLaws.{false_true, id-stop, spelt-most, spelt-inside, head-within}
 use Rattle.expression_bytes.proofs.KindLaws.{spelt-take}
 use Rattle.expression_bytes.proofs.StateLaws as state
+use Rattle.std.specs.Prelude.{Result, Ok, Err}
 use Rattle.expression_parts.specs.declared.names.Simple.{Simple}
-use Rattle.expression_parts.specs.declared.names.Simple.TheVariants.{Of, Stuck}
-use Rattle.expression_parts.specs.Simple.{idstring, after_colon, after_document, by_kind, behind_ids, simple_at}
+use Rattle.expression_parts.specs.declared.names.Stuck.{Stuck}
+use Rattle.expression_parts.specs.Simple.{simple_of, stuck_behind, idstring, after_colon, after_document, by_kind, behind_ids, simple_at}
 
 -- ---- identifiers begin and go on
 pub exc-starts : (w : List ℕ) (t : Bool) (l : Level) (fs : List Level) (b : ℕ) → id_byte b ≡ true → next (Ctl.exc_due w t) l fs b ≡ to (Ctl.exc w t (b ∷ [])) l fs
@@ -87,16 +88,16 @@ plus_len true = 1
 plus_len false = 0
 
 -- the verdict behind it, at the place p
-unfoldable pub told : List ℕ → Level → List Level → ℕ → Simple → Verdict
-told s l fs p (Of n plus) = run (drop (n + plus_len plus) s) (Ctl.simple (take n s) plus) l fs (p + (n + plus_len plus))
-told s l fs p (Stuck k) = refused 13 (p + k)
+unfoldable pub told : List ℕ → Level → List Level → ℕ → Result Simple Stuck → Verdict
+told s l fs p (Ok r) = run (drop (r.len + plus_len r.plus) s) (Ctl.simple (take r.len s) r.plus) l fs (p + (r.len + plus_len r.plus))
+told s l fs p (Err k) = refused 13 (p + k.len)
 
 module _ (s : List ℕ) (l : Level) (fs : List Level) (p : ℕ) where
   at_same : (c : Ctl) {a b i j : ℕ} → a ≡ b → i ≡ j → run (drop a s) c l fs i ≡ run (drop b s) c l fs j
   at_same c e f = rw (e, f)
 
   module _ (n : ℕ) (stops : head_id (drop n s) ≡ false) where
-    in_ref : (m : ℕ) → m ≡ lead id_byte (drop (n + 1 + 11) s) → head_is 58 (drop n s) ≡ true → spelt license_ref (drop (n + 1) s) ≡ 11 → (t : Bool) → eqb m 0 ≡ t → run (drop (n + 1 + 11) s) (Ctl.colon ((take n s ++ 58 ∷ []) ++ license_ref) []) l fs (p + n + 1 + 11) ≡ told s l fs p (cond t (Stuck (n + 12)) (Of (n + 12 + m) false))
+    in_ref : (m : ℕ) → m ≡ lead id_byte (drop (n + 1 + 11) s) → head_is 58 (drop n s) ≡ true → spelt license_ref (drop (n + 1) s) ≡ 11 → (t : Bool) → eqb m 0 ≡ t → run (drop (n + 1 + 11) s) (Ctl.colon ((take n s ++ 58 ∷ []) ++ license_ref) []) l fs (p + n + 1 + 11) ≡ told s l fs p (cond t (stuck_behind (n + 12)) (simple_of (n + 12 + m) false))
     unfolding told plus_len
     in_ref m e h k true f =
         let z : m ≡ 0 = eqb-true m 0 f in
@@ -115,12 +116,12 @@ module _ (s : List ℕ) (l : Level) (fs : List Level) (p : ℕ) where
         ∙ there
         ∙ at_same (Ctl.simple (take (n + 12 + m) s) false) q q2
 
-    in_document : (t : Bool) → head_is 58 (drop n s) ≡ t → kind_of (take n s) ≡ document → run (drop n s) (Ctl.name (take n s)) l fs (p + n) ≡ told s l fs p (cond t (after_colon n (drop 1 (drop n s))) (Stuck n))
+    in_document : (t : Bool) → head_is 58 (drop n s) ≡ t → kind_of (take n s) ≡ document → run (drop n s) (Ctl.name (take n s)) l fs (p + n) ≡ told s l fs p (cond t (after_colon n (drop 1 (drop n s))) (stuck_behind n))
     unfolding told after_colon idstring next stop
     in_document false h k = state.leave_3 (drop n s) (take n s) l fs (p + n) stops (sym k) h
     in_document true h k = rw (drop-drop 1 n s) (colon (eqb (spelt license_ref (drop (n + 1) s)) 11) refl)
       where
-        colon : (u : Bool) → eqb (spelt license_ref (drop (n + 1) s)) 11 ≡ u → run (drop n s) (Ctl.name (take n s)) l fs (p + n) ≡ told s l fs p (cond u (cond (eqb (lead id_byte (drop 11 (drop (n + 1) s))) 0) (Stuck (n + 12)) (Of (n + 12 + lead id_byte (drop 11 (drop (n + 1) s))) false)) (Stuck (n + 1 + spelt license_ref (drop (n + 1) s))))
+        colon : (u : Bool) → eqb (spelt license_ref (drop (n + 1) s)) 11 ≡ u → run (drop n s) (Ctl.name (take n s)) l fs (p + n) ≡ told s l fs p (cond u (cond (eqb (lead id_byte (drop 11 (drop (n + 1) s))) 0) (stuck_behind (n + 12)) (simple_of (n + 12 + lead id_byte (drop 11 (drop (n + 1) s))) false)) (stuck_behind (n + 1 + spelt license_ref (drop (n + 1) s))))
         colon true f =
             let k11 : spelt license_ref (drop (n + 1) s) ≡ 11 = eqb-true (spelt license_ref (drop (n + 1) s)) 11 f in
             let d : drop 11 (drop (n + 1) s) ≡ drop (n + 1 + 11) s = drop-drop 11 (n + 1) s in
@@ -138,7 +139,7 @@ module _ (s : List ℕ) (l : Level) (fs : List Level) (p : ℕ) where
     by_kind_lem bare k = state.leave_0 (drop n s) (take n s) l fs (p + n) stops (sym k)
     by_kind_lem license k = plus (head_is 43 (drop n s)) refl
       where
-        plus : (t : Bool) → head_is 43 (drop n s) ≡ t → run (drop n s) (Ctl.name (take n s)) l fs (p + n) ≡ told s l fs p (Of n t)
+        plus : (t : Bool) → head_is 43 (drop n s) ≡ t → run (drop n s) (Ctl.name (take n s)) l fs (p + n) ≡ told s l fs p (simple_of n t)
         plus true h =
             let q : p + n + 1 ≡ p + (n + 1) = omega arith in
             state.leave_plus (drop n s) (take n s) l fs (p + n) stops (sym k) h ∙ rw (drop-drop 1 n s, q)
@@ -157,7 +158,7 @@ module _ (s : List ℕ) (l : Level) (fs : List Level) (p : ℕ) where
   unfolding simple_at behind_ids told
   simple-run b o = ids (eqb (lead id_byte s) 0) refl
     where
-      ids : (t : Bool) → eqb (lead id_byte s) 0 ≡ t → run s Ctl.want l fs p ≡ told s l fs p (cond t (Stuck 0) (by_kind (kind_of (take (lead id_byte s) s)) (lead id_byte s) (drop (lead id_byte s) s)))
+      ids : (t : Bool) → eqb (lead id_byte s) 0 ≡ t → run s Ctl.want l fs p ≡ told s l fs p (cond t (stuck_behind 0) (by_kind (kind_of (take (lead id_byte s) s)) (lead id_byte s) (drop (lead id_byte s) s)))
       ids true e =
           let q : p ≡ p + 0 = omega arith in
           state.want-stuck s l fs p (no_ids s (eqb-true (lead id_byte s) 0 e)) b o ∙ ap (refused 13) q
@@ -166,22 +167,22 @@ module _ (s : List ℕ) (l : Level) (fs : List Level) (p : ℕ) where
           ∙ by_kind_lem (lead id_byte s) (id-stop s) (kind_of (take (lead id_byte s) s)) refl
 
 -- ---- its bytes stand in the text
-abbrev pub Fits : ℕ → Simple → Type 0
-Fits m (Of n plus) = (1 ≤ n) × (n + plus_len plus ≤ m)
-Fits m (Stuck k) = k ≤ m
+abbrev pub Fits : ℕ → Result Simple Stuck → Type 0
+Fits m (Ok r) = (1 ≤ r.len) × (r.len + plus_len r.plus ≤ m)
+Fits m (Err k) = k.len ≤ m
 
 module _ (s : List ℕ) (n : ℕ) (some : 1 ≤ n) (in-s : n ≤ length s) where
-  ref_fits : (m : ℕ) → n + 12 + m ≤ length s → (t : Bool) → Fits (length s) (cond t (Stuck (n + 12)) (Of (n + 12 + m) false))
+  ref_fits : (m : ℕ) → n + 12 + m ≤ length s → (t : Bool) → Fits (length s) (cond t (stuck_behind (n + 12)) (simple_of (n + 12 + m) false))
   unfolding plus_len
   ref_fits m h true = omega arith
   ref_fits m h false = (omega arith, omega arith)
 
-  document_fits : (t : Bool) → head_is 58 (drop n s) ≡ t → Fits (length s) (cond t (after_colon n (drop 1 (drop n s))) (Stuck n))
+  document_fits : (t : Bool) → head_is 58 (drop n s) ≡ t → Fits (length s) (cond t (after_colon n (drop 1 (drop n s))) (stuck_behind n))
   unfolding after_colon idstring
   document_fits false h = in-s
   document_fits true h = rw (drop-drop 1 n s) (colon (eqb (spelt license_ref (drop (n + 1) s)) 11) refl)
     where
-      colon : (u : Bool) → eqb (spelt license_ref (drop (n + 1) s)) 11 ≡ u → Fits (length s) (cond u (cond (eqb (lead id_byte (drop 11 (drop (n + 1) s))) 0) (Stuck (n + 12)) (Of (n + 12 + lead id_byte (drop 11 (drop (n + 1) s))) false)) (Stuck (n + 1 + spelt license_ref (drop (n + 1) s))))
+      colon : (u : Bool) → eqb (spelt license_ref (drop (n + 1) s)) 11 ≡ u → Fits (length s) (cond u (cond (eqb (lead id_byte (drop 11 (drop (n + 1) s))) 0) (stuck_behind (n + 12)) (simple_of (n + 12 + lead id_byte (drop 11 (drop (n + 1) s))) false)) (stuck_behind (n + 1 + spelt license_ref (drop (n + 1) s))))
       colon true f =
           ref_fits (lead id_byte (drop 11 (drop (n + 1) s)))
           (omega (arith, eqb-true (spelt license_ref (drop (n + 1) s)) 11 f, head-within s n 58 h, spelt-inside license_ref (drop (n + 1) s), length-drop (n + 1) s, lead-most id_byte (drop 11 (drop (n + 1) s)), length-drop 11 (drop (n + 1) s)))
@@ -203,9 +204,9 @@ pub simple_fits : (s : List ℕ) → Fits (length s) (simple_at s)
 unfolding simple_at behind_ids
 simple_fits s = ids (eqb (lead id_byte s) 0) refl
   where
-    ids : (t : Bool) → eqb (lead id_byte s) 0 ≡ t → Fits (length s) (cond t (Stuck 0) (by_kind (kind_of (take (lead id_byte s) s)) (lead id_byte s) (drop (lead id_byte s) s)))
+    ids : (t : Bool) → eqb (lead id_byte s) 0 ≡ t → Fits (length s) (cond t (stuck_behind 0) (by_kind (kind_of (take (lead id_byte s) s)) (lead id_byte s) (drop (lead id_byte s) s)))
     ids true e = omega arith
     ids false e = kind_fits s (lead id_byte s) (positive (lead id_byte s) (λ z. false_true (sym e ∙ eq-eqb (lead id_byte s) 0 z))) (lead-most id_byte s) (kind_of (take (lead id_byte s) s))
 
-pub fits_as : (s : List ℕ) {q r : Simple} → q ≡ simple_at s → q ≡ r → Fits (length s) r
+pub fits_as : (s : List ℕ) {q r : Result Simple Stuck} → q ≡ simple_at s → q ≡ r → Fits (length s) r
 fits_as s e f = rw (← f, e) (simple_fits s)

@@ -1,95 +1,117 @@
 // The simple expression at a place of a text. Assumes nothing.
-ghost use Rattle.std.specs.Prelude.{◌≡◌, ◌+◌, ◌≤◌, length, drop, take};
-ghost use Rattle.rules.specs.Bytes.{lead};
-ghost use Rattle.expression.specs.Reading.{id_byte, is_word, kind_of};
-ghost use Rattle.expression_parts.specs.Simple.{kind_number, after_document, simple_at};
+ghost use Rattle.std.specs.Prelude.{◌≡◌, ◌+◌, ◌≤◌, length, drop};
+ghost use Rattle.expression.specs.Reading.{is_word, kind_of};
+ghost use Rattle.expression_parts.specs.Simple.{bytes_of, is_bare, kind_told, after_document, simple_at};
 
 use expression_bytes::{ids, letters, stands};
+use slices_order::equal;
 
-// How many bytes its identifier has, and whether + follows; or how many bytes can go on to one.
+// So many bytes of a text from a place on.
 #[derive(Clone, Copy)]
-pub enum Simple {
-    Of(usize, bool),
-    Stuck(usize),
+pub struct Span {
+    pub at: usize,
+    pub len: usize,
 }
 
-// The n bytes of an identifier at `at` are AND, OR or WITH.
-pub fn is_word(text: &[u8], at: usize, n: usize) -> bool
-    requires { (at ≤ length text.now) × (n ≡ lead id_byte (drop at text.now)) }
-    ensures { result ≡ is_word (take n (drop at text.now)) }
-{
-    if n == 3 {
-        return letters(text, at, b"AND") == 3;
+impl Span {
+    pub fn of(self, text: &[u8]) -> &[u8]
+        requires { self.at + self.len ≤ length text.now }
+        ensures { result.now ≡ bytes_of text.now self }
+    {
+        &text[self.at..self.at + self.len]
     }
-    if n == 2 {
-        return letters(text, at, b"OR") == 2;
-    }
-    if n == 4 {
-        return letters(text, at, b"WITH") == 4;
-    }
-    false
 }
 
-// The kind of the n bytes of an identifier at `at`.
-fn kind(text: &[u8], at: usize, n: usize) -> u32
-    requires { (at ≤ length text.now) × (n ≡ lead id_byte (drop at text.now)) }
-    ensures { result ≡ kind_number (kind_of (take n (drop at text.now))) }
-{
-    if letters(text, at, b"DocumentRef-") == 12 {
-        if n == 12 {
-            return 0;
-        }
-        return 3;
-    }
-    if letters(text, at, b"LicenseRef-") == 11 {
-        if n == 11 {
-            return 0;
-        }
-        return 2;
-    }
-    if is_word(text, at, n) {
-        return 0;
-    }
-    1
+// How many bytes its identifier has, and whether + follows.
+#[derive(Clone, Copy)]
+pub struct Simple {
+    pub len: usize,
+    pub plus: bool,
 }
 
-// Behind DocumentRef- and an idstring, n bytes at `at`: the colon and LicenseRef- with its idstring.
-fn document(text: &[u8], at: usize, n: usize) -> Simple
-    requires { at + n ≤ length text.now }
-    ensures { result ≡ after_document n (drop (at + n) text.now) }
+// How many bytes can go on to one, where none stands.
+#[derive(Clone, Copy)]
+pub struct Stuck {
+    pub len: usize,
+}
+
+// What the bytes of an identifier amount to: nothing yet, a license-id, a license-ref, or the document of one.
+#[derive(Clone, Copy)]
+pub enum Kind {
+    Bare,
+    License,
+    Reference,
+    Document,
+}
+
+// The bytes of an identifier are AND, OR or WITH.
+#[tactic(auto, unfolding(expression::specs::Reading::is_word))]
+pub fn is_word(name: &[u8]) -> bool
+    ensures { result ≡ is_word name.now }
 {
-    let end = at + n;
-    if !stands(text, end, 58) {
-        return Simple::Stuck(n);
+    equal(b"AND", name) || equal(b"OR", name) || equal(b"WITH", name)
+}
+
+// A word, or a front with nothing behind it.
+#[tactic(auto, unfolding(crate::specs::Simple::is_bare))]
+fn is_bare(name: &[u8]) -> bool
+    ensures { result ≡ is_bare name.now }
+{
+    equal(b"DocumentRef-", name) || equal(b"LicenseRef-", name) || is_word(name)
+}
+
+fn kind_of(name: &[u8]) -> Kind
+    ensures { kind_told result ≡ kind_of name.now }
+{
+    if is_bare(name) {
+        return Kind::Bare;
+    }
+    if name.starts_with(b"DocumentRef-") {
+        return Kind::Document;
+    }
+    if name.starts_with(b"LicenseRef-") {
+        return Kind::Reference;
+    }
+    Kind::License
+}
+
+// Behind DocumentRef- and an idstring, `len` bytes at `at`: the colon and LicenseRef- with its idstring.
+fn document(text: &[u8], at: usize, len: usize) -> Result<Simple, Stuck>
+    requires { at + len ≤ length text.now }
+    ensures { result ≡ after_document len (drop (at + len) text.now) }
+{
+    let end = at + len;
+    if !stands(text, end, b':') {
+        return Err(Stuck { len });
     }
     let k = letters(text, end + 1, b"LicenseRef-");
     if k < 11 {
-        return Simple::Stuck(n + 1 + k);
+        return Err(Stuck { len: len + 1 + k });
     }
     let m = ids(text, end + 12);
     if m == 0 {
-        return Simple::Stuck(n + 12);
+        return Err(Stuck { len: len + 12 });
     }
-    Simple::Of(n + 12 + m, false)
+    let len = len + 12 + m;
+    Ok(Simple { len, plus: false })
 }
 
-pub fn simple_at(text: &[u8], at: usize) -> Simple
+pub fn simple_at(text: &[u8], at: usize) -> Result<Simple, Stuck>
     requires { at ≤ length text.now }
     ensures { result ≡ simple_at (drop at text.now) }
 {
-    let n = ids(text, at);
-    if n == 0 {
-        return Simple::Stuck(0);
+    let len = ids(text, at);
+    if len == 0 {
+        return Err(Stuck { len: 0 });
     }
-    let k = kind(text, at, n);
-    if k == 0 {
-        return Simple::Stuck(n);
+    let name = Span { at, len };
+    match kind_of(name.of(text)) {
+        Kind::Bare => Err(Stuck { len }),
+        Kind::License => {
+            let plus = stands(text, at + len, b'+');
+            Ok(Simple { len, plus })
+        }
+        Kind::Reference => Ok(Simple { len, plus: false }),
+        Kind::Document => document(text, at, len),
     }
-    if k == 3 {
-        return document(text, at, n);
-    }
-    if k == 2 {
-        return Simple::Of(n, false);
-    }
-    Simple::Of(n, stands(text, at + n, 43))
 }

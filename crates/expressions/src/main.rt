@@ -7,16 +7,12 @@
 
 ghost use Rattle.std.specs.Prelude.{◌≤◌, ◌<◌, length};
 
-use expression::Spelled;
+use expression::{Satisfied, Spelled};
 use expression_job::{neat, satisfy, write_expression};
 use telling::{print, print_count, print_number};
 
 fn print_flag(flag: bool) {
-    if flag {
-        print(b"1 ");
-        return;
-    }
-    print(b"0 ");
+    print(if flag { b"1 " } else { b"0 " });
 }
 
 fn print_place(place: usize) {
@@ -27,7 +23,7 @@ fn print_place(place: usize) {
 
 // What is learnt without an output.
 fn tell_read(list: &[u8], text: &[u8]) {
-    let answer = satisfy(text, list);
+    let answer = Satisfied::from(satisfy(text, list));
     print_number(answer.refusal);
     print_place(answer.place);
     print_flag(answer.satisfied);
@@ -45,7 +41,7 @@ fn tell_written(answer: Spelled) {
 fn ask(list: &[u8], text: &[u8]) {
     let mut out = [35u8; 256];
     tell_read(list, text);
-    let answer = write_expression(text, &mut out);
+    let answer = Spelled::from(write_expression(text, &mut out));
     let len = answer.len;
     tell_written(answer);
     if len <= 256 {
@@ -58,7 +54,7 @@ fn fit_in(text: &[u8], out: &mut [u8], room: usize)
     requires { room ≤ length out.old }
 {
     tell_read(b"a", text);
-    let answer = write_expression(text, &mut out[0..room]);
+    let answer = Spelled::from(write_expression(text, &mut out[0..room]));
     tell_written(answer);
     print(out);
     print(b"\x0a");
@@ -114,10 +110,8 @@ fn repeat(area: &mut [u8], unit: &[u8], at: usize, b: u8)
     requires unit_nonzero { 0 < length unit.now }
     requires at_in_bounds { at < length area.old }
 {
-    let mut i = 0;
-    while i < at {
+    for i in 0..at {
         area[i] = unit[i % unit.len()];
-        i += 1;
     }
     area[at] = b;
 }

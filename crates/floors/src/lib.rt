@@ -13,21 +13,24 @@ pub struct Floor {
     pub ties: bool,
 }
 
-pub fn beats(floor: Floor, score: f32) -> bool
-    ensures { result ≡ floors.beats floor score }
-{
-    if floor.ties {
-        return !(score < floor.score);
+impl Floor {
+    // What every score beats.
+    pub fn lowest() -> Floor
+        ensures { result ≡ floors.lowest }
+    {
+        Floor {
+            score: 0.0,
+            ties: true,
+        }
     }
-    floor.score < score
-}
 
-// What every score beats.
-pub fn lowest() -> Floor
-    ensures { result ≡ floors.lowest }
-{
-    Floor {
-        score: 0.0,
-        ties: true,
+    // Whether the score beats this floor.
+    pub fn beaten_by(self, score: f32) -> bool
+        ensures { result ≡ floors.beats self score }
+    {
+        if self.ties {
+            return !(score < self.score);
+        }
+        self.score < score
     }
 }

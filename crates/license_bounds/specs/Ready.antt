@@ -1,8 +1,10 @@
 -- A search over one bound of a view: what stands ready for it, and what an index scores.
 -- Assumes nothing.
-use Rattle.std.specs.Prelude.{◌≡◌, Bool, true, false, List, ℕ, ◌≤◌, length}
+use Rattle.std.specs.Prelude.{◌≡◌, true, List, ℕ, ◌≤◌, length}
 use Rattle.rules.specs.declared.View.{View}
 use Rattle.rules.specs.declared.Value.{Value}
+use Rattle.license_bounds.specs.declared.Moving.{Moving}
+use Rattle.license_bounds.specs.declared.Moving.TheVariants.{End, Start}
 use Rattle.rules.specs.Search.{Made, Stored, view, score_view}
 use Rattle.rules.specs.Book.{entries_of, shaped}
 use Rattle.slices.specs.Classes.{Classes}
@@ -11,12 +13,12 @@ use Rattle.license_notes.specs.Laid.{Laid}
 use Rattle.detection_shelf.specs.Bodies.{table_of_body}
 
 -- the view whose one bound is fixed and whose other is i
-unfoldable pub view_between : Bool → ℕ → ℕ → View
-view_between true fixed i = view fixed i
-view_between false fixed i = view i fixed
+unfoldable pub view_between : Moving → ℕ → View
+view_between (End start) i = view start i
+view_between (Start end) i = view i end
 
-unfoldable pub score_at : List (List ℕ) → Stored → Bool → ℕ → ℕ → Made Value
-score_at ls s ends fixed i = score_view ls s (view_between ends fixed i)
+unfoldable pub score_at : List (List ℕ) → Stored → Moving → ℕ → Made Value
+score_at ls s moving i = score_view ls s (view_between moving i)
 
 -- a search over one bound of a view, of a note of n bytes and so many lines
 pub record Working (n lines : ℕ) (class area words body : List ℕ) : Type 0 where
@@ -25,9 +27,9 @@ pub record Working (n lines : ℕ) (class area words body : List ℕ) : Type 0 w
   pub sound : shaped body (entries_of body) ≡ true
 
 -- indexes from l to r make views within the note
-unfoldable pub Spans : ℕ → Bool → ℕ → ℕ → ℕ → Type 0
-Spans lines true fixed l r = (fixed ≤ l) × (r ≤ lines)
-Spans lines false fixed l r = (r ≤ fixed) × (fixed ≤ lines)
+unfoldable pub Spans : ℕ → Moving → ℕ → ℕ → Type 0
+Spans lines (End start) l r = (start ≤ l) × (r ≤ lines)
+Spans lines (Start end) l r = (r ≤ end) × (end ≤ lines)
 
 -- the areas still hold the same lines
 pub record Kept (n lines : ℕ) (class area₀ words₀ area words body : List ℕ) : Type 0 where

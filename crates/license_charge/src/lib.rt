@@ -11,45 +11,47 @@ ghost use Rattle.license_charge.specs.Pay.{Spent};
 ghost use Rattle.license_views.specs.Tabled.{Tabled, table_over};
 ghost use Rattle.detection_shelf.specs.Bodies.{table_of_body};
 
-use floors::{Floor, lowest};
+use floors::Floor;
 use license_views::Viewed;
 use ngram_meet::scoring;
 use ngram_table::TableSize;
 use preproc_table::table_end;
 use rules::Value;
 
-// The scorings that a budget still pays. Its number is private, so no code elsewhere counts: one comes from `scorings_of`, where a job begins, or
+// The scorings that a budget still pays. Its number is private, so no code elsewhere counts: one comes from `Scorings::of`, where a job begins, or
 // from `charge`, one less. That a function hands on what its last scoring left, and not an older one that it still holds, is in its contract.
 #[derive(Clone, Copy)]
 pub struct Scorings {
     count: u64,
 }
 
-// All that a budget pays: made once, by the job.
-pub fn scorings_of(budget: u64) -> Scorings
-    ensures { result ≡ record { count = budget } }
-{
-    Scorings { count: budget }
+impl Scorings {
+    // All that a budget pays: made once, by the job.
+    pub fn of(budget: u64) -> Scorings
+        ensures { result ≡ record { count = budget } }
+    {
+        Scorings { count: budget }
+    }
+
+    // Whether none is left.
+    pub fn is_spent(self) -> bool
+        ensures { Spent self result }
+    {
+        self.count == 0
+    }
+
+    // How many are left, for an answer: nothing is charged to a number.
+    pub fn count(self) -> u64
+        ensures { result ≡ self.count }
+    {
+        self.count
+    }
 }
 
-// Whether none is left.
-pub fn spent(left: Scorings) -> bool
-    ensures { Spent left result }
-{
-    left.count == 0
-}
-
-// How many are left, for an answer: nothing is charged to a number.
-pub fn count_of(left: Scorings) -> u64
-    ensures { result ≡ left.count }
-{
-    left.count
-}
-
-// One scoring: what it yields, and the scorings left.
+// What was paid for, and the scorings left. Where a budget may not pay it all, functions yield an `Option` of it: at `None` the budget is out.
 #[derive(Clone, Copy)]
-pub struct Charged {
-    pub value: Value,
+pub struct Charged<T> {
+    pub value: T,
     pub left: Scorings,
 }
 
@@ -62,7 +64,7 @@ pub fn charge(
     body: &[u8],
     floor: Floor,
     left: Scorings,
-) -> Charged
+) -> Charged<Value>
     requires tabled { Tabled n area.now words.now t }
     requires body_value { shaped body.now (entries_of body.now) ≡ true }
     requires count_nonzero { 0 < left.count }
@@ -92,12 +94,12 @@ pub fn charge_exact(
     t: Viewed,
     body: &[u8],
     left: Scorings,
-) -> Charged
+) -> Charged<Value>
     requires tabled { Tabled n area.now words.now t }
     requires body_value { shaped body.now (entries_of body.now) ≡ true }
     requires count_nonzero { 0 < left.count }
     ensures value { result.value ≡ value_of (table_over area.now t) (table_of_body body.now) }
     ensures left { result.left.count ≡ left.count - 1 }
 {
-    charge(area, words, n, t, body, lowest(), left)
+    charge(area, words, n, t, body, Floor::lowest(), left)
 }

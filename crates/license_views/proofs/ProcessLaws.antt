@@ -1,6 +1,6 @@
 -- The aggressive passes on a view, pass 1 first: what stands below 4n in the bytes, and below the bigrams in the words, stays.
 -- Assumes nothing.
-use mathlib.Core.Path.{◌≡◌, refl, sym, ap, ◌∙◌, subst}
+use mathlib.Core.Path.{◌≡◌, refl, sym, ap, ◌∙◌}
 use mathlib.Core.List.{List, map}
 use Prim.Native.Nat.{ℕ, ◌*◌, ◌≤◌}
 use native.Mathlib.Omega.{arith}
@@ -19,8 +19,7 @@ use Rattle.preproc_table.specs.Entries.{table_end, view_start, lines_at, Apart}
 use Rattle.preproc_table.proofs.EntryLaws.{lines-viewed, lines-kept, lines-below, apart_below}
 use Rattle.prefix_list.specs.Listing.{plain_lines}
 use Rattle.prefix_choice.specs.Choice.{Strips}
-use Rattle.prefix_choice.specs.declared.Common.{Common}
-use Rattle.prefix_choice.specs.declared.Common.TheVariants.{Nothing, Prefix}
+use Rattle.std.proofs.Common.{Option, None, Some}
 use Rattle.preproc_view.specs.Whole as view
 use Rattle.preproc_view.specs.Whole.{view_at}
 use Rattle.license_notes.specs.Laid.{Laid, Held}
@@ -100,18 +99,15 @@ module _ (n lines : ℕ) (v : View) (area₀ words₀ area₁ words₁ : List �
   now_viewed : view_at area₁ words₁ v ≡ viewed (lines_at area₀ words₀ lines) v
   now_viewed = view-is n lines area₁ words₁ v o h ∙ ap (λ (ls : List (List ℕ)). viewed ls v) held.same
 
-  pub chose_none : without_prefix (viewed (lines_at area₀ words₀ lines) v) ≡ viewed (lines_at area₀ words₀ lines) v →
+  chose_none : without_prefix (viewed (lines_at area₀ words₀ lines) v) ≡ viewed (lines_at area₀ words₀ lines) v →
       without_prefix (view_at area₁ words₁ v) ≡ view_at area₁ words₁ v
   chose_none e = ap without_prefix now_viewed ∙ e ∙ sym now_viewed
 
-  pub chose_span : (w : List ℕ) → without_prefix (viewed (lines_at area₀ words₀ lines) v) ≡ map (strip w) (viewed (lines_at area₀ words₀ lines) v) →
+  chose_span : (w : List ℕ) → without_prefix (viewed (lines_at area₀ words₀ lines) v) ≡ map (strip w) (viewed (lines_at area₀ words₀ lines) v) →
       without_prefix (view_at area₁ words₁ v) ≡ map (strip w) (view_at area₁ words₁ v)
   chose_span w e = ap without_prefix now_viewed ∙ e ∙ ap (map (strip w)) (sym now_viewed)
 
--- the two answers of pass 1
-pub strips_none : (n : ℕ) (ls : List (List ℕ)) (area : List ℕ) (r : Common) → Strips n ls area r → r ≡ Nothing → without_prefix ls ≡ ls
-strips_none n ls area r h e = subst (Strips n ls area) e h
-
-pub strips_span : (n : ℕ) (ls : List (List ℕ)) (area : List ℕ) (r : Common) (s e : ℕ) → Strips n ls area r → r ≡ Prefix s e →
-    (without_prefix ls ≡ map (strip (slice s e area)) ls) × (n ≤ s) × (s ≤ e) × (e ≤ view_start n)
-strips_span n ls area r s e h q = subst (Strips n ls area) q h
+  -- the same of either answer
+  pub chose : (common : Option ByteSpan) → Strips n (viewed (lines_at area₀ words₀ lines) v) area₁ common → view.StripsAs area₁ n (view_at area₁ words₁ v) common
+  chose None e = chose_none e
+  chose (Some r) e = (e.2, e.3, chose_span (slice r.start r.end area₁) e.0)

@@ -13,9 +13,8 @@ ghost use Rattle.license_views.specs.Tabled.{Tabled, Processed, table_over};
 
 use ngram_table::table;
 use prefix::common_prefix;
-use prefix_choice::Common;
 use preproc_table::table_end;
-use preproc_view::process::{process_plain, process_stripped};
+use preproc_view::process::process_with;
 use rules::View;
 use slices::ends::ByteSpan;
 
@@ -42,10 +41,7 @@ pub fn process(
     ensures { Processed n lines v area.old words.old result area.new words.new }
 {
     let common = common_prefix(class, area, words, n, lines, v);
-    match common {
-        Common::Nothing => process_plain(class, area, words, n, v),
-        Common::Prefix(s, e) => process_stripped(class, area, words, n, v, s, e),
-    }
+    process_with(class, area, words, n, v, common)
 }
 
 // The table of a view: its processed text in the byte area's upper part, its bigrams behind the line table. n log n in the view.
@@ -64,13 +60,11 @@ pub fn view_table(
     ensures held { Held n lines area.old words.old area.new words.new }
 {
     let p = process(class, area, words, n, lines, v);
-    let start = p.start;
-    let end = p.end;
     let from = table_end(n);
-    let size = table(&area[start..end], &mut words[from..]);
+    let size = table(&area[p.start..p.end], &mut words[from..]);
     Viewed {
-        start,
-        end,
+        start: p.start,
+        end: p.end,
         total: size.total,
         distinct: size.distinct,
     }

@@ -18,6 +18,7 @@ use lib.Dec.{leb, eqb}
 use lib.ListN.{length, get_or, drop, length-drop}
 use lib.Seq.{length-take-le}
 use borrow.Author.Tests.{ne_eqb, eqb-true, eqb-false, leb-false, lt-leb, not-false}
+use Rattle.rules.specs.declared.Areas.{Areas}
 use Rattle.rules.specs.declared.Limits.{Limits}
 use Rattle.rules.specs.declared.Mode.{Mode}
 use Rattle.rules.specs.declared.Named.{Named}
@@ -27,7 +28,7 @@ use Rattle.rules.specs.Sizes.{name_most}
 use Rattle.rules.specs.Search.{Stored, no_text, no_best}
 use Rattle.rules.specs.Scan.{names, records, verdict}
 use Rattle.rules.specs.Book.{all_sound, shelved, differ, no_part, name_parts, part_in, Lies, ReadAs}
-use Rattle.rules.specs.Refusal.{refusal, Areas, of_books, of_name, of_scan}
+use Rattle.rules.specs.Refusal.{refusal, of_books, of_name, of_scan}
 use Rattle.rules.specs.Jobs.{lent, happened, named, name_part, answered, scan, numbered, name_job, ScanDone, NameDone}
 use Rattle.rules.proofs.DownLaws.{Each, each_at, each_of}
 use Rattle.rules.proofs.SoundLaws.{StoredSound}

@@ -15,7 +15,7 @@ use ngram_table::TableSize;
 use records::numbers::write_u32;
 use slices::copy::copy_to;
 use slices::wide::wide;
-use sort_order::part_end;
+use sort_order::BIGRAM;
 
 // The entry of the bigram that starts at a: its count, its length, its bytes, at `at` of the output. The place behind it comes back.
 fn put_entry(text: &[u8], a: usize, count: u32, out: &mut [u8], at: usize) -> usize
@@ -24,8 +24,7 @@ fn put_entry(text: &[u8], a: usize, count: u32, out: &mut [u8], at: usize) -> us
     ensures end { result ≡ at + (8 + length (part_of 32 2 (drop a text.now))) }
     ensures put { out.new ≡ put_at at (entry_out (record { bytes = part_of 32 2 (drop a text.now); count = count })) out.old }
 {
-    let end = part_end(text, a, 32, 2);
-    let len = end - a;
+    let len = BIGRAM.part_end(text, a) - a;
     write_u32(out, at, count);
     write_u32(out, at + 4, len as u32);
     copy_to(text, a, len, out, at + 8)
@@ -37,13 +36,10 @@ pub fn body_len(text: &[u8], p: &[u32], size: TableSize) -> usize
     requires text_len_bound { length text.now ≤ 16777216 }
     ensures { result ≡ length (table_out (table_at text.now p.now size.total size.distinct)) }
 {
-    let distinct = size.distinct;
     let mut n = 8;
-    let mut i = 0;
-    while i < distinct {
+    for i in 0..size.distinct {
         let a = wide(p[i]);
-        n = n + (8 + (part_end(text, a, 32, 2) - a));
-        i = i + 1;
+        n += 8 + (BIGRAM.part_end(text, a) - a);
     }
     n
 }
@@ -55,15 +51,11 @@ pub fn put_body(text: &[u8], p: &[u32], size: TableSize, out: &mut [u8]) -> usiz
     requires distinct_in_bounds { length (table_out (table_at text.now p.now size.total size.distinct)) ≤ length out.old }
     ensures { Wrote (table_out (table_at text.now p.now size.total size.distinct)) out.old result out.new }
 {
-    let total = size.total;
-    let distinct = size.distinct;
-    write_u32(out, 0, total as u32);
-    write_u32(out, 4, distinct as u32);
+    write_u32(out, 0, size.total as u32);
+    write_u32(out, 4, size.distinct as u32);
     let mut w = 8;
-    let mut i = 0;
-    while i < distinct {
-        w = put_entry(text, wide(p[i]), p[total + i], out, w);
-        i = i + 1;
+    for i in 0..size.distinct {
+        w = put_entry(text, wide(p[i]), p[size.total + i], out, w);
     }
     w
 }

@@ -28,8 +28,8 @@ use Rattle.rules.proofs.TableLaws.{meet_left, meet_right, meet-both, meet_le, ta
 use Rattle.rules.proofs.SoundLaws.{table-sound, sound-some, body-total}
 use Rattle.records.proofs.FrontLaws.{number-take, front-end, front-broken, front-whole}
 use Rattle.sort_tally.specs.Group.{entries_at}
-use Rattle.ngram_order.specs.declared.Side.{Side}
-use Rattle.ngram_order.specs.declared.Side.TheVariants.{Before, Same, After}
+use Rattle.std.specs.declared.cmp.Ordering as code
+use Rattle.std.specs.declared.cmp.Ordering.TheVariants.{Less, Equal, Greater}
 use Rattle.ngram_order.specs.Sides.{side_of}
 use Rattle.ngram_table.specs.Tables.{table_at}
 use Rattle.floors.specs.declared.Floor.{Floor}
@@ -121,17 +121,17 @@ unfolding sum
 sum_cons e es = refl
 
 -- where one stands to the other, by the code's answer
-before-is : (o : Ordering) → side_of o ≡ Before → o ≡ Ordering.lt
+before-is : (o : Ordering) → side_of o ≡ Less → o ≡ Ordering.lt
 before-is Ordering.lt e = refl
 before-is Ordering.eq e = let z : ◌≡◌ {A = ℕ} 0 1 = cc in absurd (no z)
 before-is Ordering.gt e = let z : ◌≡◌ {A = ℕ} 0 1 = cc in absurd (no z)
 
-same-is : (o : Ordering) → side_of o ≡ Same → o ≡ Ordering.eq
+same-is : (o : Ordering) → side_of o ≡ Equal → o ≡ Ordering.eq
 same-is Ordering.lt e = let z : ◌≡◌ {A = ℕ} 0 1 = cc in absurd (no z)
 same-is Ordering.eq e = refl
 same-is Ordering.gt e = let z : ◌≡◌ {A = ℕ} 0 1 = cc in absurd (no z)
 
-after_is : (o : Ordering) → side_of o ≡ After → o ≡ Ordering.gt
+after_is : (o : Ordering) → side_of o ≡ Greater → o ≡ Ordering.gt
 after_is Ordering.lt e = let z : ◌≡◌ {A = ℕ} 0 1 = cc in absurd (no z)
 after_is Ordering.eq e = let z : ◌≡◌ {A = ℕ} 0 1 = cc in absurd (no z)
 after_is Ordering.gt e = refl
@@ -170,8 +170,8 @@ module _ {s p body : List ℕ} {k d n rest left m i j : ℕ} (c : Meeting s p bo
   sums : m + meet (e ∷ es) (f ∷ nx.rest) ≡ n
   sums = ap₂ (λ (us vs : List Counted). m + meet us vs) (sym view) (sym nx.first) ∙ c.both
 
-  module _ (r : Side) (q : r ≡ side_of (order e.bytes f.bytes)) where
-    pub meeting_before : r ≡ Before → Meeting s p body k d n (rest - e.count) left m (i + 1) j
+  module _ (r : code.Ordering) (q : r ≡ side_of (order e.bytes f.bytes)) where
+    pub meeting_before : r ≡ Less → Meeting s p body k d n (rest - e.count) left m (i + 1) j
     meeting_before w =
         let o = before-is (order e.bytes f.bytes) (sym q ∙ w) in
         record {
@@ -191,7 +191,7 @@ module _ {s p body : List ℕ} {k d n rest left m i j : ℕ} (c : Meeting s p bo
               (ap (λ (x : ℕ). m + x) (sym (meet_left e es (f ∷ nx.rest) ((rises-is e.bytes f.bytes).1 o) down)) ∙ sums);
         }
 
-    pub meeting_same : r ≡ Same → Meeting s p body k d n (rest - e.count) (left - f.count) (m + min e.count f.count) (i + 1) (entry_end body j)
+    pub meeting_same : r ≡ Equal → Meeting s p body k d n (rest - e.count) (left - f.count) (m + min e.count f.count) (i + 1) (entry_end body j)
     meeting_same w =
         let o = same-is (order e.bytes f.bytes) (sym q ∙ w) in
         record {
@@ -209,7 +209,7 @@ module _ {s p body : List ℕ} {k d n rest left m i j : ℕ} (c : Meeting s p bo
           both = omega (arith, sums, meet-both e es f nx.rest ((order_eq e.bytes f.bytes).0 o) up down);
         }
 
-    pub meeting_after : r ≡ After → Meeting s p body k d n rest (left - f.count) m i (entry_end body j)
+    pub meeting_after : r ≡ Greater → Meeting s p body k d n rest (left - f.count) m i (entry_end body j)
     meeting_after w =
         let o = after_is (order e.bytes f.bytes) (sym q ∙ w) in
         let t : order f.bytes e.bytes ≡ Ordering.lt = order_flip e.bytes f.bytes ∙ ap flip o in

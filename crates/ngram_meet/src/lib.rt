@@ -12,12 +12,13 @@ ghost use Rattle.ngram_score.specs.Shares.{Reached};
 ghost use Rattle.floors.specs.Floors.{Judged};
 
 use floors::Floor;
-use ngram_order::{Side, compare_bigram};
-use ngram_score::{smaller, useless, value};
+use ngram_order::compare_bigram;
+use ngram_score::{useless, value};
 use ngram_table::TableSize;
 use records::numbers::read_u32;
 use rules::Value;
 use slices::wide::wide;
+use std::cmp::Ordering;
 
 // The sum of the smaller counts of the bigrams that the table in p, over the text, shares with the stored one; or, where that is less than
 // `least`, something that is no more. `rest` and `stored` are what is still to come of the two tables' counts: the sum gains no more than
@@ -35,31 +36,32 @@ pub fn meet(text: &[u8], p: &[u32], size: TableSize, body: &[u8], least: u32) ->
     let mut m = 0;
     let mut i = 0;
     let mut j = 8;
+    // A while: of its two cursors one moves, or both.
     while i < distinct {
         if body.len() <= j {
             return m;
         }
-        if m + smaller(rest, stored) < least {
+        if m + rest.min(stored) < least {
             return m;
         }
         let start = j + 8;
         let end = start + wide(read_u32(body, j + 4));
         match compare_bigram(text, wide(p[i]), body, start, end) {
-            Side::Before => {
-                rest = rest - p[total + i];
-                i = i + 1;
+            Ordering::Less => {
+                rest -= p[total + i];
+                i += 1;
             }
-            Side::Same => {
+            Ordering::Equal => {
                 let count = p[total + i];
                 let other = read_u32(body, j);
-                m = m + smaller(count, other);
-                rest = rest - count;
-                stored = stored - other;
-                i = i + 1;
+                m += count.min(other);
+                rest -= count;
+                stored -= other;
+                i += 1;
                 j = end;
             }
-            Side::After => {
-                stored = stored - read_u32(body, j);
+            Ordering::Greater => {
+                stored -= read_u32(body, j);
                 j = end;
             }
         }

@@ -4,62 +4,44 @@
 #![tactic(auto)]
 
 ghost use Rattle.std.specs.Prelude.{◌≡◌, length, drop};
-ghost use Prim.Native.Nat.{◌≤◌, compare};
+ghost use Prim.Native.Nat.{◌≤◌};
 ghost use Rattle.std.proofs.Math.Seq.{slice};
 ghost use Rattle.rules.specs.Bytes.{order};
 ghost use Rattle.sort_spread.specs.Sort.{part_of};
 ghost use Rattle.ngram_order.specs.Sides.{side_of};
 
-use sort_order::{ends_part, marks_left};
+use slices::lead;
+use sort_order::BIGRAM;
+use std::cmp::Ordering;
 
-// Where one byte string stands to another.
-#[derive(Clone, Copy)]
-pub enum Side {
-    Before,
-    Same,
-    After,
-}
-
-// Of two bytes that differ.
-fn unlike(x: u8, y: u8) -> Side
-    requires { x ≡ y → ⊥ }
-    ensures { result ≡ side_of (compare x y) }
+// Where the bigram that a slice begins with stands to some bytes.
+fn compare_first(text: &[u8], bytes: &[u8]) -> Ordering
+    ensures { result ≡ side_of (order (part_of 32 2 text.now) bytes.now) }
 {
-    if x < y {
-        return Side::Before;
+    let mut cut = BIGRAM;
+    let mut rest = text.iter();
+    for y in bytes {
+        let Some(x) = rest.next() else {
+            return Ordering::Less;
+        };
+        if cut.ends_at(*x) {
+            return Ordering::Less;
+        }
+        if *x != *y {
+            return x.cmp(y);
+        }
+        cut = cut.past(*x);
     }
-    Side::After
+    match rest.next() {
+        Some(x) if !cut.ends_at(*x) => Ordering::Greater,
+        _ => Ordering::Equal,
+    }
 }
 
 // Where the bigram of the text that starts at a stands to the bytes [from, to) of the body.
-pub fn compare_bigram(text: &[u8], a: usize, body: &[u8], from: usize, to: usize) -> Side
+pub fn compare_bigram(text: &[u8], a: usize, body: &[u8], from: usize, to: usize) -> Ordering
     requires { (from ≤ to) × (to ≤ length body.now) }
     ensures { result ≡ side_of (order (part_of 32 2 (drop a text.now)) (slice from to body.now)) }
 {
-    let mut i = a;
-    let mut j = from;
-    let mut left = 2;
-    while j < to {
-        if text.len() <= i {
-            return Side::Before;
-        }
-        let x = text[i];
-        if ends_part(x, 32, left) {
-            return Side::Before;
-        }
-        let y = body[j];
-        if x != y {
-            return unlike(x, y);
-        }
-        left = marks_left(left, x, 32);
-        i = i + 1;
-        j = j + 1;
-    }
-    if text.len() <= i {
-        return Side::Same;
-    }
-    if ends_part(text[i], 32, left) {
-        return Side::Same;
-    }
-    Side::After
+    compare_first(lead::rest(text, a), &body[from..to])
 }

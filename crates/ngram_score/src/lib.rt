@@ -4,13 +4,13 @@
 // SPDX-License-Identifier: Apache-2.0), changed. Assumes nothing.
 #![tactic(auto)]
 
-ghost use Rattle.std.specs.Prelude.{◌≡◌, ◌+◌, ◌≤◌, min};
+ghost use Rattle.std.specs.Prelude.{◌≡◌, ◌+◌, ◌≤◌};
 ghost use Rattle.rules.specs.Sizes.{total_most};
 ghost use Rattle.rules.specs.Table as words;
 ghost use Rattle.floors.specs.Floors as floors;
 ghost use Rattle.ngram_score.specs.Shares.{Useless};
 
-use floors::{Floor, beats};
+use floors::Floor;
 use rules::Value;
 
 // a and b are the two tables' totals, and m is the sum of the smaller counts of what they share.
@@ -33,30 +33,13 @@ pub fn value(m: u32, a: u32, b: u32) -> Value
     Value { score, m, t: a + b }
 }
 
-pub fn smaller(a: u32, b: u32) -> u32
-    ensures { result ≡ min a b }
-{
-    if a < b {
-        return a;
-    }
-    b
-}
-
 // About how much two tables of t in all share where they have this score, and at most `most`. It only guides: nothing rests on it.
 fn about(score: f32, t: u32, most: u32) -> u32
     requires { t ≤ 16777216 }
     ensures { result ≤ most }
 {
-    let x = score * t as f32 / 2.0;
-    if -1.0 < x {
-        if x < 18446744073709551616.0 {
-            let n = std::num::truncating_f32_to_u64(x);
-            if n < most as u64 {
-                return n as u32;
-            }
-        }
-    }
-    most
+    let shared = score * t as f32 / 2.0;
+    most.min(std::num::saturating_f32_to_u32(shared))
 }
 
 // Whether m shared beats the floor.
@@ -64,8 +47,7 @@ fn shares_beat(floor: Floor, m: u32, a: u32, b: u32) -> bool
     requires { (m ≤ a) × (m ≤ b) × (a ≤ total_most) × (b ≤ total_most) }
     ensures { result ≡ floors.beats floor (words.score m a b) }
 {
-    let score = score_of(m, a, b);
-    beats(floor, score)
+    floor.beaten_by(score_of(m, a, b))
 }
 
 // Sharing less than this does not beat the floor. It may be less than could be said; each answer is tested.
@@ -73,7 +55,7 @@ pub fn useless(floor: Floor, a: u32, b: u32) -> u32
     requires { (a ≤ total_most) × (b ≤ total_most) }
     ensures { Useless floor a b result }
 {
-    let most = smaller(a, b);
+    let most = a.min(b);
     if !shares_beat(floor, most, a, b) {
         return most + 1;
     }

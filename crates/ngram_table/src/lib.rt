@@ -8,6 +8,7 @@ ghost use Rattle.rules.specs.Table as words;
 ghost use Rattle.sort_tally.specs.Group.{parts_at};
 ghost use Rattle.ngram_table.specs.Tables.{table_at};
 
+use sort_order::BIGRAM;
 use sort_tally::tally_parts;
 
 // How many bigrams a table counts, and how many of them are distinct.
@@ -16,6 +17,9 @@ pub struct TableSize {
     pub total: usize,
     pub distinct: usize,
 }
+
+// What ends a word.
+const SPACE: u8 = 32;
 
 // Where the bigrams start: where each word starts but the last. Their number comes back.
 pub fn bigrams(text: &[u8], p: &mut [u32]) -> usize
@@ -27,14 +31,11 @@ pub fn bigrams(text: &[u8], p: &mut [u32]) -> usize
 {
     let mut k = 0;
     let mut word = 0;
-    let mut i = 0;
-    while i < text.len() {
-        let x = text[i];
-        i = i + 1;
-        if x == 32 {
+    for (i, x) in text.iter().enumerate() {
+        if *x == SPACE {
             p[k] = word;
-            k = k + 1;
-            word = i as u32;
+            k += 1;
+            word = i as u32 + 1;
         }
     }
     k
@@ -49,6 +50,6 @@ pub fn table(text: &[u8], p: &mut [u32]) -> TableSize
     ensures rest { drop (result.total + result.total) p.new ≡ drop (result.total + result.total) p.old }
 {
     let total = bigrams(text, p);
-    let distinct = tally_parts(text, p, total, 32, 2);
+    let distinct = tally_parts(text, p, total, BIGRAM);
     TableSize { total, distinct }
 }

@@ -6,6 +6,8 @@ use mathlib.Core.Path.{◌≡◌, refl, sym, ap, ◌∙◌}
 use mathlib.Core.Bool.{Bool, true, false, ◌&&◌}
 use mathlib.Core.List.{List, [], ◌∷◌, ◌++◌}
 use Prim.Native.Nat.{ℕ, suc, ◌+◌, ◌-◌, ◌*◌, ◌/◌, ◌%◌, ◌≤◌, ◌<◌}
+use native.Mathlib.Nat.{max-le, le-max_left, le-max_right}
+use Rattle.std.specs.Prelude.{max}
 use native.Mathlib.Omega.{arith}
 use lib.Dec.{ltb}
 use lib.ListN.{length, take, drop, set, get_or, length-append, length-set, take-append-drop}
@@ -15,7 +17,6 @@ use Rattle.lists.proofs.SliceLaws.{slice_next, slice_done}
 use Rattle.lists.proofs.StoreLaws.{slice_set_low}
 use Rattle.rules.specs.Bytes.{every}
 use Rattle.rules.specs.Points.{ascii, encoded}
-use Rattle.rules.proofs.BoolLaws.{and_not}
 use Rattle.rules.proofs.GrowthLaws.{encoded-more}
 use Rattle.points.specs.Spread.{Spread}
 
@@ -41,7 +42,7 @@ pub encoded-end : {l : List ℕ} → l ≡ [] → encoded l ≡ []
 unfolding encoded
 encoded-end e = rw e
 
--- ---- all below 128: of the greater of two, of a list by its front
+-- ---- all below 128: of the greater of two, of a list by its end
 and_assoc : (a b c : Bool) → (a && b && c) ≡ (a && (b && c))
 and_assoc true b c = refl
 and_assoc false b c = refl
@@ -50,29 +51,24 @@ and_true : (a : Bool) → a && true ≡ a
 and_true true = refl
 and_true false = refl
 
-pub second_greater : (a b : ℕ) → a < b → ltb b 128 ≡ (ltb a 128 && ltb b 128)
-second_greater a b h = at (ltb b 128) refl
+greatest-low : (a x : ℕ) → ltb (max a x) 128 ≡ (ltb a 128 && ltb x 128)
+greatest-low a x = at (ltb a 128) (ltb x 128) refl refl
   where
-    at : (t : Bool) → ltb b 128 ≡ t → ltb b 128 ≡ (ltb a 128 && ltb b 128)
-    at true q = let k = ltb-true b 128 q in rw (lt-ltb a 128 (omega arith))
-    at false q = q ∙ sym (and_not (ltb a 128) (ltb b 128) q)
+    at : (t u : Bool) → ltb a 128 ≡ t → ltb x 128 ≡ u → ltb (max a x) 128 ≡ (t && u)
+    at true true q r =
+        let h : max a x ≤ 127 = max-le (omega (arith, ltb-true a 128 q)) (omega (arith, ltb-true x 128 r)) in
+        lt-ltb (max a x) 128 (omega (arith, h))
+    at true false q r = le-ltb (max a x) 128 (omega (arith, le-max_right a x, ltb-false x 128 r))
+    at false u q r = le-ltb (max a x) 128 (omega (arith, le-max_left a x, ltb-false a 128 q))
 
-pub first_greater : (a b : ℕ) → b ≤ a → ltb a 128 ≡ (ltb a 128 && ltb b 128)
-first_greater a b h = at (ltb a 128) refl
-  where
-    at : (t : Bool) → ltb a 128 ≡ t → ltb a 128 ≡ (ltb a 128 && ltb b 128)
-    at true q = let k = ltb-true a 128 q in rw (q, lt-ltb b 128 (omega arith))
-    at false q = rw q
-
--- the front is read into the greatest so far
-pub ascii-next : (top top' x : ℕ) {l l' : List ℕ} → l ≡ x ∷ l' → ltb top' 128 ≡ (ltb top 128 && ltb x 128) → (ltb top' 128 && ascii l') ≡ (ltb top 128 && ascii l)
+ascii_last : (ys : List ℕ) (x : ℕ) → ascii (ys ++ (x ∷ [])) ≡ (ascii ys && ltb x 128)
 unfolding ascii every
-ascii-next top top' x {l} {l'} e g =
-    ap (λ (b : Bool). b && ascii l') g ∙ and_assoc (ltb top 128) (ltb x 128) (ascii l') ∙ ap (λ (m : List ℕ). ltb top 128 && ascii m) (sym e)
+ascii_last [] x = and_true (ltb x 128)
+ascii_last (y ∷ ys) x = ap (λ (b : Bool). ltb y 128 && b) (ascii_last ys x) ∙ sym (and_assoc (ltb y 128) (ascii ys) (ltb x 128))
 
-pub ascii-end : (top : ℕ) {l : List ℕ} → l ≡ [] → (ltb top 128 && ascii l) ≡ ltb top 128
-unfolding ascii every
-ascii-end top e = ap (λ (m : List ℕ). ltb top 128 && ascii m) e ∙ and_true (ltb top 128)
+-- one more is read into the greatest so far
+pub ascii_more : (ys : List ℕ) (a b x : ℕ) → ltb a 128 ≡ ascii ys → b ≡ max a x → ltb b 128 ≡ ascii (ys ++ (x ∷ []))
+ascii_more ys a b x e q = ap (λ (n : ℕ). ltb n 128) q ∙ greatest-low a x ∙ ap (λ (t : Bool). t && ltb x 128) e ∙ sym (ascii_last ys x)
 
 -- ---- by parts, and how long it is
 pub encoded-append : (a b : List ℕ) → encoded (a ++ b) ≡ encoded a ++ encoded b
@@ -261,3 +257,9 @@ module _ {start end r i w : ℕ} {d₀ d : List ℕ} (p : Back start end r d₀ 
               slice_set_front (w - 1 - 1) r v d₁ (omega (arith, back_within)) (omega arith) ∙ ap (λ (k : ℕ). v ∷ slice k r d₁) f ∙ ap (λ (q : List ℕ). v ∷ q) first ∙
               sym (encoded-high x (next end p.order p.within) l);
         }
+
+-- nothing is left
+pub back_out : {start end r : ℕ} {d₀ d : List ℕ} {i w : ℕ} → Back start end r d₀ d i w → i ≤ start → Spread d₀ start end r d
+back_out {start} {end} {r} {d₀} {d} {i} {w} p h =
+    let n : length (encoded (slice start i d₀)) ≡ 0 = ap length (encoded-end (slice_done d₀ start i h)) in
+    back_end p (omega (arith, p.count, p.low))

@@ -6,26 +6,11 @@ ghost use Rattle.std.proofs.Math.Seq.{slice};
 ghost use Rattle.rules.specs.Points.{ascii, encoded};
 ghost use Rattle.points.specs.Spread.{Spread};
 
-// The greater, by what is asked of it: both lie below 128, or it does not.
-fn greater(a: u8, b: u8) -> u8
-    ensures { ltb result 128 ≡ (ltb a 128 && ltb b 128) }
-{
-    if a < b {
-        return b;
-    }
-    a
-}
-
 // Whether all lie below 128. One walk to the end, without a way out of it: so it is made of steps of many bytes at once.
 fn is_ascii(s: &[u8]) -> bool
     ensures { result ≡ ascii s.now }
 {
-    let mut top = 0;
-    let mut i = 0;
-    while i < s.len() {
-        top = greater(top, s[i]);
-        i += 1;
-    }
+    let top = s.iter().fold(0u8, |top, b| top.max(*b));
     top < 128
 }
 
@@ -38,11 +23,8 @@ pub fn utf8_len(s: &[u8]) -> usize
         return s.len();
     }
     let mut n = 0;
-    let mut i = 0;
-    while i < s.len() {
-        let b = s[i];
-        i += 1;
-        n += 1 + (b / 128) as usize;
+    for b in s {
+        n += 1 + usize::from(*b / 128);
     }
     n
 }
@@ -52,10 +34,7 @@ pub fn longer_than(most: usize, s: &[u8]) -> bool
     requires { most ≤ 3 }
     ensures { result ≡ ltb most (length (encoded s.now)) }
 {
-    if most < s.len() {
-        return true;
-    }
-    most < utf8_len(s)
+    most < s.len() || most < utf8_len(s)
 }
 
 // What stands from start up to end, as UTF-8 in its place; answers where that ends. From the end backwards, so that nothing is written over
@@ -65,10 +44,11 @@ pub fn encode_in(area: &mut [u8], start: usize, end: usize) -> usize
     ensures { Spread area.old start end result area.new }
 {
     let r = start + utf8_len(&area[start..end]);
-    let mut i = end;
     let mut w = r;
-    while i < w {
-        i -= 1;
+    for i in (start..end).rev() {
+        if w <= i + 1 {
+            break;
+        }
         let b = area[i];
         w -= 1;
         if b < 128 {

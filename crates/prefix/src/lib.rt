@@ -11,10 +11,11 @@ ghost use Rattle.preproc_table.specs.Entries.{table_end, view_start, lines_at, A
 ghost use Rattle.prefix_list.specs.Listing.{plain_lines};
 ghost use Rattle.prefix_choice.specs.Choice.{Strips};
 
-use prefix_choice::{Common, choose};
+use prefix_choice::choose;
 use prefix_list::{home, list_prefixes};
 use preproc_table::table_end;
 use rules::View;
+use slices::ends::ByteSpan;
 
 // What pass 1 strips from the view's lines, as bytes of the lines' region [n, 4n): the list of prefixes at 4n is written over later.
 // n log n in the view's bytes: the sort is, and all else is linear.
@@ -25,7 +26,7 @@ pub fn common_prefix(
     n: usize,
     count: usize,
     v: View,
-) -> Common
+) -> Option<ByteSpan>
     requires classes { Classes class.now × Apart n (view_start n) words.old count × (v.start ≤ v.end) × (v.end ≤ count) × (count ≤ n + 1) }
     requires n_le_text_most { (n ≤ text_most) × (byte_area n ≤ length area.old) × (word_area n ≤ length words.old) }
     requires count_value { plain_lines (lines_at area.old words.old count) ≡ true }
@@ -34,17 +35,10 @@ pub fn common_prefix(
     ensures words { take (table_end n) words.new ≡ take (table_end n) words.old }
 {
     let x = list_prefixes(class, area, words, n, count, v);
-    let k = x.k;
-    let end = x.end;
-    if k == 0 {
-        return Common::Nothing;
+    if x.k == 0 {
+        return None;
     }
-    let lines = v.end - v.start;
     let at = table_end(n);
-    let found = choose(&area[..end], words, at, k, lines);
-    let Common::Prefix(start, stop) = found else {
-        return Common::Nothing;
-    };
-    let s = home(class, area, words, n, count, v, start, stop);
-    Common::Prefix(s.start, s.end)
+    let found = choose(&area[..x.end], words, at, x.k, v.end - v.start)?;
+    Some(home(class, area, words, n, count, v, found.start, found.end))
 }

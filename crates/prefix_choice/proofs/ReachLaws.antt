@@ -1,7 +1,7 @@
 -- Parts that end at a newline: they hold none, and a string without one is where the part starts if it is where the text does. The
 -- groups of a table, one after the other, and the walks over them.
 -- Assumes nothing.
-use mathlib.Core.Path.{◌≡◌, refl, sym, ap}
+use mathlib.Core.Path.{◌≡◌, refl, ap}
 use mathlib.Core.Bool.{Bool, true, false, cond, not, ◌&&◌}
 use mathlib.Core.List.{List, [], ◌∷◌, ◌++◌}
 use Prim.Native.Nat.{ℕ, zero, suc, ◌+◌, ◌*◌, ◌≤◌, ◌<◌}
@@ -92,7 +92,7 @@ module _ {text p w : List ℕ} {k d sum j : ℕ} (r : Reaching text p w k d sum 
     unfolding reached
     split t e = rw (entries_next text p k d j h few room, starts-part w (drop (get_or p j 0) text) smooth, ← e₁, e, ← e₂)
 
-    pub reaching_hit : starts w (drop start text) ≡ true → count < 4294967296 → Reaching text p w k d (sum + count + 1) (j + 1)
+    pub reaching_hit : starts w (drop start text) ≡ true → count < 4294967296 → Reaching text p w k d (sum + (count + 1)) (j + 1)
     reaching_hit e l =
         record { within = omega arith; small = omega (arith, r.small); total = omega (arith, split true e, r.total) }
 
@@ -124,15 +124,12 @@ beaten_trans p k i j w a b =
 abbrev Told : List ℕ → ℕ → ℕ → ℕ → Bool → Type 0
 Told p k best i t = (t ≡ true → Beaten p k best i) × (t ≡ false → Beaten p k i best)
 
-no : {A : Type 0} → true ≡ false → A
-no e = let z : ◌≡◌ {A = ℕ} 0 1 = cc in absurd (omega arith)
-
 module _ (p : List ℕ) (k best i : ℕ) where
-  pub told_more : get_or p (k + best) 0 < get_or p (k + i) 0 → Told p k best i true
-  told_more h = (λ e. beaten_less p k best i h, λ e. no e)
-
-  pub told_less : get_or p (k + i) 0 < get_or p (k + best) 0 → Told p k best i false
-  told_less h = (λ e. no (sym e), λ e. beaten_less p k i best h)
+  pub told_counts : (get_or p (k + best) 0 ≡ get_or p (k + i) 0 → ⊥) → Told p k best i (ltb (get_or p (k + best) 0) (get_or p (k + i) 0))
+  told_counts n = (
+    λ e. beaten_less p k best i (ltb-true (get_or p (k + best) 0) (get_or p (k + i) 0) e),
+    λ e. let l = ltb-false (get_or p (k + best) 0) (get_or p (k + i) 0) e in beaten_less p k i best (omega arith),
+  )
 
   pub told_tie : get_or p (k + i) 0 ≤ get_or p (k + best) 0 → get_or p (k + best) 0 ≤ get_or p (k + i) 0 → Told p k best i (ltb (get_or p i 0) (get_or p best 0))
   told_tie h l = (

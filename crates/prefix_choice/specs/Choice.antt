@@ -1,6 +1,6 @@
 -- What is chosen among the common prefixes, and what pass 1 strips.
 -- Assumes nothing.
-use Rattle.std.specs.Prelude.{◌≡◌, List, map, ℕ, ◌+◌, ◌≤◌, ◌<◌, length, get_or}
+use Rattle.std.specs.Prelude.{◌≡◌, List, map, ℕ, ◌+◌, ◌≤◌, ◌<◌, length, get_or, Option, None, Some}
 use Rattle.std.proofs.Math.Seq.{slice}
 use Rattle.rules.specs.Prefix.{prefixes, strip, without_prefix}
 use Rattle.rules.specs.Table.{occurs}
@@ -8,8 +8,7 @@ use Rattle.preproc_table.specs.Entries.{view_start}
 use Rattle.sort_spread.specs.Sort.{part_later, msorted}
 use Rattle.sort_tally.specs.Group.{groups, Grouped, parts_at}
 use Rattle.sort_tally.specs.Group.{Climbing}
-use Rattle.prefix_choice.specs.declared.Common.{Common}
-use Rattle.prefix_choice.specs.declared.Common.TheVariants.{Nothing, Prefix}
+use Rattle.slices.specs.declared.ends.ByteSpan.{ByteSpan}
 
 -- of the groups in p, counts from k on, w counts no less than j, and if as much then it starts no later
 pub record Beaten (p : List ℕ) (k j w : ℕ) : Type 0 where
@@ -28,12 +27,12 @@ pub record Grouping (text p : List ℕ) (k d : ℕ) (ls : List (List ℕ)) (xs :
   pub grouped : Grouped (groups (part_later 10 1 text) (msorted (part_later 10 1 text) k xs)) k d p
 
 -- nothing is stripped, or the bytes of the span, which are one of the prefixes
-abbrev pub Decided : List (List ℕ) → List ℕ → Common → Type 0
-Decided ls text Nothing = without_prefix ls ≡ ls
-Decided ls text (Prefix s e) =
-    (s ≤ e) × (e ≤ length text) × (without_prefix ls ≡ map (strip (slice s e text)) ls) × (0 < occurs (slice s e text) (prefixes ls))
+abbrev pub Decided : List (List ℕ) → List ℕ → Option ByteSpan → Type 0
+Decided ls text None = without_prefix ls ≡ ls
+Decided ls text (Some r) =
+    (r.start ≤ r.end) × (r.end ≤ length text) × (without_prefix ls ≡ map (strip (slice r.start r.end text)) ls) × (0 < occurs (slice r.start r.end text) (prefixes ls))
 
 -- what pass 1 strips from the lines ls, by bytes of the lines' region [n, 4n)
-abbrev pub Strips : ℕ → List (List ℕ) → List ℕ → Common → Type 0
-Strips n ls area Nothing = without_prefix ls ≡ ls
-Strips n ls area (Prefix s e) = (without_prefix ls ≡ map (strip (slice s e area)) ls) × (n ≤ s) × (s ≤ e) × (e ≤ view_start n)
+abbrev pub Strips : ℕ → List (List ℕ) → List ℕ → Option ByteSpan → Type 0
+Strips n ls area None = without_prefix ls ≡ ls
+Strips n ls area (Some r) = (without_prefix ls ≡ map (strip (slice r.start r.end area)) ls) × (n ≤ r.start) × (r.start ≤ r.end) × (r.end ≤ view_start n)

@@ -12,26 +12,20 @@ ghost use Rattle.sort_tally.specs.Group.{Has};
 ghost use Rattle.prefix_list.specs.Listing.{plain};
 ghost use Rattle.prefix_choice.specs.Choice.{Beaten, ListsAt, Grouping, Decided};
 
+use slices::ends::ByteSpan;
 use slices::wide::wide;
 use slices_order::starts_with;
-use sort_order::part_end;
+use sort_order::LINE;
 use sort_parts::sort_parts;
 use sort_tally::group_parts;
-
-// What is stripped: nothing, or the bytes from a start up to an end.
-#[derive(Clone, Copy)]
-pub enum Common {
-    Nothing,
-    Prefix(usize, usize),
-}
 
 // The first k of p, starts of prefixes in the text, sorted and grouped as `group_parts` leaves them. n log n in the text's bytes.
 pub fn group_prefixes(text: &[u8], p: &mut [u32], k: usize) -> usize
     requires { (k + k ≤ length p.old) × (k < 4294967296) }
     ensures { Grouped (groups (part_later 10 1 text.now) (msorted (part_later 10 1 text.now) k (take k p.old))) k result p.new }
 {
-    sort_parts(text, p, k, 10, 1);
-    group_parts(text, p, k, 10, 1)
+    sort_parts(text, p, k, LINE);
+    group_parts(text, p, k, LINE)
 }
 
 // Whether group i counts more than group `best`, or as much and starts earlier.
@@ -39,11 +33,8 @@ fn counts_more(p: &[u32], k: usize, best: usize, i: usize) -> bool
     requires { (best < k) × (i < k) × (k + k ≤ length p.now) }
     ensures { (result ≡ true → Beaten p.now k best i) × (result ≡ false → Beaten p.now k i best) }
 {
-    if p[k + best] < p[k + i] {
-        return true;
-    }
-    if p[k + i] < p[k + best] {
-        return false;
+    if p[k + best] != p[k + i] {
+        return p[k + best] < p[k + i];
     }
     p[i] < p[best]
 }
@@ -55,12 +46,9 @@ pub fn winner(p: &[u32], k: usize, d: usize) -> usize
     ensures most { (j : ℕ) → j < d → Beaten p.now k j result }
 {
     let mut best = 0;
-    let mut i = 1;
-    while i < d {
-        let j = i;
-        i = i + 1;
-        if counts_more(p, k, best, j) {
-            best = j;
+    for i in 1..d {
+        if counts_more(p, k, best, i) {
+            best = i;
         }
     }
     best
@@ -74,36 +62,34 @@ pub fn reach(text: &[u8], p: &[u32], k: usize, d: usize, a: usize, b: usize) -> 
 {
     let w = &text[a..b];
     let mut sum = 0;
-    let mut j = 0;
-    while j < d {
+    for j in 0..d {
         let start = wide(p[j]);
         let count = wide(p[k + j]);
-        j = j + 1;
         if starts_with(text, start, w) {
-            sum = sum + count + 1;
+            sum += count + 1;
         }
     }
     sum
 }
 
-// What is stripped, as bytes of the list of prefixes: the winner, where the sum is no less than four fifths of the lines.
-pub fn decide(text: &[u8], p: &[u32], k: usize, d: usize, lines: usize) -> Common
+// What is stripped, as bytes of the list of prefixes: the winner, where the sum is no less than four fifths of the lines; else nothing.
+pub fn decide(text: &[u8], p: &[u32], k: usize, d: usize, lines: usize) -> Option<ByteSpan>
     requires d_nonzero { (0 < d) × (d ≤ k) × (k + k ≤ length p.now) × (k < 4294967296) × (lines < 4294967296) }
     requires by_index { (j : ℕ) → j < d → get_or p.now j 0 ≤ length text.now }
     ensures { (ls : List (List ℕ)) (xs : List ℕ) → Grouping text.now p.now k d ls xs → length ls ≡ lines → Decided ls text.now result }
 {
     let w = winner(p, k, d);
     let start = wide(p[w]);
-    let end = part_end(text, start, 10, 1);
+    let end = LINE.part_end(text, start);
     let sum = reach(text, p, k, d, start, end);
     if sum < 4 * lines / 5 {
-        return Common::Nothing;
+        return None;
     }
-    Common::Prefix(start, end)
+    Some(ByteSpan { start, end })
 }
 
 // What is stripped, by the k starts that stand in the words from `at` on; they are sorted and grouped there. n log n in the text's bytes.
-pub fn choose(text: &[u8], words: &mut [u32], at: usize, k: usize, lines: usize) -> Common
+pub fn choose(text: &[u8], words: &mut [u32], at: usize, k: usize, lines: usize) -> Option<ByteSpan>
     requires k_nonzero { (0 < k) × (at + (k + k) ≤ length words.old) × (k < 4294967296) × (lines < 4294967296) }
     requires by_index { (a : ℕ) → Has a (take k (drop at words.old)) → a ≤ length text.now }
     ensures front { take at words.new ≡ take at words.old }

@@ -37,14 +37,10 @@ pub fn home(
     ensures { Home n area.now (slice a b area.now) result }
 {
     let prefix = &area[a..b];
-    let stop = v.end;
-    let mut i = v.start;
-    while i + 1 < stop {
+    let last = v.end.saturating_sub(1);
+    for i in v.start..last {
         let s = shared(class, area, table, i);
-        let start = s.start;
-        let end = s.end;
-        i = i + 1;
-        if equal(&area[start..end], prefix) {
+        if equal(&area[s.start..s.end], prefix) {
             return s;
         }
     }
@@ -104,23 +100,19 @@ pub fn list_prefixes(
     ensures { ListStands n (prefixes (lines_from area.old words.old v.start (v.end - v.start))) area.old words.old result area.new words.new }
 {
     let at = table_end(n);
-    let stop = v.end;
+    let last = v.end.saturating_sub(1);
     let mut k = 0;
     let mut w = view_start(n);
-    let mut i = v.start;
-    while i + 1 < stop {
+    for i in v.start..last {
         let s = shared(class, area, words, i);
-        let from = s.start;
-        let end = s.end;
-        let len = end - from;
-        i = i + 1;
-        if longer_than(PREFIX_SHORT, &area[from..end]) {
-            put_prefix(area, from, len, w);
+        let len = s.end - s.start;
+        if longer_than(PREFIX_SHORT, &area[s.start..s.end]) {
+            put_prefix(area, s.start, len, w);
             let j = at + k;
             words[j] = w as u32;
-            k = k + 1;
+            k += 1;
             w = w + len + 1;
         }
     }
-    Listed { k: k, end: w }
+    Listed { k, end: w }
 }

@@ -1,6 +1,6 @@
 -- What a hit of pass 6 takes at a place, case by case, over the numbers that the matchers have found on the way.
 -- Assumes nothing.
-use mathlib.Core.Path.{◌≡◌, refl, sym, ap, ◌∙◌, fun_ext}
+use mathlib.Core.Path.{◌≡◌, refl, sym, ap, subst, ◌∙◌, fun_ext}
 use mathlib.Core.Bool.{Bool, true, false, cond, ◌&&◌}
 use mathlib.Core.List.{List, [], ◌∷◌}
 use Prim.Native.Nat.{ℕ, zero, suc, ◌+◌, ◌-◌, ◌≤◌, ◌<◌, zero-le}
@@ -14,6 +14,12 @@ use Rattle.rules.specs.Bytes.{text, newline, space, digit, lead, line_len, start
 use Rattle.rules.specs.Passes.{paragraph, hit_a, hit_b, item, spaced, items, hit_c, or_else, hit}
 use Rattle.rules.proofs.BoolLaws.{cond_of}
 use Rattle.rules.proofs.HitLaws.{lead-length, items-length}
+use Rattle.std.proofs.Common.{Option, None, Some, MatchOption}
+use Rattle.preproc_copyright.specs.Takes.{Takes}
+
+-- ---- what a matcher finds is what another number says
+pub takes_as : (o : Option ℕ) {n m : ℕ} → n ≡ m → Takes o n → Takes o m
+takes_as o e t = subst (λ (k : ℕ). Takes o k) e t
 
 -- ---- A
 module _ (s : List ℕ) (at k : ℕ) (blank n : ℕ) (b : blank ≡ lead (eqb 32) (drop (at + k) s)) where
@@ -201,27 +207,22 @@ unfolding hit_c
 C-none s = refl
 
 -- ---- all
-module _ (start fresh : Bool) (s : List ℕ) (a : ℕ) (e : a ≡ hit_a start s) where
-  pub hit-A : 0 < a → hit start fresh s ≡ a
-  unfolding hit or_else
-  hit-A p =
-      let q : hit_a start s ≡ suc (a - 1) = omega arith in
-      let z : suc (a - 1) ≡ a = omega arith in
-      rw q z
+or-some : (a b : ℕ) → 0 < a → or_else a b ≡ a
+unfolding or_else
+or-some zero b h = omega arith
+or-some (suc a) b h = refl
 
-  module _ (b : ℕ) (p : a ≤ 0) (f : b ≡ hit_b start s) where
-    none : hit_a start s ≡ 0
-    none = omega arith
+or-again : (a b c : ℕ) → or_else (or_else a b) c ≡ or_else a (or_else b c)
+unfolding or_else
+or-again zero b c = refl
+or-again (suc a) b c = refl
 
-    pub hit-B : 0 < b → hit start fresh s ≡ b
-    unfolding hit or_else
-    hit-B q =
-        let r : hit_b start s ≡ suc (b - 1) = omega arith in
-        let z : suc (b - 1) ≡ b = omega arith in
-        rw (none, r) z
+-- what is found first, or else what Q says of r
+pub takes-or : {Q : Type 0} (o r : Option ℕ) (a b : ℕ) → Takes o a → MatchOption o Q (λ x. r ≡ Some x) → (Q → Takes r b) → Takes r (or_else a b)
+unfolding or_else
+takes-or None r a b t q f = rw t (f q)
+takes-or (Some x) r a b t q f = rw (q, or-some a b (omega (arith, t.0, t.1))) t
 
-    pub hit-C : b ≤ 0 → hit start fresh s ≡ hit_c fresh s
-    unfolding hit or_else
-    hit-C q =
-        let r : hit_b start s ≡ 0 = omega arith in
-        rw (none, r)
+pub hit-order : (start fresh : Bool) (s : List ℕ) → or_else (or_else (hit_a start s) (hit_b start s)) (hit_c fresh s) ≡ hit start fresh s
+unfolding hit
+hit-order start fresh s = or-again (hit_a start s) (hit_b start s) (hit_c fresh s)

@@ -8,11 +8,11 @@ use Prim.Native.Nat.{ℕ, zero, suc, ◌+◌, ◌-◌, ◌≤◌, ◌<◌}
 use native.Mathlib.Nat.{not-suc-le-zero}
 use native.Mathlib.Omega.{arith}
 use lib.Dec.{eqb}
-use lib.ListN.{length, take, drop, get_or, set}
-use lib.Seq.{slice, length-slice, drop-drop}
+use lib.ListN.{length, drop, get_or, set, length-drop}
+use lib.Seq.{drop-drop}
 use borrow.Author.Tests.{lt-ltb, ne_eqb}
 use Rattle.lists.proofs.SliceLaws.{drop-next}
-use Rattle.lists.proofs.InPlaceLaws.{Over, over-next, over-rest, over-at, over_jump, over_write, over-put}
+use Rattle.lists.proofs.InPlaceLaws.{Over, over-next, over-at, over_jump, over_write, over-put}
 use Rattle.rules.specs.Bytes.{text, newline, starts}
 use Rattle.rules.specs.Passes.{hit_a, hit_b, hit_c, or_else, hit, without_copyright}
 use Rattle.rules.proofs.HitLaws.{Taken, hit-size}
@@ -69,40 +69,39 @@ unfolding without_copyright
 cut-done start fresh h = rw h
 
 -- ---- the walk: it is at i, where a text or a line may start, and has written w
-abbrev pub Cutting : ℕ → List ℕ → List ℕ → ℕ → ℕ → Bool → Type 0
-Cutting n src d i w fresh =
-    Over n (without_copyright true true 0 (take n src)) (without_copyright (eqb i 0) fresh 0 (slice i n src)) src d i w
+abbrev pub Cutting : List ℕ → List ℕ → ℕ → ℕ → Bool → Type 0
+Cutting src d i w fresh = Over (without_copyright true true 0 src) (without_copyright (eqb i 0) fresh 0 (drop i src)) src d i w
 
 past-start : (i : ℕ) → 0 < i → eqb i 0 ≡ false
 past-start i h = ne_eqb i 0 (λ e. omega arith)
 
-module _ {n i w : ℕ} {src d : List ℕ} (fresh : Bool) (p : Cutting n src d i w fresh) (h : i < n) where
+module _ {i w : ℕ} {src d : List ℕ} (fresh : Bool) (p : Cutting src d i w fresh) (h : i < length src) where
   -- no hit: the byte goes over
-  pub cutting_miss : hit (eqb i 0) fresh (slice i n d) ≡ 0 → Cutting n src (set d w (get_or d i 0)) (i + 1) (w + 1) (eqb (get_or d i 0) 10)
+  pub cutting_miss : hit (eqb i 0) fresh (drop i d) ≡ 0 → Cutting src (set d w (get_or d i 0)) (i + 1) (w + 1) (eqb (get_or d i 0) 10)
   unfolding newline
   cutting_miss e =
-      let z : hit (eqb i 0) fresh (slice i n src) ≡ 0 = rw (over-rest p) at e in
-      let f : without_copyright (eqb i 0) fresh 0 (slice i n src) ≡ get_or d i 0 ∷ without_copyright (eqb (i + 1) 0) (eqb (get_or d i 0) 10) 0 (slice (i + 1) n src) =
+      let z : hit (eqb i 0) fresh (drop i src) ≡ 0 = rw p.back at e in
+      let f : without_copyright (eqb i 0) fresh 0 (drop i src) ≡ get_or d i 0 ∷ without_copyright (eqb (i + 1) 0) (eqb (get_or d i 0) 10) 0 (drop (i + 1) src) =
       cut_miss (eqb i 0) fresh (get_or d i 0) (over-next p h) z ∙ rw (past-start (i + 1) (omega arith)) in
       over-put f h p
 
   -- a hit of k bytes
-  module _ (k : ℕ) (q : k ≡ hit (eqb i 0) fresh (slice i n d)) (e : k ≡ 0 → ⊥) where
-    here : k ≡ hit (eqb i 0) fresh (slice i n src)
-    here = q ∙ rw (over-rest p)
+  module _ (k : ℕ) (q : k ≡ hit (eqb i 0) fresh (drop i d)) (e : 0 < k) where
+    here : k ≡ hit (eqb i 0) fresh (drop i src)
+    here = q ∙ rw p.back
 
-    pub cutting_long : (2 ≤ k) × (i + k ≤ n)
+    pub cutting_long : (2 ≤ k) × (i + k ≤ length src)
     cutting_long =
-        let f = hit_fits (eqb i 0) fresh (get_or d i 0) (over-next p h) (λ z. e (here ∙ z)) in
-        omega (arith, here, f, length-slice i n src p.room)
+        let f = hit_fits (eqb i 0) fresh (get_or d i 0) (over-next p h) (λ z. omega (arith, here, z)) in
+        omega (arith, here, f, length-drop i src)
 
     -- it becomes two newlines, and its last byte tells whether a line starts behind it
-    pub cutting_hit : Cutting n src (set (set d w 10) (w + 1) 10) (i + k) (w + 1 + 1) (eqb (get_or d (i + k - 1) 0) 10)
+    pub cutting_hit : Cutting src (set (set d w 10) (w + 1) 10) (i + k) (w + 1 + 1) (eqb (get_or d (i + k - 1) 0) 10)
     unfolding newline
     cutting_hit =
         let l = cutting_long in
         let a : i + (k - 1) ≡ i + k - 1 = omega arith in
-        let b : get_or (slice i n src) (k - 1) 0 ≡ get_or d (i + k - 1) 0 = over-at (k - 1) p (omega arith) ∙ ap (λ (j : ℕ). get_or d j 0) a in
-        let f : without_copyright (eqb i 0) fresh 0 (slice i n src) ≡ 10 ∷ 10 ∷ without_copyright (eqb (i + k) 0) (eqb (get_or d (i + k - 1) 0) 10) 0 (slice (i + k) n src) =
-        cut-hit (eqb i 0) fresh (get_or d i 0) (over-next p h) k here e ∙ rw (b, past-start (i + k) (omega arith), drop-drop k i (take n src)) in
-        over_write refl (omega arith) (over_write f (omega arith) (over_jump (i + k) refl (omega arith) (omega arith) p))
+        let b : get_or (drop i src) (k - 1) 0 ≡ get_or d (i + k - 1) 0 = over-at (k - 1) p ∙ ap (λ (j : ℕ). get_or d j 0) a in
+        let f : without_copyright (eqb i 0) fresh 0 (drop i src) ≡ 10 ∷ 10 ∷ without_copyright (eqb (i + k) 0) (eqb (get_or d (i + k - 1) 0) 10) 0 (drop (i + k) src) =
+        cut-hit (eqb i 0) fresh (get_or d i 0) (over-next p h) k here (λ z. omega arith) ∙ rw (b, past-start (i + k) (omega arith), drop-drop k i src) in
+        over_write refl (omega arith) (over_write f (omega arith) (over_jump (i + k) refl (omega arith) l.1 p))

@@ -2,6 +2,7 @@
 -- Assumes nothing.
 use mathlib.Core.Path.{◌≡◌, refl, sym, ap, ap₂, ◌∙◌}
 use mathlib.Core.Bool.{true, false}
+use Rattle.std.proofs.Common.{Option, None, Some}
 use mathlib.Core.List.{List, [], ◌∷◌, ◌++◌, map, append-nil}
 use Prim.Native.Nat.{ℕ, zero, suc, ◌+◌, ◌-◌, ◌≤◌, ◌<◌}
 use native.Mathlib.Omega.{arith}
@@ -18,53 +19,61 @@ use Rattle.slices.specs.Ends.{Bare}
 use Rattle.slices.proofs.EndLaws.{bare-within, bare-trim}
 use Rattle.slices.proofs.KindLaws.{by_table, space-table}
 use Rattle.preproc_table.specs.Entries.{start_at, end_at, line_at, lines_from}
-use Rattle.preproc_join.specs.declared.Prefix.{Prefix}
-use Rattle.preproc_join.specs.Joins.{Past, left, Left, Puts, Put, Added, view_lines, tails, Below, Joined}
+use Rattle.preproc_join.specs.Joins.{bytes_of, LiesBelow, Past, left, Left, Puts, Put, Added, view_lines, tails, Below, Joined}
 
 -- ---- behind a prefix
-module _ (area : List ℕ) (a e at len : ℕ) (h : a ≤ e) (k : e ≤ length area) (l : at + len ≤ length area) where
+module _ (area : List ℕ) (a e : ℕ) (p : ByteSpan) (h : a ≤ e) (k : e ≤ length area) (o : p.start ≤ p.end) (l : p.end ≤ length area) where
   abbrev P : List ℕ
-  P = slice at (at + len) area
+  P = bytes_of area p
 
-  lent : take (at + len - at) (drop at area) ≡ P
-  lent = part_slice at (at + len) area
+  lent : take (p.end - p.start) (drop p.start area) ≡ P
+  lent = part_slice p.start p.end area
 
-  long : length P ≡ len
-  long = omega (arith, length-slice at (at + len) area l)
+  long : length P ≡ p.end - p.start
+  long = length-slice p.start p.end area l
 
-  module _ (s : starts (take (at + len - at) (drop at area)) (slice a e area) ≡ true) where
+  module _ (s : starts (take (p.end - p.start) (drop p.start area)) (slice a e area) ≡ true) where
     there : starts P (slice a e area) ≡ true
     there = ap (λ (w : List ℕ). starts w (slice a e area)) (sym lent) ∙ s
 
-    pub past_fits : a + len ≤ e
+    pub past_fits : a + (p.end - p.start) ≤ e
     past_fits = omega (arith, starts-length P (slice a e area) there, long, length-slice a e area k)
 
-    pub past-there : Past area a e at len (a + len)
+    pub past-there : Past area a e p (a + (p.end - p.start))
     past-there =
-        record { low = omega arith; high = past_fits; rest = rw (there, long) (sym (drop-drop len a (take e area))) }
+        record { low = omega arith; high = past_fits; rest = rw (there, long) (sym (drop-drop (p.end - p.start) a (take e area))) }
 
-  pub past-other : starts (take (at + len - at) (drop at area)) (slice a e area) ≡ false → Past area a e at len a
+  pub past-other : starts (take (p.end - p.start) (drop p.start area)) (slice a e area) ≡ false → Past area a e p a
   past-other s =
-      let o : starts P (slice a e area) ≡ false = ap (λ (w : List ℕ). starts w (slice a e area)) (sym lent) ∙ s in
-      record { low = omega arith; high = h; rest = rw o }
+      let f : starts P (slice a e area) ≡ false = ap (λ (w : List ℕ). starts w (slice a e area)) (sym lent) ∙ s in
+      record { low = omega arith; high = h; rest = rw f }
+
+pub lies-below : {to w : ℕ} (p : Option ByteSpan) → to ≤ w → LiesBelow p to → LiesBelow p w
+lies-below None h q = tt
+lies-below (Some p) h q = (q.0, omega (arith, q.1))
+
+left-on : (d d₀ l : List ℕ) (p : Option ByteSpan) (to : ℕ) → ((a e : ℕ) → e ≤ to → slice a e d ≡ slice a e d₀) → LiesBelow p to → left d p l ≡ left d₀ p l
+unfolding left
+left-on d d₀ l None to f q = refl
+left-on d d₀ l (Some p) to f q = rw (f p.start p.end q.1)
 
 -- ---- what is left of line i, from a up to e
-module _ (area table : List ℕ) (i : ℕ) (p : Prefix) where
+module _ (area table : List ℕ) (i : ℕ) where
   module _ (a e : ℕ) (u : a ≡ start_at table i) (v : e ≡ end_at table i) (h : e ≤ length area) where
-    pub left-plain : p.strip ≡ false → start_at table i ≤ end_at table i → Left area table i p (record { start = a; end = e })
+    pub left-plain : start_at table i ≤ end_at table i → Left area table i None (record { start = a; end = e })
     unfolding left line_at
-    left-plain f k = record { low = omega arith; order = omega arith; high = omega arith; bytes = rw (f, ← u, ← v) }
+    left-plain k = record { low = omega arith; order = omega arith; high = omega arith; bytes = rw (← u, ← v) }
 
-    module _ (t : List ℕ) (k : ℕ) (s : ByteSpan) (q : Past area a e p.at p.len k) (b : Bare (space_in t) (take (e - k) (drop k area)) s) where
+    module _ (p : ByteSpan) (t : List ℕ) (k : ℕ) (s : ByteSpan) (q : Past area a e p k) (b : Bare (space_in t) (take (e - k) (drop k area)) s) where
       pub left-within : (s.start ≤ s.end) × (k + s.end ≤ e)
       left-within =
           let w = bare-within b in
           let m : length (take (e - k) (drop k area)) ≡ e - k = ap length (part_slice k e area) ∙ length-slice k e area h in
           omega (arith, q.high)
 
-      pub left-strip : Classes t → p.strip ≡ true → Left area table i p (record { start = k + s.start; end = k + s.end })
+      pub left-strip : Classes t → Left area table i (Some p) (record { start = k + s.start; end = k + s.end })
       unfolding left line_at strip
-      left-strip c f =
+      left-strip c =
           let w = left-within in
           let r : slice (k + s.start) (k + s.end) area ≡ trim (take (e - k) (drop k area)) =
           sym (slice_part s.start s.end (e - k) k area (omega arith)) ∙ bare-trim b (by_table space_in c space-table) in
@@ -72,20 +81,21 @@ module _ (area table : List ℕ) (i : ℕ) (p : Prefix) where
             low = omega (arith, q.low);
             order = omega arith;
             high = omega arith;
-            bytes = rw (f, ← u, ← v) (r ∙ ap trim (part_slice k e area ∙ q.rest));
+            bytes = rw (← u, ← v) (r ∙ ap trim (part_slice k e area ∙ q.rest));
           }
 
+module _ (area table : List ℕ) (i : ℕ) (p : Option ByteSpan) where
   pub left-length : {r : ByteSpan} → end_at table i ≤ length area → Left area table i p r → length (left area p (line_at area table i)) ≡ r.end - r.start
   left-length {r} h l = ap length (sym l.bytes) ∙ length-slice r.start r.end area (omega (arith, l.high))
 
 -- an area that is the same up to `to` has the same there
-module _ (d d₀ table : List ℕ) (i : ℕ) (p : Prefix) (to : ℕ) (s : take to d ≡ take to d₀) where
+module _ (d d₀ table : List ℕ) (i : ℕ) (p : Option ByteSpan) (to : ℕ) (s : take to d ≡ take to d₀) where
   same-part : (a e : ℕ) → e ≤ to → slice a e d ≡ slice a e d₀
   same-part a e h = sym (slice_first a e to d h) ∙ ap (slice a e) s ∙ slice_first a e to d₀ h
 
-  pub left-same : end_at table i ≤ to → p.at + p.len ≤ to → left d p (line_at d table i) ≡ left d₀ p (line_at d₀ table i)
-  unfolding left line_at
-  left-same h k = rw (same-part (start_at table i) (end_at table i) h, same-part p.at (p.at + p.len) k)
+  pub left-same : end_at table i ≤ to → LiesBelow p to → left d p (line_at d table i) ≡ left d₀ p (line_at d₀ table i)
+  unfolding line_at
+  left-same h k = rw (same-part (start_at table i) (end_at table i) h) (left-on d d₀ (slice (start_at table i) (end_at table i) d₀) p to same-part k)
 
 -- ---- joined: each line behind a newline, but for the first
 pub join-tails : (l : List ℕ) (ls : List (List ℕ)) → join (l ∷ ls) ≡ l ++ tails ls
@@ -93,7 +103,7 @@ unfolding tails join
 join-tails l [] = sym (append-nil l)
 join-tails l (m ∷ ms) = ap (λ (r : List ℕ). l ++ 10 ∷ r) (join-tails m ms)
 
-module _ (area table : List ℕ) (i end : ℕ) (p : Prefix) where
+module _ (area table : List ℕ) (i end : ℕ) (p : Option ByteSpan) where
   pub view-next : i < end → view_lines area table i end p ≡ left area p (line_at area table i) ∷ view_lines area table (i + 1) end p
   unfolding view_lines lines_from
   view-next h =
@@ -108,7 +118,7 @@ module _ (area table : List ℕ) (i end : ℕ) (p : Prefix) where
       rw q
 
 -- ---- what is left of line i, copied
-module _ {class area table : List ℕ} {i : ℕ} {p : Prefix} {to : ℕ} {s : ByteSpan} (q : Puts class area table i p to) (l : Left area table i p s) where
+module _ {class area table : List ℕ} {i : ℕ} {p : Option ByteSpan} {to : ℕ} {s : ByteSpan} (q : Puts class area table i p to) (l : Left area table i p s) where
   within : end_at table i ≤ length area
   within = omega (arith, q.below, q.room)
 
@@ -120,7 +130,7 @@ module _ {class area table : List ℕ} {i : ℕ} {p : Prefix} {to : ℕ} {s : By
   put-there e f = record { count = omega (arith, left-length area table i p within l); bytes = rw (← l.bytes, e, ← part_slice s.start s.end area) f }
 
 -- ---- the lines are the same over areas that are the same below `to`
-module _ {class table : List ℕ} {end : ℕ} {p : Prefix} {to : ℕ} (q : Below class table end p to) (d d₀ : List ℕ) (s : take to d ≡ take to d₀) where
+module _ {class table : List ℕ} {end : ℕ} {p : Option ByteSpan} {to : ℕ} (q : Below class table end p to) (d d₀ : List ℕ) (s : take to d ≡ take to d₀) where
   same_count : (n i : ℕ) → i + n ≤ end → map (left d p) (lines_from d table i n) ≡ map (left d₀ p) (lines_from d₀ table i n)
   unfolding lines_from
   same_count zero i h = refl
@@ -139,17 +149,17 @@ module _ {class table : List ℕ} {end : ℕ} {p : Prefix} {to : ℕ} (q : Below
         entry = omega (arith, q.entries);
         order = q.order i h;
         below = omega (arith, q.below i h);
-        prefix = omega (arith, q.prefix);
+        prefix = lies-below p k q.prefix;
         room = rw (left-same d d₀ table i p to s (q.below i h) q.prefix) r;
       }
 
 -- ---- the walk over the lines from `first` on, each behind a newline: those before i are there up to w
-pub record Joining (d₀ d table : List ℕ) (first end : ℕ) (p : Prefix) (to i w : ℕ) : Type 0 where
+pub record Joining (d₀ d table : List ℕ) (first end : ℕ) (p : Option ByteSpan) (to i w : ℕ) : Type 0 where
   pub from : to ≤ w
   pub within : i ≤ end
   pub part : Part (take to d₀ ++ tails (view_lines d₀ table first end p)) (tails (view_lines d₀ table i end p)) d₀ d w
 
-module _ (d₀ : List ℕ) (first : ℕ) {class table : List ℕ} {end : ℕ} {p : Prefix} {to : ℕ} (q : Below class table end p to) where
+module _ (d₀ : List ℕ) (first : ℕ) {class table : List ℕ} {end : ℕ} {p : Option ByteSpan} {to : ℕ} (q : Below class table end p to) where
   abbrev line : ℕ → List ℕ
   line i = left d₀ p (line_at d₀ table i)
 
@@ -183,7 +193,7 @@ module _ (d₀ : List ℕ) (first : ℕ) {class table : List ℕ} {end : ℕ} {p
         record { from = omega (arith, g.from); within = omega arith; part = part_puts (line i) refl n b marked }
 
 -- all lines
-module _ {d₀ d table : List ℕ} {first end : ℕ} {p : Prefix} {to i w : ℕ} (g : Joining d₀ d table first end p to i w) where
+module _ {d₀ d table : List ℕ} {first end : ℕ} {p : Option ByteSpan} {to i w : ℕ} (g : Joining d₀ d table first end p to i w) where
   pub joining_end : end ≤ i → Added (tails (view_lines d₀ table first end p)) d₀ to w d
   unfolding tails
   joining_end h =
@@ -195,7 +205,7 @@ module _ {d₀ d table : List ℕ} {first end : ℕ} {p : Prefix} {to i w : ℕ}
       }
 
 -- ---- the first line, and those behind it
-module _ (d₀ : List ℕ) (first : ℕ) {class table : List ℕ} {end : ℕ} {p : Prefix} {to : ℕ} (q : Below class table end p to)
+module _ (d₀ : List ℕ) (first : ℕ) {class table : List ℕ} {end : ℕ} {p : Option ByteSpan} {to : ℕ} (q : Below class table end p to)
     (r : to + length (join (view_lines d₀ table first end p)) ≤ length d₀) where
   pub joined-none : end ≤ first → Joined (join (view_lines d₀ table first end p)) d₀ to 0 d₀
   unfolding join
@@ -236,7 +246,7 @@ module _ (d₀ : List ℕ) (first : ℕ) {class table : List ℕ} {end : ℕ} {p
             entries = q.entries;
             order = q.order;
             below = λ i l. omega (arith, q.below i l, u.count);
-            prefix = omega (arith, q.prefix, u.count);
+            prefix = lies-below p (omega (arith, u.count)) q.prefix;
           }
 
       pub rest-room : w + length (tails (view_lines d table (first + 1) end p)) ≤ length d

@@ -1,4 +1,4 @@
-// The lines of a view, joined by newline in the byte area behind all lines; with a prefix stripped, where one is to go.
+// The lines of a view, joined by newline in the byte area behind all lines; with a prefix stripped, where there is one.
 // From detection/preproc.rs and license.rs of spdx 0.13.6 (Copyright 2018-2019 Amazon.com, Inc. or its affiliates. All Rights Reserved.
 // SPDX-License-Identifier: Apache-2.0), changed: its strings are places in one lent area. Assumes that the lent table is that of the
 // classes.
@@ -8,7 +8,7 @@ ghost use Rattle.std.specs.Prelude.{◌+◌, ◌*◌, ◌≤◌, ◌<◌, length
 ghost use Rattle.preproc_table.specs.Entries.{start_at, end_at};
 ghost use Rattle.rules.specs.Bytes.{join};
 ghost use Rattle.slices.specs.Classes.{Classes};
-ghost use Rattle.preproc_join.specs.Joins.{Past, Left, Puts, Put, Added, Below, Joined, tails, view_lines};
+ghost use Rattle.preproc_join.specs.Joins.{LiesBelow, Past, Left, Puts, Put, Added, Below, Joined, tails, view_lines};
 
 use preproc_table::{line_end, line_start};
 use slices::class::{SPACE_HIGH, SPACE_LOW};
@@ -16,42 +16,41 @@ use slices::copy::copy_up;
 use slices::ends::{ByteSpan, bare};
 use slices_order::starts_with;
 
-// Whether a prefix is to be stripped, and where its bytes stand.
-#[derive(Clone, Copy)]
-pub struct Prefix {
-    pub strip: bool,
-    pub at: usize,
-    pub len: usize,
-}
-
-// Where the line from a up to e goes on behind the len bytes that stand at `at`, if it starts with them.
-fn past_prefix(area: &[u8], a: usize, e: usize, at: usize, len: usize) -> usize
-    requires { (a ≤ e) × (e ≤ length area.now) × (at + len ≤ length area.now) }
-    ensures { Past area.now a e at len result }
+// Where the line from a up to e goes on behind the bytes of p, if it starts with them.
+fn past_prefix(area: &[u8], a: usize, e: usize, p: ByteSpan) -> usize
+    requires { (a ≤ e) × (e ≤ length area.now) × (p.start ≤ p.end) × (p.end ≤ length area.now) }
+    ensures { Past area.now a e p result }
 {
-    let stop = at + len;
-    if starts_with(&area[..e], a, &area[at..stop]) {
-        return a + len;
+    if starts_with(&area[..e], a, &area[p.start..p.end]) {
+        return a + (p.end - p.start);
     }
     a
 }
 
-// What is left of line i.
-fn line_part(class: &[u8; 256], area: &[u8], table: &[u32], i: usize, p: Prefix) -> ByteSpan
-    requires { Classes class.now × (2 * i + 1 < length table.now) × (start_at table.now i ≤ end_at table.now i) × (end_at table.now i ≤ length area.now) × (p.at + p.len ≤ length area.now) }
+// What is left of line i: without the bytes of p and the spaces around, where p is to be stripped.
+fn line_part(
+    class: &[u8; 256],
+    area: &[u8],
+    table: &[u32],
+    i: usize,
+    p: Option<ByteSpan>,
+) -> ByteSpan
+    requires { Classes class.now × (2 * i + 1 < length table.now) × (start_at table.now i ≤ end_at table.now i) × (end_at table.now i ≤ length area.now) × LiesBelow p (length area.now) }
     ensures { Left area.now table.now i p result }
 {
     let a = line_start(table, i);
     let e = line_end(table, i);
-    if p.strip {
-        let k = past_prefix(area, a, e, p.at, p.len);
-        let s = bare(class, SPACE_LOW, SPACE_HIGH, &area[k..e]);
-        return ByteSpan {
-            start: k + s.start,
-            end: k + s.end,
-        };
+    match p {
+        Some(prefix) => {
+            let k = past_prefix(area, a, e, prefix);
+            let s = bare(class, SPACE_LOW, SPACE_HIGH, &area[k..e]);
+            ByteSpan {
+                start: k + s.start,
+                end: k + s.end,
+            }
+        }
+        None => ByteSpan { start: a, end: e },
     }
-    ByteSpan { start: a, end: e }
 }
 
 // What is left of line i, copied to `to`; answers where it ends.
@@ -60,16 +59,14 @@ fn put_part(
     area: &mut [u8],
     table: &[u32],
     i: usize,
-    p: Prefix,
+    p: Option<ByteSpan>,
     to: usize,
 ) -> usize
     requires { Puts class.now area.old table.now i p to }
     ensures { Put area.old table.now i p to result area.new }
 {
     let s = line_part(class, area, table, i, p);
-    let from = s.start;
-    let len = s.end - s.start;
-    copy_up(area, from, len, to)
+    copy_up(area, s.start, s.end - s.start, to)
 }
 
 // The lines from `first` up to `end`, with what is left of each behind a newline, from `to` on; answers where they end. One walk over
@@ -80,19 +77,16 @@ fn put_rest(
     table: &[u32],
     first: usize,
     end: usize,
-    p: Prefix,
+    p: Option<ByteSpan>,
     to: usize,
 ) -> usize
     requires { Below class.now table.now end p to × (first ≤ end) × (to + length (tails (view_lines area.old table.now first end p)) ≤ length area.old) }
     ensures { Added (tails (view_lines area.old table.now first end p)) area.old to result area.new }
 {
     let mut w = to;
-    let mut i = first;
-    while i < end {
+    for i in first..end {
         area[w] = b'\n';
-        w += 1;
-        w = put_part(class, area, table, i, p, w);
-        i += 1;
+        w = put_part(class, area, table, i, p, w + 1);
     }
     w
 }
@@ -104,7 +98,7 @@ pub fn join_lines(
     table: &[u32],
     first: usize,
     end: usize,
-    p: Prefix,
+    p: Option<ByteSpan>,
     to: usize,
 ) -> usize
     requires { Below class.now table.now end p to × (to + length (join (view_lines area.old table.now first end p)) ≤ length area.old) }
@@ -114,7 +108,5 @@ pub fn join_lines(
         return 0;
     }
     let w = put_part(class, area, table, first, p, to);
-    let next = first + 1;
-    let e = put_rest(class, area, table, next, end, p, w);
-    e - to
+    put_rest(class, area, table, first + 1, end, p, w) - to
 }

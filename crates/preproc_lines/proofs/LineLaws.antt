@@ -8,7 +8,7 @@ use native.Mathlib.Omega.{arith}
 use lib.ListN.{length, take, drop, length-take}
 use lib.Seq.{slice, length-take-le, take_at, drop_at, take-append-le}
 use Rattle.lists.specs.Wrote.{Wrote, InFront}
-use Rattle.lists.proofs.SliceLaws.{part-rest, part_slice, part_at, slice_part}
+use Rattle.lists.proofs.SliceLaws.{part_slice, part_at, slice_part}
 use Rattle.lists.proofs.ChainLaws.{front_of, wrote-behind, wrote-before, wrote-from, wrote-end}
 use Rattle.rules.specs.Bytes.{space, dropped, keep, runs, trim}
 use Rattle.rules.specs.Points.{points}
@@ -51,9 +51,9 @@ module _ (src : List ℕ) (to : ℕ) {d₀ d₁ : List ℕ} {n₂ : ℕ} (fits :
     three_bytes : slice to e d₂ ≡ urls false (kept src)
     three_bytes = wrote-from to _ (omega arith) three ∙ ap (urls false) (front_of two).bytes
 
-    -- what passes 4 and 5 are handed: the part `&mut area[to..]`, and how much of it
-    three_part : take (e - to) (take (length d₂ - to) (drop to d₂)) ≡ urls false (kept src)
-    three_part = rw (part-rest to d₂) (part_slice to e d₂ ∙ three_bytes)
+    -- what passes 4 and 5 are handed: the part `&mut area[to..end]`
+    three_part : take (e - to) (drop to d₂) ≡ urls false (kept src)
+    three_part = part_slice to e d₂ ∙ three_bytes
 
     three_length : length (urls false (kept src)) ≤ 3 * length src
     three_length = omega (arith, urls-length (kept src), kept-length src)
@@ -66,7 +66,7 @@ module _ (src : List ℕ) (to : ℕ) {d₀ d₁ : List ℕ} {n₂ : ℕ} (fits :
         ∙ part_slice (length src) to d₀
 
     -- what they leave, with the part back in its place
-    pub fill_done : (set : ℕ → Bool) {n₅ : ℕ} (ys post : List ℕ) → length d₂ ≡ length d₁ → InFront (signs (runs set 32 false (take (e - to) (take (length d₂ - to) (drop to d₂))))) n₅ ys →
+    pub fill_done : (set : ℕ → Bool) {n₅ : ℕ} (ys post : List ℕ) → length d₂ ≡ length d₁ → InFront (signs (runs set 32 false (take (e - to) (drop to d₂)))) n₅ ys →
         Filled set src d₀ to (to + n₅) (take to d₂ ++ (ys ++ post))
     unfolding untrimmed
     fill_done set {n₅} ys post long f =

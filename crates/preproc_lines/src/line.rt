@@ -18,9 +18,7 @@ pub fn fill_line(class: &[u8; 256], src: &[u8], area: &mut [u8], to: usize) -> u
 {
     let n2 = read_into(class, DROPPED_LOW, DROPPED_HIGH, src, area);
     let end = blackbox_urls(class, area, n2, to);
-    let n3 = end - to;
-    let n5 = join_signs(class, &mut area[to..], n3);
-    to + n5
+    to + join_signs(class, &mut area[to..end])
 }
 
 // Line passes 2 to 6 over src, made from `to` on; answers where the trimmed line stands.

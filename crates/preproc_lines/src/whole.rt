@@ -20,13 +20,12 @@ pub fn normalise(class: &[u8; 256], text: &[u8], area: &mut [u8], words: &mut [u
     let mut at = 0;
     let mut to = n;
     let mut count = 0;
+    // A while: a turn goes on by a line's length.
     while at <= n {
         let end = at + line_len(text, at);
-        let s = put_line(class, &text[at..end], area, to);
-        let start = s.start;
-        let stop = s.end;
-        set_line(words, count, start, stop);
-        to = stop + 1;
+        let line = put_line(class, &text[at..end], area, to);
+        set_line(words, count, line.start, line.end);
+        to = line.end + 1;
         at = end + 1;
         count += 1;
     }

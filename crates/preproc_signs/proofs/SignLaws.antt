@@ -4,10 +4,14 @@
 use mathlib.Core.Path.{◌≡◌, refl, sym, subst, ap, ◌∙◌}
 use mathlib.Core.Bool.{Bool, true, false, cond}
 use mathlib.Core.List.{List, [], ◌∷◌}
-use Prim.Native.Nat.{ℕ}
+use Prim.Native.Nat.{ℕ, ◌<◌, ◌≤◌}
 use lib.Dec.{eqb}
 use lib.ListN.{get_or}
-use borrow.Author.Tests.{eqb-true, eqb-false, eq-eqb, ne_eqb}
+use borrow.Author.Tests.{eqb-true, eqb-false, eq-eqb, ne_eqb, le-leb}
+use native.Mathlib.Omega.{arith}
+use Rattle.std.proofs.lemmas.Bool.Decides.{nat_tests}
+use Rattle.std.specs.Option.{option_eq}
+use Rattle.std.proofs.Common.{Option, Some, None, MatchOption, unwrap_or, is_some, not, ◌||◌, rules, ◌≢◌}
 use Rattle.rules.specs.Bytes.{within, runs}
 use Rattle.rules.specs.Lines.{signs}
 use Rattle.rules.proofs.Opened.{opened}
@@ -181,6 +185,55 @@ joined-signs {t} c xs =
     subst (λ (u : List ℕ). joined (λ x. sign_in kinds (class_at u x)) 0 xs ≡ signs (runs (gap_in u) 32 false xs)) (sym c.table)
     (joined-turn (class_at (class_table e)) kinds (kinds_good e) 0 xs ∙ turn-signs e xs)
 
+-- ---- what a class becomes
+alone : (k c : ℕ) → c ≢ k → within k k c ≡ false
+unfolding within
+alone k c n = grind (arith, nat_tests)
+
+above : (h k c : ℕ) → k < c → within h k c ≡ false
+unfolding within
+above h k c n = grind (arith, nat_tests)
+
+below : (h k c : ℕ) → c < h → within h k c ≡ false
+unfolding within
+below h k c n = grind (arith, nat_tests)
+
+pub sign_gap : (c : ℕ) → 2 ≤ c → c ≤ 5 → sign_in kinds c ≡ 32
+unfolding sign_in kinds within
+sign_gap c h k = rw (le-leb 2 c h, le-leb c 5 k)
+
+pub sign_low : (c : ℕ) → c < 2 → sign_in kinds c ≡ 0
+unfolding sign_in kinds
+sign_low c h =
+    rw (below 2 5 c h, below 13 13 c (omega arith), below 14 14 c (omega arith), below 15 15 c (omega arith), below 16 16 c (omega arith), below 12 12 c (omega arith))
+
+pub sign_other : (c : ℕ) → 5 < c → c ≢ 12 → c ≢ 13 → c ≢ 14 → c ≢ 15 → c ≢ 16 → sign_in kinds c ≡ 0
+unfolding sign_in kinds
+sign_other c h n12 n13 n14 n15 n16 =
+    rw (above 2 5 c h, alone 13 c n13, alone 14 c n14, alone 15 c n15, alone 16 c n16, alone 12 c n12)
+
+pub sign_underscore : (c : ℕ) → c ≡ 12 → sign_in kinds c ≡ 95
+unfolding sign_in kinds within
+sign_underscore c e = rw e
+
+pub sign_quote : (c : ℕ) → c ≡ 13 → sign_in kinds c ≡ 39
+unfolding sign_in kinds within
+sign_quote c e = rw e
+
+pub sign_dash : (c : ℕ) → c ≡ 14 → sign_in kinds c ≡ 45
+unfolding sign_in kinds within
+sign_dash c e = rw e
+
+pub sign_opening : (c : ℕ) → c ≡ 15 → sign_in kinds c ≡ 40
+unfolding sign_in kinds within
+sign_opening c e = rw e
+
+pub sign_closing : (c : ℕ) → c ≡ 16 → sign_in kinds c ≡ 41
+unfolding sign_in kinds within
+sign_closing c e = rw e
+
+pub ruleset sign_of_class = (sign_gap, sign_low, sign_other, sign_underscore, sign_quote, sign_dash, sign_opening, sign_closing)
+
 -- ---- the walk, by the first byte
 module _ (sign : ℕ → ℕ) (g b : ℕ) {l l' : List ℕ} where
   pub join-stays : l ≡ b ∷ l' → sign b ≡ 0 → joined sign g l ≡ b ∷ joined sign 0 l'
@@ -194,6 +247,35 @@ module _ (sign : ℕ → ℕ) (g b : ℕ) {l l' : List ℕ} where
   pub join-opens : l ≡ b ∷ l' → (sign b ≡ 0 → ⊥) → (sign b ≡ g → ⊥) → joined sign g l ≡ sign b ∷ joined sign (sign b) l'
   unfolding joined
   join-opens h n e = rw (h, ne_eqb (sign b) 0 n, ne_eqb (sign b) g e)
+
+-- the same by what becomes of b, and of the byte before
+abbrev pub SignIs : Option ℕ → ℕ → Type 0
+SignIs o s = MatchOption o (s ≡ 0) (λ x. (s ≡ x) × (0 < x))
+
+-- a byte that stays, or the first of its run
+abbrev pub begins : Option ℕ → Option ℕ → Bool
+begins o last = not (is_some o) || not (option_eq eqb o last)
+
+pub join_writes : (sign : ℕ → ℕ) (b : ℕ) (o last : Option ℕ) {l l' : List ℕ} → l ≡ b ∷ l' → SignIs o (sign b) → begins o last ≡ true
+    → joined sign (unwrap_or last 0) l ≡ unwrap_or o b ∷ joined sign (unwrap_or o 0) l'
+join_writes sign b None last h e n = join-stays sign (unwrap_or last 0) b h e
+join_writes sign b (Some x) None h e n = rw (← e.0) (join-opens sign 0 b h (λ z. omega (arith, e.0, e.1, z)) (λ z. omega (arith, e.0, e.1, z)))
+join_writes sign b (Some x) (Some y) h e n =
+    rw (← e.0) (join-opens sign y b h (λ z. omega (arith, e.0, e.1, z)) (λ z. other (eqb x y) refl n (sym e.0 ∙ z)))
+  where
+    other : (t : Bool) → eqb x y ≡ t → not t ≡ true → x ≡ y → ⊥
+    other true q m z = absurd (search (rules, m))
+    other false q m z = eqb-false x y q z
+
+pub join_passes : (sign : ℕ → ℕ) (b : ℕ) (o last : Option ℕ) {l l' : List ℕ} → l ≡ b ∷ l' → SignIs o (sign b) → begins o last ≡ false
+    → joined sign (unwrap_or last 0) l ≡ joined sign (unwrap_or o 0) l'
+join_passes sign b None last h e n = cc
+join_passes sign b (Some x) None h e n = cc
+join_passes sign b (Some x) (Some y) {l} {l'} h e n = same (eqb x y) refl n
+  where
+    same : (t : Bool) → eqb x y ≡ t → not t ≡ false → joined sign y l ≡ joined sign x l'
+    same true q m = rw (← eqb-true x y q) (join-goes-on sign x b h (λ z. omega (arith, e.0, e.1, z)) e.0)
+    same false q m = cc
 
 pub join-end : (sign : ℕ → ℕ) (g : ℕ) {l : List ℕ} → l ≡ [] → joined sign g l ≡ []
 unfolding joined

@@ -3,7 +3,8 @@
 // SPDX-License-Identifier: Apache-2.0), changed: six patterns, as one walk over lent memory. Assumes nothing.
 #![tactic(auto)]
 
-ghost use Rattle.std.specs.Prelude.{◌≡◌, false, ◌≤◌, length, take, get_or};
+ghost use Rattle.std.specs.Prelude.{◌≡◌, false, not, ◌||◌, ◌<◌, nat_eq, get_or, is_some, MatchOption};
+ghost use Rattle.std.specs.Option.{option_eq};
 ghost use Rattle.lists.specs.Wrote.{InFront};
 ghost use Rattle.rules.specs.Bytes.{runs};
 ghost use Rattle.rules.specs.Lines.{signs};
@@ -12,62 +13,44 @@ ghost use Rattle.preproc_signs.specs.Signs.{kinds, sign_in};
 
 use slices::class::{CLOSING, DASH, GAP_HIGH, GAP_LOW, OPENING, QUOTE, UNDERSCORE};
 
-// What b becomes, by its class, or 0 where it stays. Most are letters, classes 10 and 11: they are told by two tests.
-fn sign_of(class: &[u8; 256], b: u8) -> u8
-    ensures { result ≡ sign_in kinds (get_or class.now b 0) }
+// What b becomes, by its class; none where it stays.
+#[tactic(auto, using(crate::proofs::SignLaws::sign_of_class))]
+fn sign_of(class: &[u8; 256], b: u8) -> Option<u8>
+    ensures { MatchOption result (sign_in kinds (get_or class.now b 0) ≡ 0) (λ s. (sign_in kinds (get_or class.now b 0) ≡ s) × (0 < s)) }
 {
-    let c = class[b as usize];
-    if c <= GAP_HIGH {
-        if c < GAP_LOW {
-            return 0;
-        }
-        return 32;
+    match class[b as usize] {
+        GAP_LOW..=GAP_HIGH => Some(b' '),
+        UNDERSCORE => Some(b'_'),
+        QUOTE => Some(b'\''),
+        DASH => Some(b'-'),
+        OPENING => Some(b'('),
+        CLOSING => Some(b')'),
+        _ => None,
     }
-    if c < UNDERSCORE {
-        return 0;
-    }
-    if c == UNDERSCORE {
-        return 95;
-    }
-    if c == QUOTE {
-        return 39;
-    }
-    if c == DASH {
-        return 45;
-    }
-    if c == OPENING {
-        return 40;
-    }
-    if c == CLOSING {
-        return 41;
-    }
-    0
 }
 
-// Line passes 4 and 5, in place, on the first n; pass 4 takes the gaps of the table's edition. One walk.
-pub fn join_signs(class: &[u8; 256], buf: &mut [u8], n: usize) -> usize
-    requires { Classes class.now × (n ≤ length buf.old) }
-    ensures { InFront (signs (runs (gap_in class.now) 32 false (take n buf.old))) result buf.new }
+// A byte that stays, or the first of its run.
+fn begins(sign: Option<u8>, last: Option<u8>) -> bool
+    ensures { result ≡ (not (is_some sign) || not (option_eq nat_eq sign last)) }
 {
-    let mut i = 0;
+    sign.is_none() || sign != last
+}
+
+// Line passes 4 and 5, in place; pass 4 takes the gaps of the table's edition. One walk.
+pub fn join_signs(class: &[u8; 256], buf: &mut [u8]) -> usize
+    requires { Classes class.now }
+    ensures { InFront (signs (runs (gap_in class.now) 32 false buf.old)) result buf.new }
+{
     let mut w = 0;
-    let mut last = 0;
-    while i < n {
+    let mut last = None;
+    for i in 0..buf.len() {
         let b = buf[i];
-        i += 1;
         let sign = sign_of(class, b);
-        if sign == 0 {
-            buf[w] = b;
+        if begins(sign, last) {
+            buf[w] = sign.unwrap_or(b);
             w += 1;
-            last = 0;
-        } else {
-            if sign == last {
-                continue;
-            }
-            buf[w] = sign;
-            w += 1;
-            last = sign;
         }
+        last = sign;
     }
     w
 }

@@ -27,8 +27,7 @@ pub fn line_start(table: &[u32], i: usize) -> usize
     requires { 2 * i + 1 < length table.now }
     ensures { result ≡ start_at table.now i }
 {
-    let k = 2 * i;
-    table[k] as usize
+    table[2 * i] as usize
 }
 
 // Where line i ends.
@@ -36,8 +35,7 @@ pub fn line_end(table: &[u32], i: usize) -> usize
     requires { 2 * i + 1 < length table.now }
     ensures { result ≡ end_at table.now i }
 {
-    let k = 2 * i + 1;
-    table[k] as usize
+    table[2 * i + 1] as usize
 }
 
 // Line i is made the bytes from start up to end.
@@ -45,10 +43,8 @@ pub fn set_line(table: &mut [u32], i: usize, start: usize, end: usize)
     requires { (2 * i + 1 < length table.old) × (start < 2 ^ 32) × (end < 2 ^ 32) }
     ensures { table.new ≡ entry_set table.old i start end }
 {
-    let k = 2 * i;
-    table[k] = start as u32;
-    let k = k + 1;
-    table[k] = end as u32;
+    table[2 * i] = start as u32;
+    table[2 * i + 1] = end as u32;
 }
 
 // Line i is made empty: it ends where it starts.
@@ -56,10 +52,7 @@ pub fn blank_line(table: &mut [u32], i: usize)
     requires { 2 * i + 1 < length table.old }
     ensures { table.new ≡ blanked table.old i }
 {
-    let k = 2 * i;
-    let start = table[k];
-    let k = k + 1;
-    table[k] = start;
+    table[2 * i + 1] = table[2 * i];
 }
 
 // The lines from a up to e are made blank: white-out, which touches the table only. One walk.
@@ -67,9 +60,7 @@ pub fn blank_lines(table: &mut [u32], a: usize, e: usize)
     requires { (a ≤ e) × (2 * e ≤ length table.old) }
     ensures { Blanked a e table.old table.new }
 {
-    let mut i = a;
-    while i < e {
+    for i in a..e {
         blank_line(table, i);
-        i += 1;
     }
 }

@@ -3,84 +3,48 @@
 // SPDX-License-Identifier: Apache-2.0), changed: its passes take any text. Assumes nothing.
 #![tactic(auto)]
 
-ghost use Rattle.std.specs.Prelude.{◌≡◌, ◌&&◌, drop};
+ghost use Rattle.std.specs.Prelude.{◌≡◌, ◌&&◌, option_copied};
 ghost use Rattle.rules.specs.Points.{opens};
-ghost use Rattle.preproc_test.specs.Counts.{seconds, taken_lines, AsTested};
+ghost use Rattle.preproc_test.specs.Counts.{ends, taken_lines, AsTested};
 
 use points::read::{is_lead, is_second};
-use rules::{EDITION_WIDE, LINES_MOST, TEXT_MOST};
+use rules::{EDITION_WIDE, LINES_MOST, Refusal, TEXT_MOST};
 
-// The refusal that comes first, 0 for none; and the number of lines, 0 where the text is refused.
-#[derive(Clone, Copy)]
-pub struct Tested {
-    pub refusal: u32,
-    pub lines: usize,
-}
-
-// Whether what stands at i is the second byte of a character that b, before it, opens.
-fn pair_ends(text: &[u8], b: u8, i: usize) -> bool
-    ensures { result ≡ (opens b && seconds (drop i text.now)) }
+// Whether b opens a character, and the byte after it is the second one of it.
+fn pair_ends(b: u8, after: Option<&u8>) -> bool
+    ensures { result ≡ (opens b && ends (option_copied after.entry)) }
 {
-    if !is_lead(b) {
-        return false;
-    }
-    if text.len() <= i {
-        return false;
-    }
-    is_second(text[i])
+    is_lead(b) && after.is_some_and(|x| is_second(*x))
 }
 
-// How many lines there are, and 0 where the text is not taken. One walk.
-pub fn taken_lines(wide: bool, text: &[u8]) -> usize
+// How many lines there are, where the text is taken. One walk, which takes two bytes at a time where a character has two.
+pub fn taken_lines(wide: bool, text: &[u8]) -> Option<usize>
     ensures { result ≡ taken_lines wide text.now }
 {
     let mut lines = 1;
-    let mut i = 0;
-    while i < text.len() {
-        let b = text[i];
-        i += 1;
-        if 127 < b {
-            if !wide {
-                return 0;
+    let mut bytes = text.iter();
+    while let Some(b) = bytes.next() {
+        if 127 < *b {
+            if !wide || !pair_ends(*b, bytes.next()) {
+                return None;
             }
-            if !pair_ends(text, b, i) {
-                return 0;
-            }
-            i += 1;
-            continue;
-        }
-        if b == 10 {
+        } else if *b == 10 {
             lines += 1;
         }
     }
-    lines
+    Some(lines)
 }
 
-// The test of the rules under an edition: refusals 1 to 3, and L.
-pub fn test_text(edition: u32, text: &[u8]) -> Tested
+// The test of the rules under an edition: refusals 1 to 3, or L.
+pub fn test_text(edition: u32, text: &[u8]) -> Result<usize, Refusal>
     ensures { AsTested edition text.now result }
 {
     if TEXT_MOST < text.len() {
-        return Tested {
-            refusal: 1,
-            lines: 0,
-        };
+        return Err(Refusal::TextLong);
     }
-    let lines = taken_lines(edition == EDITION_WIDE, text);
-    if lines == 0 {
-        return Tested {
-            refusal: 2,
-            lines: 0,
-        };
-    }
+    let lines = taken_lines(edition == EDITION_WIDE, text).ok_or(Refusal::TextBytes)?;
     if LINES_MOST < lines {
-        return Tested {
-            refusal: 3,
-            lines: 0,
-        };
+        return Err(Refusal::LinesMany);
     }
-    Tested {
-        refusal: 0,
-        lines: lines,
-    }
+    Ok(lines)
 }

@@ -16,10 +16,7 @@ use slices_order::starts_with;
 fn title_end(s: &[u8], at: usize) -> bool
     ensures { result ≡ title_end (drop at s.now) }
 {
-    if s.len() <= at {
-        return true;
-    }
-    starts_with(s, at, b" copyright")
+    s.len() <= at || starts_with(s, at, b" copyright")
 }
 
 // What may follow `license`: ` version ` with what it names, and then the line's end.
@@ -33,10 +30,7 @@ fn title_rest(class: &[u8; 256], s: &[u8], at: usize) -> bool
     if starts_with(s, at, b" version ") {
         let v = at + 9;
         let named = other_len(class, SPACE_LOW, SPACE_HIGH, s, v);
-        if named == 0 {
-            return false;
-        }
-        return title_end(s, v + named);
+        return 0 < named && title_end(s, v + named);
     }
     false
 }
@@ -46,10 +40,7 @@ fn title_at(class: &[u8; 256], s: &[u8], at: usize) -> bool
     requires { Classes class.now }
     ensures { result ≡ title_here (drop at s.now) }
 {
-    if starts_with(s, at, b"license") {
-        return title_rest(class, s, at + 7);
-    }
-    false
+    starts_with(s, at, b"license") && title_rest(class, s, at + 7)
 }
 
 // Some `license` of the line has a rest that ends it. Linear: two tries after ` version ` read different bytes, since what it names
@@ -58,12 +49,10 @@ fn title_line(class: &[u8; 256], line: &[u8]) -> bool
     requires { Classes class.now }
     ensures { result ≡ title_line line.now }
 {
-    let mut i = 0;
-    while i < line.len() {
+    for i in 0..line.len() {
         if title_at(class, line, i) {
             return true;
         }
-        i += 1;
     }
     false
 }

@@ -18,10 +18,7 @@ fn solid_at(class: &[u8; 256], s: &[u8], at: usize) -> bool
     requires { space_in class.now ≡ space }
     ensures { result ≡ solid (drop at s.now) }
 {
-    if at < s.len() {
-        return !in_class(class, SPACE_LOW, SPACE_HIGH, s[at]);
-    }
-    false
+    at < s.len() && !in_class(class, SPACE_LOW, SPACE_HIGH, s[at])
 }
 
 // s starts with w and a byte that is no space.
@@ -29,10 +26,7 @@ fn opens_with(class: &[u8; 256], s: &[u8], w: &[u8]) -> bool
     requires { space_in class.now ≡ space }
     ensures { result ≡ (starts w.now s.now && solid (drop (length w.now) s.now)) }
 {
-    if starts_with(s, 0, w) {
-        return solid_at(class, s, w.len());
-    }
-    false
+    starts_with(s, 0, w) && solid_at(class, s, w.len())
 }
 
 // s starts with a URL. Most bytes are told by one test.
@@ -40,16 +34,9 @@ pub fn is_url(class: &[u8; 256], s: &[u8]) -> bool
     requires { space_in class.now ≡ space }
     ensures { result ≡ url s.now }
 {
-    if s.len() == 0 {
-        return false;
-    }
-    if s[0] != b'h' {
-        return false;
-    }
-    if opens_with(class, s, b"http://") {
-        return true;
-    }
-    opens_with(class, s, b"https://")
+    s.len() > 0
+        && s[0] == b'h'
+        && (opens_with(class, s, b"http://") || opens_with(class, s, b"https://"))
 }
 
 // The URL before goes on with b.
@@ -57,10 +44,7 @@ fn goes_on(class: &[u8; 256], inside: bool, b: u8) -> bool
     requires { space_in class.now ≡ space }
     ensures { result ≡ (inside && not (space b)) }
 {
-    if inside {
-        return !in_class(class, SPACE_LOW, SPACE_HIGH, b);
-    }
-    false
+    inside && !in_class(class, SPACE_LOW, SPACE_HIGH, b)
 }
 
 // The first n, with each URL made the fixed one, written from `to` on; answers where that ends. Each byte is read once, and at each up to
@@ -69,23 +53,19 @@ pub fn blackbox_urls(class: &[u8; 256], area: &mut [u8], n: usize, to: usize) ->
     requires { (space_in class.now ≡ space) × (n ≤ to) × (to + length (urls false (take n area.old)) ≤ length area.old) }
     ensures { Wrote (take to area.old ++ urls false (take n area.old)) area.old result area.new }
 {
-    let mut i = 0;
     let mut w = to;
     let mut inside = false;
-    while i < n {
+    for i in 0..n {
         let b = area[i];
-        let here = i;
-        i += 1;
         if goes_on(class, inside, b) {
             continue;
         }
-        if is_url(class, &area[here..n]) {
+        inside = is_url(class, &area[i..n]);
+        if inside {
             w = put(b"http://blackboxed/url", area, w);
-            inside = true;
         } else {
             area[w] = b;
             w += 1;
-            inside = false;
         }
     }
     w

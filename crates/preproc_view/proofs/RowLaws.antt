@@ -5,8 +5,8 @@ use mathlib.Core.Bool.{Bool, true, false, ◌||◌}
 use mathlib.Core.List.{List, map, ◌++◌}
 use Prim.Native.Nat.{ℕ, ◌+◌, ◌-◌, ◌≤◌}
 use native.Mathlib.Omega.{arith}
-use lib.ListN.{length, take, drop, length-append}
-use lib.Seq.{slice, drop_at, length-take-le, take-append-le}
+use lib.ListN.{length, take, drop, length-append, length-take, length-drop, length-map}
+use lib.Seq.{slice, take_at, drop_at, length-take-le, take-append-le}
 use Rattle.lists.specs.Wrote.{InFront}
 use Rattle.lists.proofs.SliceLaws.{part_slice, part-rest, slice_shift, slice_first}
 use Rattle.rules.specs.Bytes.{space, word, lead, keep, runs, trim}
@@ -22,6 +22,17 @@ use Rattle.slices.proofs.KindLaws.{by_table, space-table, vertical-table, kept_t
 use Rattle.preproc_runs.specs.Capped.{capped}
 use Rattle.preproc_runs.proofs.PassLaws.{vertical-capped}
 use Rattle.preproc_view.specs.Rows.{StandsAt, first_passes, last_passes}
+
+-- lower case keeps the length, and so what a pass left in front stands there in lower case
+pub in-lower : {out b p : List ℕ} {n : ℕ} → InFront out n b → p ≡ map lowered (take n b) → (rest : List ℕ) → InFront (map lowered out) n (p ++ rest)
+in-lower {out} {b} {p} {n} f e rest =
+    let q : p ≡ map lowered out = e ∙ ap (map lowered) f.bytes in
+    let l : length p ≡ n = ap length q ∙ length-map out lowered ∙ sym f.count in
+    record { within = rw length-append (omega (arith, l)); count = sym l ∙ ap length q; bytes = take_at p rest n l ∙ q }
+
+-- a part of the front, written over, leaves the whole as long as it was
+pub whole-length : (n : ℕ) (d p : List ℕ) → length p ≡ length (take n d) → length (p ++ drop n d) ≡ length d
+whole-length n d p e = rw (length-append, length-drop, e, length-take) (omega arith)
 
 module _ (t : List ℕ) (e : Classes t) where
   pub first-row : (s : List ℕ) → map lowered (keep (kept_in t) (capped (vertical_in t) 10 2 0 s)) ≡ first_passes s

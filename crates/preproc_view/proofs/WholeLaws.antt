@@ -1,7 +1,7 @@
 -- There is room for a view's lines, joined; and the whole of the passes on a view.
 -- Assumes nothing.
 use mathlib.Core.Path.{◌≡◌, refl, sym, ap, ◌∙◌}
-use mathlib.Core.Bool.{true, false}
+use Rattle.std.proofs.Common.{Option, None, Some}
 use mathlib.Core.List.{List, [], ◌∷◌, ◌++◌, map}
 use Prim.Native.Nat.{ℕ, ◌+◌, ◌-◌, ◌*◌, ◌≤◌, zero-le}
 use native.Mathlib.Omega.{arith}
@@ -16,24 +16,41 @@ use Rattle.rules.specs.Passes.{passes, aggressive}
 use Rattle.rules.proofs.GrowthLaws.{encoded-more, join-size, without_prefix-size}
 use Rattle.slices.specs.declared.ends.ByteSpan.{ByteSpan}
 use Rattle.preproc_table.specs.Entries.{view_start}
-use Rattle.preproc_join.specs.declared.Prefix.{Prefix}
-use Rattle.preproc_join.specs.Joins.{left, view_lines, Below, Joined}
+use Rattle.preproc_join.specs.Joins.{LiesBelow, left, view_lines, Below, Joined}
 use Rattle.preproc_view.specs.Rows.{StandsAt}
 use Rattle.preproc_view.specs.Whole.{view_at, Ready, StripsAs, ViewProcessed}
 use Rattle.preproc_view.proofs.RowLaws.{stands-lent}
 
+-- ---- what pass 1 strips lies below the view, and is what is left out of each line
+module _ (area : List ℕ) (n : ℕ) (ls : List (List ℕ)) where
+  strips-below : (p : Option ByteSpan) → StripsAs area n ls p → LiesBelow p (view_start n)
+  strips-below None h = tt
+  strips-below (Some p) h = (h.0, h.1)
+
+  strips-lines : (p : Option ByteSpan) → StripsAs area n ls p → without_prefix ls ≡ map (left area p) ls
+  unfolding left
+  strips-lines None h = h ∙ sym (each ls)
+    where
+      each : (ms : List (List ℕ)) → map (left area None) ms ≡ ms
+      each [] = refl
+      each (m ∷ ms) = ap (λ (r : List (List ℕ)). m ∷ r) (each ms)
+  strips-lines (Some p) h = h.2
+
 -- ---- a view of the lines of a text
-module _ {class area table : List ℕ} {n : ℕ} {v : View} {p : Prefix} (q : Ready class area table n v) (c : StripsAs area n (view_at area table v) p) where
+module _ {class area table : List ℕ} {n : ℕ} {v : View} (p : Option ByteSpan) (q : Ready class area table n v) (c : StripsAs area n (view_at area table v) p) where
+  stripped : without_prefix (view_at area table v) ≡ map (left area p) (view_at area table v)
+  stripped = strips-lines area n (view_at area table v) p c
+
   pub ready-below : Below class table v.end p (view_start n)
   ready-below =
-      record { classes = q.classes; entries = q.entries; order = q.apart.order; below = q.apart.high; prefix = c.below }
+      record { classes = q.classes; entries = q.entries; order = q.apart.order; below = q.apart.high; prefix = strips-below area n (view_at area table v) p c }
 
   -- joined, they are no longer than their own lines
   joined-size : length (encoded (join (view_lines area table v.start v.end p))) ≤ 3 * n + 3
   unfolding view_lines
   joined-size =
       let ls = view_at area table v in
-      omega (arith, ap (λ (ms : List (List ℕ)). length (encoded (join ms))) (sym c.lines), join-size (without_prefix ls), without_prefix-size ls, q.bytes)
+      omega (arith, ap (λ (ms : List (List ℕ)). length (encoded (join ms))) (sym stripped), join-size (without_prefix ls), without_prefix-size ls, q.bytes)
 
   pub ready-room : view_start n + length (join (view_lines area table v.start v.end p)) ≤ length area
   ready-room = omega (arith, q.room, joined-size, encoded-more (join (view_lines area table v.start v.end p)))
@@ -60,26 +77,9 @@ module _ {class area table : List ℕ} {n : ℕ} {v : View} {p : Prefix} (q : Re
   unfolding view_lines aggressive
   all-passes {to} t {len} b d e {r} j h s =
       let o : passes (take len (take (length b - to) (drop to b))) ≡ passes (join (without_prefix (view_at area table v))) =
-      ap (λ (l : List ℕ). passes (take len l)) (part-rest to b) ∙ ap passes (j.there.bytes ∙ ap join (sym c.lines)) in
+      ap (λ (l : List ℕ). passes (take len l)) (part-rest to b) ∙ ap passes (j.there.bytes ∙ ap join (sym stripped)) in
       record {
         stands = stands-lent to b d e h (rw o at s);
         behind = omega arith;
         below = rw (← t) (take_at (take to b) (d ++ e) to (length-take-le to b h) ∙ j.below);
       }
-
--- ---- what pass 1 chose: nothing, or the bytes from s up to e
-module _ (area : List ℕ) (n : ℕ) (ls : List (List ℕ)) where
-  pub chosen_none : without_prefix ls ≡ ls → StripsAs area n ls (record { strip = false; at = 0; len = 0 })
-  unfolding left
-  chosen_none h = record { below = zero-le; lines = h ∙ sym (each ls) }
-    where
-      each : (ms : List (List ℕ)) → map (left area (record { strip = false; at = 0; len = 0 })) ms ≡ ms
-      each [] = refl
-      each (m ∷ ms) = ap (λ (r : List (List ℕ)). m ∷ r) (each ms)
-
-  pub chosen_span : (s e : ℕ) → s ≤ e → e ≤ view_start n → without_prefix ls ≡ map (strip (slice s e area)) ls →
-      StripsAs area n ls (record { strip = true; at = s; len = e - s })
-  unfolding left
-  chosen_span s e k h f =
-      let q : s + (e - s) ≡ e = omega arith in
-      record { below = omega arith; lines = f ∙ ap (λ (j : ℕ). map (λ (l : List ℕ). strip (slice s j area) l) ls) (sym q) }

@@ -1,17 +1,16 @@
 -- The whole of the aggressive passes on a view of the line table.
 -- Assumes nothing.
-use Rattle.std.specs.Prelude.{◌≡◌, List, map, ℕ, ◌+◌, ◌-◌, ◌*◌, ◌≤◌, length, take}
+use Rattle.std.specs.Prelude.{◌≡◌, Option, None, Some, List, map, ℕ, ◌+◌, ◌-◌, ◌*◌, ◌≤◌, length, take}
 use Rattle.rules.specs.declared.View.{View}
 use Rattle.rules.specs.Sizes.{byte_area}
 use Rattle.rules.specs.Points.{encoded}
 use Rattle.rules.specs.Lines.{size}
-use Rattle.rules.specs.Prefix.{without_prefix}
+use Rattle.rules.specs.Prefix.{strip, without_prefix}
 use Rattle.rules.specs.Passes.{aggressive}
+use Rattle.std.proofs.Math.Seq.{slice}
 use Rattle.slices.specs.declared.ends.ByteSpan.{ByteSpan}
 use Rattle.slices.specs.Classes.{Classes}
 use Rattle.preproc_table.specs.Entries.{view_start, lines_from, Apart}
-use Rattle.preproc_join.specs.declared.Prefix.{Prefix}
-use Rattle.preproc_join.specs.Joins.{left}
 use Rattle.preproc_view.specs.Rows.{StandsAt}
 
 -- the lines of the view
@@ -27,10 +26,10 @@ pub record Ready (class area table : List ℕ) (n : ℕ) (v : View) : Type 0 whe
   pub order : v.start ≤ v.end
   pub bytes : size (view_at area table v) ≤ 3 * n + 3
 
--- pass 1 leaves of each line what p leaves of it
-pub record StripsAs (area : List ℕ) (n : ℕ) (ls : List (List ℕ)) (p : Prefix) : Type 0 where
-  pub below : p.at + p.len ≤ view_start n
-  pub lines : without_prefix ls ≡ map (left area p) ls
+-- what pass 1 strips: nothing, or the bytes of a span that lies among the lines
+abbrev pub StripsAs : List ℕ → ℕ → List (List ℕ) → Option ByteSpan → Type 0
+StripsAs area n ls None = without_prefix ls ≡ ls
+StripsAs area n ls (Some p) = (p.start ≤ p.end) × (p.end ≤ view_start n) × (without_prefix ls ≡ map (strip (slice p.start p.end area)) ls)
 
 -- the processed text stands in r as UTF-8, behind the lines, and what stands below 4n is as it was
 pub record ViewProcessed (ls : List (List ℕ)) (n : ℕ) (d₀ : List ℕ) (r : ByteSpan) (d : List ℕ) : Type 0 where

@@ -16,19 +16,20 @@ use Rattle.rules.proofs.BoolLaws.{and_left, and_right}
 use Rattle.questions.specs.Hex.{hex_value, hex_byte, unhexed, hex_glyph, hex_pairs, hexed}
 
 module _ (s : List ℕ) (i : ℕ) where
-  pub unhex_next : i + 1 < length s → unhexed (drop i s) ≡ hex_byte (get_or s i 0) (get_or s (i + 1) 0) ∷ unhexed (drop (i + 1 + 1) s)
+  pub unhex_next : (b : ℕ) → b ≡ hex_byte (get_or s (2 * i) 0) (get_or s (2 * i + 1) 0) → 2 * i + 1 < length s → unhexed (drop (2 * i) s) ≡ b ∷ unhexed (drop (2 * (i + 1)) s)
   unfolding unhexed
-  unhex_next h =
-      let k : i < length s = omega arith in
-      rw (drop-next s i k, drop-next s (i + 1) h)
+  unhex_next b e h =
+      let k : 2 * i < length s = omega arith in
+      let next : 2 * i + 1 + 1 ≡ 2 * (i + 1) = omega arith in
+      rw (drop-next s (2 * i) k, drop-next s (2 * i + 1) h, e, next)
 
-  pub unhex_done : length s ≤ i + 1 → unhexed (drop i s) ≡ []
+  pub unhex_done : i ≡ length s / 2 → unhexed (drop (2 * i) s) ≡ []
   unfolding unhexed
-  unhex_done h = at (leb (length s) i) refl
+  unhex_done h = at (leb (length s) (2 * i)) refl
     where
-      at : (b : Bool) → leb (length s) i ≡ b → unhexed (drop i s) ≡ []
-      at true e = rw (drop-done s i (leb-true (length s) i e))
-      at false e = rw (drop-next s i (leb-false (length s) i e), drop-done s (i + 1) h)
+      at : (b : Bool) → leb (length s) (2 * i) ≡ b → unhexed (drop (2 * i) s) ≡ []
+      at true e = rw (drop-done s (2 * i) (leb-true (length s) (2 * i) e))
+      at false e = rw (drop-next s (2 * i) (leb-false (length s) (2 * i) e), drop-done s (2 * i + 1) (omega arith))
 
   pub pairs_next : (a b : ℕ) → i < length s → a ≡ hex_glyph (get_or s i 0 / 16) → b ≡ hex_glyph (get_or s i 0 % 16) → hex_pairs (drop i s) ≡ a ∷ b ∷ hex_pairs (drop (i + 1) s)
   unfolding hex_pairs

@@ -25,16 +25,15 @@ module _ {s : List ℕ} {at r : ℕ} (m : Marked 32 s at r) where
   unfolding word_of
   word-here k e = rw e (sym (part_at at (up_to 32 (drop at s)) s ∙ ap (λ (j : ℕ). slice at j s) (sym m.place)))
 
-  pub word-behind : (k : ℕ) → 0 < k → word_of k (drop at s) ≡ word_of (k - 1) (drop (r + 1) s)
+  pub word-behind : (j k : ℕ) → k ≡ suc j → word_of k (drop at s) ≡ word_of j (drop (r + 1) s)
   unfolding word_of
-  word-behind k h =
-      let p : suc (k - 1) ≡ k = omega arith in
+  word-behind j k h =
       let e : at + (up_to 32 (drop at s) + 1) ≡ r + 1 = omega (arith, m.place) in
-      ap (λ (j : ℕ). word_of j (drop at s)) (sym p)
-      ∙ ap (word_of (k - 1)) (drop-drop (up_to 32 (drop at s) + 1) at s ∙ ap (λ (j : ℕ). drop j s) e)
+      ap (λ (i : ℕ). word_of i (drop at s)) h
+      ∙ ap (word_of j) (drop-drop (up_to 32 (drop at s) + 1) at s ∙ ap (λ (i : ℕ). drop i s) e)
 
-  pub word-last : (k : ℕ) → 0 < k → length s ≤ r → word_of k (drop at s) ≡ []
-  word-last k h l = word-behind k h ∙ rw (drop-done s (r + 1) (omega arith)) (word_none (k - 1))
+  pub word-last : (j k : ℕ) → k ≡ suc j → length s ≤ r → word_of k (drop at s) ≡ []
+  word-last j k h l = word-behind j k h ∙ rw (drop-done s (r + 1) (omega arith)) (word_none j)
 
 -- a word as a part of its line
 module _ {k : ℕ} {s : List ℕ} {r : ByteSpan} (w : WordAt k s r) where

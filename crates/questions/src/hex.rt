@@ -4,30 +4,21 @@ ghost use Rattle.lists.specs.Wrote.{Wrote};
 ghost use Rattle.questions.specs.Hex.{hex_value, hex_byte, hex_glyph, unhexed, hex_pairs, hexed};
 
 // What a hex digit is worth; any other byte is worth nothing.
+#[tactic(auto, unfolding(crate::specs::Hex::hex_value))]
 pub fn hex_value(b: u8) -> u8
     ensures { (result ≡ hex_value b) × (result < 16) }
 {
-    if b < 48 {
-        return 0;
+    match b {
+        b'0'..=b'9' => b - b'0',
+        b'a'..=b'f' => b - b'a' + 10,
+        _ => 0,
     }
-    if b < 58 {
-        return b - 48;
-    }
-    if b < 97 {
-        return 0;
-    }
-    if b < 103 {
-        return b - 87;
-    }
-    0
 }
 
 fn hex_byte(high: u8, low: u8) -> u8
     ensures { result ≡ hex_byte high low }
 {
-    let h = hex_value(high);
-    let l = hex_value(low);
-    16 * h + l
+    16 * hex_value(high) + hex_value(low)
 }
 
 pub fn hex_glyph(n: u8) -> u8
@@ -42,17 +33,11 @@ pub fn unhex(src: &[u8], dst: &mut [u8]) -> usize
     requires { length src.now ≤ 2 * length dst.old + 1 }
     ensures { Wrote (unhexed src.now) dst.old result dst.new }
 {
-    let mut i = 0;
-    let mut w = 0;
-    while i + 1 < src.len() {
-        let high = src[i];
-        i += 1;
-        let low = src[i];
-        i += 1;
-        dst[w] = hex_byte(high, low);
-        w += 1;
+    let pairs = src.len() / 2;
+    for i in 0..pairs {
+        dst[i] = hex_byte(src[2 * i], src[2 * i + 1]);
     }
-    w
+    pairs
 }
 
 // One byte, written at a place; answers the place behind it.
@@ -69,14 +54,11 @@ pub fn put_pairs(src: &[u8], dst: &mut [u8], to: usize) -> usize
     requires { to + 2 * length src.now ≤ length dst.old }
     ensures { Wrote (take to dst.old ++ hex_pairs src.now) dst.old result dst.new }
 {
-    let mut i = 0;
     let mut w = to;
-    while i < src.len() {
-        let b = src[i];
-        i += 1;
-        dst[w] = hex_glyph(b / 16);
+    for b in src {
+        dst[w] = hex_glyph(*b / 16);
         w += 1;
-        dst[w] = hex_glyph(b % 16);
+        dst[w] = hex_glyph(*b % 16);
         w += 1;
     }
     w

@@ -8,65 +8,50 @@ ghost use Rattle.questions.specs.Numbers.{digit_value, more_digits, more_bits, r
 use crate::hex::{hex_value, put_byte, put_pairs};
 
 // What a digit is worth; any other byte is worth nothing.
+#[tactic(auto, unfolding(crate::specs::Numbers::digit_value))]
 fn digit_value(b: u8) -> u64
     ensures { (result ≡ digit_value b) × (result < 10) }
 {
-    if b < 48 {
-        return 0;
+    match b {
+        b'0'..=b'9' => u64::from(b - b'0'),
+        _ => 0,
     }
-    if b < 58 {
-        return (b - 48) as u64;
-    }
-    0
 }
 
 // One digit more; a number that does not fit is the greatest.
+#[tactic(auto, unfolding(crate::specs::Numbers::more_digits))]
 fn more_digits(v: u64, b: u8) -> u64
     ensures { result ≡ more_digits v b }
 {
-    let d = digit_value(b);
-    if 1844674407370955161 < v {
-        return 18446744073709551615;
-    }
-    if v < 1844674407370955161 {
-        return 10 * v + d;
-    }
-    if d < 5 {
-        return 10 * v + d;
-    }
-    18446744073709551615
+    v.saturating_mul(10).saturating_add(digit_value(b))
 }
 
 // The number that a word is, or the greatest where that is greater.
 pub fn number_of(s: &[u8]) -> u64
     ensures { result ≡ read_digits more_digits 0 s.now }
 {
-    let mut v: u64 = 0;
-    let mut i = 0;
-    while i < s.len() {
-        v = more_digits(v, s[i]);
-        i += 1;
+    let mut v = 0;
+    for b in s {
+        v = more_digits(v, *b);
     }
     v
 }
 
 // One hex digit more; of more than eight the last eight count.
+#[tactic(auto, unfolding(crate::specs::Numbers::more_bits))]
 fn more_bits(v: u32, b: u8) -> u32
     ensures { result ≡ more_bits v b }
 {
-    let d = hex_value(b);
-    16 * (v % 268435456) + d as u32
+    16 * (v % 268435456) + u32::from(hex_value(b))
 }
 
 // The number that a word of hex is.
 pub fn bits_of(s: &[u8]) -> u32
     ensures { result ≡ read_digits more_bits 0 s.now }
 {
-    let mut v: u32 = 0;
-    let mut i = 0;
-    while i < s.len() {
-        v = more_bits(v, s[i]);
-        i += 1;
+    let mut v = 0;
+    for b in s {
+        v = more_bits(v, *b);
     }
     v
 }

@@ -7,12 +7,5 @@ use preproc_test::test_text;
 pub fn view_fits(text: &[u8], start: usize, end: usize, edition: u32) -> bool
     ensures { result ≡ view_fits edition start end text.now }
 {
-    let t = test_text(edition, text);
-    if t.refusal != 0 {
-        return false;
-    }
-    if t.lines < end {
-        return false;
-    }
-    start <= end
+    test_text(edition, text).is_ok_and(|lines| end <= lines && start <= end)
 }

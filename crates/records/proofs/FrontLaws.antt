@@ -3,7 +3,7 @@
 --     framed-whole                             from the code's answer, the definition's case
 -- Assumes nothing.
 use mathlib.Core.Path.{◌≡◌, refl, sym, ap, ◌∙◌}
-use mathlib.Core.Bool.{Bool, true, cond}
+use mathlib.Core.Bool.{Bool, true, cond, false≢true}
 use mathlib.Core.List.{List, [], ◌∷◌}
 use Prim.Native.Nat.{ℕ, zero, suc, ◌+◌, ◌*◌, ◌-◌, ◌≤◌, ◌<◌}
 use native.Mathlib.Nat.{not-suc-le-zero, le_of_suc-le-suc}
@@ -15,9 +15,11 @@ use borrow.Author.Tests.{le-leb, lt-leb}
 use Rattle.lists.proofs.SliceLaws.{drop-done, part_slice}
 use Rattle.rules.specs.Book.{number, Form, Piece, Front, front, end, whole, broken, record_form, record_of, At, placed as placed_at, record_at, entry_form, entry_of}
 use Rattle.rules.proofs.Steps.{front_cut}
-use Rattle.records.specs.Places.{framed, entry_framed}
-use Rattle.records.specs.declared.pieces.PieceAt.TheVariants as piece
-use Rattle.records.specs.declared.pieces.EntryAt.TheVariants as entry
+use Rattle.std.specs.Prelude.{Option, None, Some, Result, Ok, Err, IsErr}
+use Rattle.records.specs.declared.pieces.Piece.{Piece as Found}
+use Rattle.records.specs.declared.pieces.Record.{Record}
+use Rattle.records.specs.declared.pieces.Broken.{Broken}
+use Rattle.records.specs.Places.{breaks_off, framed, at_of, entry_framed}
 
 -- a number needs its own bytes only
 pub number-take : (n k : ℕ) (s : List ℕ) → n ≤ k → number n (take k s) ≡ number n s
@@ -99,34 +101,41 @@ here_of f s at p more q pos =
           ap (λ (d : List ℕ). whole (record { head = take f.head (drop at s); body = take (length p.body) (drop (at + f.head) s) }) d) m;
     }
 
-pub framed-whole : (f : Form) (s : List ℕ) (at start len : ℕ) → 0 < f.head →
-    framed (at + f.head) (front f (drop at s)) ≡ piece.Whole start len → Here f s at start len
+pub framed-whole : (f : Form) (s : List ℕ) (at : ℕ) (found : Found) → 0 < f.head →
+    framed (at + f.head) (front f (drop at s)) ≡ Ok (Some found) → Here f s at found.start found.len
 unfolding framed
-framed-whole f s at start len pos e = go (front f (drop at s)) refl e
+framed-whole f s at found pos e = go (front f (drop at s)) refl e
   where
-    go : (r : Front) → front f (drop at s) ≡ r → framed (at + f.head) r ≡ piece.Whole start len → Here f s at start len
+    go : (r : Front) → front f (drop at s) ≡ r → framed (at + f.head) r ≡ Ok (Some found) → Here f s at found.start found.len
     go Front.end q e = let z : ◌≡◌ {A = ℕ} 0 1 = cc in absurd (no z)
     go (Front.whole p more) q e =
-        let a : at + f.head ≡ start = cc in
-        let b : length p.body ≡ len = cc in
-        rw (a, b) at (here_of f s at p more q pos)
+        let same : record { start = at + f.head; len = length p.body } ≡ found = cc in
+        rw (ap (λ (x : Found). x.start) same, ap (λ (x : Found). x.len) same) at (here_of f s at p more q pos)
     go Front.broken q e = let z : ◌≡◌ {A = ℕ} 0 1 = cc in absurd (no z)
 
 -- the numbers in the head of a record and of an entry
 pub head-number : (n i k : ℕ) (s : List ℕ) → i + n ≤ k → number n (drop i (take k s)) ≡ number n (drop i s)
 head-number n i k s h = ap (number n) (sym (part_slice i k s)) ∙ number-take n (k - i) (drop i s) (omega arith)
 
-pub framed-end : (start : ℕ) (r : Front) → framed start r ≡ piece.End → r ≡ Front.end
+pub framed-end : (start : ℕ) (r : Front) → framed start r ≡ Ok None → r ≡ Front.end
 unfolding framed
 framed-end start Front.end e = refl
 framed-end start (Front.whole p more) e = let z : ◌≡◌ {A = ℕ} 0 1 = cc in absurd (no z)
 framed-end start Front.broken e = let z : ◌≡◌ {A = ℕ} 0 1 = cc in absurd (no z)
 
-pub framed-broken : (start : ℕ) (r : Front) → framed start r ≡ piece.Broken → r ≡ Front.broken
+pub framed-broken : (start : ℕ) (r : Front) → framed start r ≡ Err breaks_off → r ≡ Front.broken
 unfolding framed
 framed-broken start Front.end e = let z : ◌≡◌ {A = ℕ} 0 1 = cc in absurd (no z)
 framed-broken start (Front.whole p more) e = let z : ◌≡◌ {A = ℕ} 0 1 = cc in absurd (no z)
 framed-broken start Front.broken e = refl
+
+-- what breaks off is the one answer that is an error
+pub broken-alone : {A : Type 0} (r : Result A Broken) → IsErr r → r ≡ Err breaks_off
+broken-alone (Ok x) e = absurd (false≢true e)
+broken-alone (Err b) e = refl
+
+pub at-broken : (r : Result (Option Record) Broken) → IsErr r → at_of r ≡ At.broken
+at-broken r e = ap at_of (broken-alone r e)
 
 -- ---- a record and an entry
 body-length : (f : Form) (s : List ℕ) (at start len : ℕ) → Here f s at start len → length (take len (drop start s)) ≡ len
@@ -140,7 +149,7 @@ record-placed s at start len h =
     ap (placed_at at) h.is ∙ rw (k, body-length record_form s at start len h, ← h.begins)
 
 pub entry-framed : (s : List ℕ) (at start len : ℕ) → Here entry_form s at start len →
-    entry_framed at (front entry_form (drop at s)) ≡ entry.Whole (number 4 (drop at s)) start len
+    entry_framed at (front entry_form (drop at s)) ≡ Ok (Some (record { count = number 4 (drop at s); start = start; len = len }))
 unfolding entry_framed entry_of
 entry-framed s at start len h =
     ap (entry_framed at) h.is ∙ rw (number-take 4 8 (drop at s) (omega arith), body-length entry_form s at start len h, ← h.begins)

@@ -1,7 +1,7 @@
 -- The records of a book, and the entries of a table body, from a place on: none at the end, none where one breaks off, and else the one
 -- that stands there before those from the place after it on.
 -- Assumes nothing.
-use mathlib.Core.Path.{◌≡◌, refl, ap, ◌∙◌}
+use mathlib.Core.Path.{◌≡◌, refl, sym, ap, ◌∙◌}
 use mathlib.Core.List.{List, []}
 use mathlib.Core.Option.{Option, none, some}
 use Prim.Native.Nat.{ℕ, ◌+◌, ◌≤◌, ◌<◌}
@@ -11,8 +11,9 @@ use lib.Seq.{drop-drop}
 use Rattle.rules.specs.Prefix.{Counted}
 use Rattle.rules.specs.Book.{number, Form, Piece, Front, front, also, go_on, pieces, record_form, record_of, records_of, At, placed, record_at, entry_form, entry_of}
 use Rattle.rules.proofs.Steps.{pieces_step}
-use Rattle.records.specs.Places.{entry_framed}
-use Rattle.records.specs.declared.pieces.EntryAt.TheVariants as entry
+use Rattle.std.specs.Prelude.{None, Some, Ok, Err}
+use Rattle.records.specs.declared.pieces.Entry.{Entry}
+use Rattle.records.specs.Places.{breaks_off, entry_framed}
 use Rattle.records.proofs.FrontLaws.{Here, here_of, head-number, number-take, record-placed, entry-framed}
 
 no : ◌≡◌ {A = ℕ} 0 1 → ⊥
@@ -92,42 +93,44 @@ pub record EntryHere (s : List ℕ) (at count start len : ℕ) : Type 0 where
   pub fits : start + len ≤ length s
   pub is : entries_behind s at ≡ also (record { bytes = take len (drop start s); count = count }) (entries_behind s (start + len))
 
-pub entry_here : (s : List ℕ) (at count start len : ℕ) → entry_framed at (front entry_form (drop at s)) ≡ entry.Whole count start len →
-    EntryHere s at count start len
+pub entry_here : (s : List ℕ) (at : ℕ) (found : Entry) → entry_framed at (front entry_form (drop at s)) ≡ Ok (Some found) →
+    EntryHere s at found.count found.start found.len
 unfolding entry_framed entry_of
-entry_here s at count start len found = go (front entry_form (drop at s)) refl found
+entry_here s at found e = go (front entry_form (drop at s)) refl e
   where
-    go : (r : Front) → front entry_form (drop at s) ≡ r → entry_framed at r ≡ entry.Whole count start len → EntryHere s at count start len
+    go : (r : Front) → front entry_form (drop at s) ≡ r → entry_framed at r ≡ Ok (Some found) → EntryHere s at found.count found.start found.len
     go Front.end q e = let z : ◌≡◌ {A = ℕ} 0 1 = cc in absurd (no z)
     go (Front.whole p more) q e =
-        let a : at + 8 ≡ start = cc in
-        let b : length p.body ≡ len = cc in
-        let h : Here entry_form s at start len = rw (a, b) at (here_of entry_form s at p more q (omega arith)) in
-        let framed = entry-framed s at start len h in
-        let k : number 4 (drop at s) ≡ count = cc in
-        let bytes = take len (drop start s) in
+        let same : record { count = number 4 p.head; start = at + 8; len = length p.body } ≡ found = cc in
+        let a = ap (λ (x : Entry). x.start) same in
+        let b = ap (λ (x : Entry). x.len) same in
+        let h : Here entry_form s at found.start found.len = rw (a, b) at (here_of entry_form s at p more q (omega arith)) in
+        let framed : record { count = number 4 p.head; start = at + 8; len = length p.body } ≡ record { count = number 4 (drop at s); start = found.start; len = found.len } =
+        let t = entry-framed s at found.start found.len h in cc in
+        let k : number 4 (drop at s) ≡ found.count = sym (ap (λ (x : Entry). x.count) framed) ∙ ap (λ (x : Entry). x.count) same in
+        let bytes = take found.len (drop found.start s) in
         record {
           begins = h.begins;
           fits = h.fits;
-          is = pieces-next entry_form entry_of s at (omega arith) start len h ∙
-              ap (λ (m : ℕ). also (record { bytes = bytes; count = m }) (entries_behind s (start + len))) (number-take 4 8 (drop at s) (omega arith) ∙ k);
+          is = pieces-next entry_form entry_of s at (omega arith) found.start found.len h ∙
+              ap (λ (m : ℕ). also (record { bytes = bytes; count = m }) (entries_behind s (found.start + found.len))) (number-take 4 8 (drop at s) (omega arith) ∙ k);
         }
     go Front.broken q e = let z : ◌≡◌ {A = ℕ} 0 1 = cc in absurd (no z)
 
-pub entry-end : (s : List ℕ) (at : ℕ) → entry_framed at (front entry_form (drop at s)) ≡ entry.End → entries_behind s at ≡ some []
+pub entry-end : (s : List ℕ) (at : ℕ) → entry_framed at (front entry_form (drop at s)) ≡ Ok None → entries_behind s at ≡ some []
 unfolding entry_framed
 entry-end s at found = go (front entry_form (drop at s)) refl found
   where
-    go : (r : Front) → front entry_form (drop at s) ≡ r → entry_framed at r ≡ entry.End → entries_behind s at ≡ some []
+    go : (r : Front) → front entry_form (drop at s) ≡ r → entry_framed at r ≡ Ok None → entries_behind s at ≡ some []
     go Front.end q e = pieces_end entry_form entry_of s at (omega arith) q
     go (Front.whole p more) q e = let z : ◌≡◌ {A = ℕ} 0 1 = cc in absurd (no z)
     go Front.broken q e = let z : ◌≡◌ {A = ℕ} 0 1 = cc in absurd (no z)
 
-pub entry-broken : (s : List ℕ) (at : ℕ) → entry_framed at (front entry_form (drop at s)) ≡ entry.Broken → entries_behind s at ≡ none
+pub entry-broken : (s : List ℕ) (at : ℕ) → entry_framed at (front entry_form (drop at s)) ≡ Err breaks_off → entries_behind s at ≡ none
 unfolding entry_framed
 entry-broken s at found = go (front entry_form (drop at s)) refl found
   where
-    go : (r : Front) → front entry_form (drop at s) ≡ r → entry_framed at r ≡ entry.Broken → entries_behind s at ≡ none
+    go : (r : Front) → front entry_form (drop at s) ≡ r → entry_framed at r ≡ Err breaks_off → entries_behind s at ≡ none
     go Front.end q e = let z : ◌≡◌ {A = ℕ} 0 1 = cc in absurd (no z)
     go (Front.whole p more) q e = let z : ◌≡◌ {A = ℕ} 0 1 = cc in absurd (no z)
     go Front.broken q e = pieces-broken entry_form entry_of s at (omega arith) q

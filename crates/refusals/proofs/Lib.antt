@@ -1,3 +1,4 @@
 pub mod AreaLaws
+pub mod LentLaws
 pub mod AdmitLaws
 pub mod PassedLaws

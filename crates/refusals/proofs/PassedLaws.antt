@@ -10,6 +10,7 @@ use native.Mathlib.Omega.{arith}
 use lib.Dec.{ltb, leb, eqb}
 use lib.ListN.{length, get_or}
 use borrow.Author.Tests.{ltb-false, leb-true, leb-false, eqb-true, eqb-false, not-false}
+use Rattle.rules.specs.declared.Areas.{Areas}
 use Rattle.rules.specs.declared.Limits.{Limits}
 use Rattle.rules.specs.declared.Mode.{Mode}
 use Rattle.rules.specs.declared.View.{View}
@@ -19,7 +20,7 @@ use Rattle.rules.specs.Lines.{lines, line_count, size}
 use Rattle.rules.specs.Table.{view_table}
 use Rattle.rules.specs.Search.{viewed, no_text, score_view, best}
 use Rattle.rules.specs.Book.{all_sound, shelved, edition_of, differ}
-use Rattle.rules.specs.Refusal.{Row, refusal, of_text, of_books, Areas, of_view, unit, step_zero, before_scan, of_scan}
+use Rattle.rules.specs.Refusal.{Row, refusal, of_text, of_books, of_view, unit, step_zero, before_scan, of_scan}
 use Rattle.rules.proofs.BoolLaws.{and_left}
 use Rattle.rules.proofs.DownLaws.{each_at}
 use Rattle.rules.proofs.PointLaws.{taken-utf8}

@@ -3,11 +3,12 @@
 // SPDX-License-Identifier: Apache-2.0), which refuses nothing. Assumes nothing.
 #![tactic(auto)]
 
-ghost use Rattle.std.specs.Prelude.{◌≡◌, false, []};
+ghost use Rattle.std.specs.Prelude.{◌≡◌, [], option_copied, unwrap_or};
 ghost use Rattle.rules.specs.Book.{differ};
 ghost use Rattle.rules.specs.Jobs.{CheckDone};
 ghost use Rattle.rules.specs.Refusal.{refusal, before_compile};
-ghost use Rattle.detection_shelf.specs.Shelves.{shelf, books_of, Lends};
+ghost use Rattle.rules.specs.Told.{checked_told, number_told};
+ghost use Rattle.refusals.specs.Lent.{books_lent};
 ghost use Rattle.refusals.specs.Admits.{AdmitsShelf, AdmitsBooks, AdmitsView, AdmitsScan};
 
 use detection_check::check_book;
@@ -15,171 +16,101 @@ use detection_edition::edition_of;
 use detection_shelf::Counts;
 use preproc_test::test_text;
 use refusals_rows::{refuse_compile, refuse_scan, refuse_view};
-use rules::{Checked, Limits, Mode, View};
+use rules::{Areas, Limits, Mode, Refusal, View};
 
-// What is refused, 0 for nothing; and where nothing is, L and N, with the first book's.
+// What is let through: L, and N with the first book's.
 #[derive(Clone, Copy)]
 pub struct Admitted {
-    pub refusal: u32,
     pub lines: usize,
     pub texts: Counts,
 }
 
-// What is refused of the lent books, 0 for nothing; and where nothing is, how many texts they store.
-#[derive(Clone, Copy)]
-pub struct BooksAdmitted {
-    pub refusal: u32,
-    pub texts: Counts,
-}
-
-// What is refused, with nothing counted.
-fn refused(refusal: u32) -> BooksAdmitted
-    ensures { result ≡ record { refusal = refusal; texts = record { first = 0; all = 0 } } }
+// The second book's bytes: of one that is not lent, none.
+pub fn second_bytes<'a>(second: Option<&'a [u8]>) -> &'a [u8]
+    ensures { result.now ≡ unwrap_or (option_copied second.entry) [] }
 {
-    let texts = Counts { first: 0, all: 0 };
-    BooksAdmitted { refusal, texts }
+    second.unwrap_or(&[])
 }
 
 // The check of the second book, where there is one: one that is not lent is not looked at, and stores no text.
-fn check_second(second: &[u8], two: bool) -> Checked
-    requires { two ≡ false → second.now ≡ [] }
-    ensures { CheckDone second.now result }
+fn check_second(second: Option<&[u8]>) -> Result<u32, Refusal>
+    ensures { CheckDone (unwrap_or (option_copied second.entry) []) (checked_told result) }
 {
-    if two {
-        return check_book(second);
-    }
-    Checked {
-        refusal: 0,
-        texts: 0,
+    match second {
+        Some(book) => check_book(book),
+        None => Ok(0),
     }
 }
 
 // Whether a second book is lent, of another edition than the first: one book alone never differs.
-fn editions_differ(book: &[u8], second: &[u8], two: bool) -> bool
-    ensures { result ≡ differ (books_of (shelf book.now second.now) two) }
+fn editions_differ(book: &[u8], second: Option<&[u8]>) -> bool
+    ensures { result ≡ differ (books_lent book.now (option_copied second.entry)) }
 {
-    if !two {
-        return false;
-    }
-    edition_of(second) != edition_of(book)
+    second.is_some_and(|other| edition_of(other) != edition_of(book))
 }
 
 // Refusals 4, 5 and 15, by the rows of the lent books, one or two: one walk over each.
-pub fn admit_books(book: &[u8], second: &[u8], two: bool) -> BooksAdmitted
-    requires { Lends (shelf book.now second.now) two }
-    ensures { AdmitsShelf (shelf book.now second.now) two result }
+pub fn admit_books(book: &[u8], second: Option<&[u8]>) -> Result<Counts, Refusal>
+    ensures { AdmitsShelf book.now (option_copied second.entry) result }
 {
-    let one = check_book(book);
-    if one.refusal != 0 {
-        return refused(one.refusal);
-    }
-    let other = check_second(second, two);
-    if other.refusal != 0 {
-        return refused(other.refusal);
-    }
-    let all = one.texts + other.texts;
+    let first = check_book(book)?;
+    let other = check_second(second)?;
+    let all = first + other;
     if all == 0 {
-        return refused(5);
+        return Err(Refusal::BookEmpty);
     }
-    if editions_differ(book, second, two) {
-        return refused(15);
+    if editions_differ(book, second) {
+        return Err(Refusal::EditionsDiffer);
     }
-    let texts = Counts {
-        first: one.texts,
-        all,
-    };
-    BooksAdmitted { refusal: 0, texts }
+    Ok(Counts { first, all })
 }
 
 // Refusals 1 to 5 and 15: one walk over the text, which is read by what the first book's first record says, and the books where the text is taken.
-fn admit_text_books(text: &[u8], book: &[u8], second: &[u8], two: bool) -> Admitted
-    requires { Lends (shelf book.now second.now) two }
-    ensures { AdmitsBooks text.now (shelf book.now second.now) two result }
+fn admit_text_books(text: &[u8], book: &[u8], second: Option<&[u8]>) -> Result<Admitted, Refusal>
+    ensures { AdmitsBooks text.now book.now (option_copied second.entry) result }
 {
-    let tested = test_text(edition_of(book), text);
-    let lines = tested.lines;
-    if tested.refusal != 0 {
-        let texts = Counts { first: 0, all: 0 };
-        return Admitted {
-            refusal: tested.refusal,
-            lines,
-            texts,
-        };
-    }
-    let books = admit_books(book, second, two);
-    let texts = books.texts;
-    Admitted {
-        refusal: books.refusal,
-        lines,
-        texts,
-    }
+    let lines = test_text(edition_of(book), text)?;
+    let texts = admit_books(book, second)?;
+    Ok(Admitted { lines, texts })
 }
 
-// Before compile under an edition, with work areas of so many bytes and words: refusals 1 to 4 and 10.
-pub fn admit_compile(text: &[u8], edition: u32, bytes: usize, words: usize) -> u32
-    ensures { result ≡ refusal (before_compile edition text.now (record { bytes = bytes; words = words })) }
+// Before compile under an edition, with work areas of these lengths: refusals 1 to 4 and 10.
+pub fn admit_compile(text: &[u8], edition: u32, areas: Areas) -> Result<(), Refusal>
+    ensures { number_told result ≡ refusal (before_compile edition text.now areas) }
 {
-    let tested = test_text(edition, text);
-    let number = tested.refusal;
-    if number != 0 {
-        return number;
-    }
-    refuse_compile(text.len(), edition, bytes, words)
+    test_text(edition, text)?;
+    refuse_compile(text.len(), edition, areas)
 }
 
-// Before the score or the bounds of a view against the stored text k, with work areas of so many bytes and words. `two`: the second book is lent.
+// Before the score or the bounds of a view against the stored text k, with work areas of these lengths.
 pub fn admit_view(
     text: &[u8],
     book: &[u8],
-    second: &[u8],
-    two: bool,
+    second: Option<&[u8]>,
     v: View,
     k: u32,
-    bytes: usize,
-    words: usize,
-) -> Admitted
-    requires { Lends (shelf book.now second.now) two }
-    ensures { AdmitsView text.now (shelf book.now second.now) two v k (record { bytes = bytes; words = words }) result }
+    areas: Areas,
+) -> Result<Admitted, Refusal>
+    ensures { AdmitsView text.now book.now (option_copied second.entry) v k areas result }
 {
-    let both = admit_text_books(text, book, second, two);
-    if both.refusal != 0 {
-        return both;
-    }
-    let lines = both.lines;
-    let texts = both.texts;
-    let refusal = refuse_view(text.len(), lines, texts.all, v, k, bytes, words);
-    Admitted {
-        refusal,
-        lines,
-        texts,
-    }
+    let both = admit_text_books(text, book, second)?;
+    refuse_view(text.len(), both.lines, both.texts.all, v, k, areas)?;
+    Ok(both)
 }
 
-// Before a scan, with results of so many words. `two`: the second book is lent.
+// Before a scan, with results of so many words.
 pub fn admit_scan(
     text: &[u8],
     book: &[u8],
-    second: &[u8],
-    two: bool,
+    second: Option<&[u8]>,
     lim: Limits,
     mode: Mode,
-    bytes: usize,
-    words: usize,
+    areas: Areas,
     results: usize,
-) -> Admitted
-    requires { Lends (shelf book.now second.now) two }
-    ensures { AdmitsScan text.now (shelf book.now second.now) two lim mode (record { bytes = bytes; words = words }) results result }
+) -> Result<Admitted, Refusal>
+    ensures { AdmitsScan text.now book.now (option_copied second.entry) lim mode areas results result }
 {
-    let both = admit_text_books(text, book, second, two);
-    if both.refusal != 0 {
-        return both;
-    }
-    let lines = both.lines;
-    let texts = both.texts;
-    let refusal = refuse_scan(text.len(), lines, lim, mode, bytes, words, results);
-    Admitted {
-        refusal,
-        lines,
-        texts,
-    }
+    let both = admit_text_books(text, book, second)?;
+    refuse_scan(text.len(), both.lines, lim, mode, areas, results)?;
+    Ok(both)
 }

@@ -1,12 +1,13 @@
 -- The rows of compile, of a view and of a scan behind those of the text and the books, over numbers.
 -- Assumes nothing.
 use Rattle.std.specs.Prelude.{ℕ, Bool, not, ◌&&◌, ◌||◌, List, [], ◌∷◌, leb, ltb}
+use Rattle.rules.specs.declared.Areas.{Areas}
 use Rattle.rules.specs.declared.Limits.{Limits}
 use Rattle.rules.specs.declared.Mode.{Mode}
 use Rattle.rules.specs.declared.View.{View}
 use Rattle.rules.specs.Sizes.{edition_most, byte_area, word_area}
 use Rattle.rules.specs.Bytes.{within}
-use Rattle.rules.specs.Refusal.{Row, row, Areas, unit, step_zero, results_need}
+use Rattle.rules.specs.Refusal.{Row, row, unit, step_zero, results_need}
 
 -- the rows that follow those, over the text's length, L and N
 abbrev pub small_for : ℕ → Areas → Bool

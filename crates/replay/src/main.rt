@@ -85,6 +85,7 @@ fn answer_all(all: &[u8]) {
     let mut book_end = 0;
     let mut edition = EDITION_FIRST;
     let mut at = 0;
+    // A while: a split at newlines would give one line more, behind the last.
     while at < all.len() {
         let end = mark_at(all, at, 10);
         edition = edition_after(&all[at..end], edition);

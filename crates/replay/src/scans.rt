@@ -10,7 +10,7 @@ use questions::numbers::bits_of;
 use questions::words::word_at;
 use questions_fit::limits::limit_of;
 use replay_books::{put_edition, put_name, put_text};
-use rules::{Limits, Mode, View};
+use rules::{Findings, Limits, Mode, Refusal, View};
 use scan_job::scan;
 use slices_order::starts_with;
 use telling::{print, print_bits, print_count, print_number, print_records, score_bits};
@@ -71,17 +71,16 @@ fn add(
 
 // `COUNT FIRST AFTER BITS` of text 0 of a book.
 fn tell_bounds(text: &[u8], book: &[u8], v: View, area: &mut [u8], words: &mut [u32]) {
-    let found = bounds_of(text, book, v, 0, area, words);
-    if found.refusal != 0 {
+    let Ok(found) = bounds_of(text, book, v, 0, area, words) else {
         return;
-    }
+    };
     print_count(found.count);
     print(b" ");
     print_number(found.first);
     print(b" ");
     print_number(found.after);
     print(b" ");
-    print_bits(score_bits(found.score));
+    print_bits(score_bits(found.value.score));
     print(b"\x0a");
 }
 
@@ -114,7 +113,33 @@ fn answer_bounds(
     );
 }
 
-// `REFUSAL COUNT BITS NAMED` and the records.
+// `REFUSAL COUNT BITS NAMED` and the records, of what is not refused before the scan.
+fn tell_found(
+    text: &[u8],
+    book: &[u8],
+    found: Findings,
+    area: &mut [u8],
+    words: &mut [u32],
+    results: &[u32],
+) {
+    let bits = score_bits(found.value.score);
+    let refusal = if found.over_budget {
+        u32::from(Refusal::Budget)
+    } else {
+        0
+    };
+    print_number(refusal);
+    print(b" ");
+    print_count(found.count);
+    print(b" ");
+    print_bits(bits);
+    print(b" ");
+    tell_named(text, book, found.licence, found.name, bits, area, words);
+    print_records(results, found.records);
+    print(b"\x0a");
+}
+
+// The same of any scan: a refusal before it has counted and named nothing.
 fn tell_scan(
     text: &[u8],
     book: &[u8],
@@ -125,18 +150,13 @@ fn tell_scan(
     words: &mut [u32],
     results: &mut [u32],
 ) {
-    let answer = scan(text, book, limits, mode, budget, area, words, results);
-    let bits = score_bits(answer.score);
-    let name = answer.name;
-    print_number(answer.refusal);
-    print(b" ");
-    print_count(answer.count);
-    print(b" ");
-    print_bits(bits);
-    print(b" ");
-    tell_named(text, book, answer.kind, name, answer.len, bits, area, words);
-    print_records(results, answer.records);
-    print(b"\x0a");
+    match scan(text, book, limits, mode, budget, area, words, results) {
+        Ok(found) => tell_found(text, book, found, area, words, results),
+        Err(refusal) => {
+            print_number(u32::from(refusal));
+            print(b" 0 00000000 none\x0a");
+        }
+    }
 }
 
 // `counteliminate THRESHOLD SHALLOW OPTIMIZE P BUDGET TEXT`.

@@ -75,11 +75,9 @@ pub fn put_text(
         return at;
     }
     let body = at + 6;
-    let made = compile(text, edition, area, words, &mut book[body..]);
-    let len = made.len;
-    if made.refusal != 0 {
+    let Ok(len) = compile(text, edition, area, words, &mut book[body..]) else {
         return at;
-    }
+    };
     if book.len() - body < len {
         return at;
     }

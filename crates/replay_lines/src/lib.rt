@@ -49,14 +49,12 @@ fn put_lines(area: &[u8], table: &[u32], count: usize, scratch: &mut [u8], out: 
     ensures { Wrote (told (lines_at area.now table.now count)) out.old result out.new }
 {
     let mut w = 0;
-    let mut i = 0;
-    while i < count {
+    for i in 0..count {
         let a = line_start(table, i);
         let e = line_end(table, i);
         let h = put_line_hex(&area[a..e], scratch, out, w);
         let mark = mark_behind(i, count);
         w = put_byte(mark, out, h);
-        i += 1;
     }
     w
 }
@@ -73,11 +71,9 @@ fn answer_text(
     requires { (class.now ≡ class_table edition) × (length text.now ≤ 2048) }
     ensures { InFront (answer_to edition text.now) result out.new }
 {
-    let t = test_text(edition, text);
-    let refusal = t.refusal;
-    if refusal != 0 {
+    let Ok(_) = test_text(edition, text) else {
         return 0;
-    }
+    };
     let count = normalise(class, text, area, table);
     let mut scratch = scratch_area();
     put_lines(area, table, count, &mut scratch, out)

@@ -30,11 +30,9 @@ fn answer_score(
     requires { (class.now ≡ class_table edition) × (length text.now ≤ 2048) × (length body.old ≡ 49152) }
     ensures { InFront (score_for edition start end text.now licence.now) result out.new }
 {
-    let made = compile(licence, edition, area, words, body);
-    if made.refusal != 0 {
+    let Ok(len) = compile(licence, edition, area, words, body) else {
         return 0;
-    }
-    let len = made.len;
+    };
     answer_view(
         class,
         text,

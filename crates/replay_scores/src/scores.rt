@@ -7,7 +7,7 @@ ghost use Rattle.slices.specs.Classes.{class_table};
 ghost use Rattle.detection_shelf.specs.Bodies.{table_of_body};
 ghost use Rattle.replay_scores.specs.Told.{bits_told, score_over};
 
-use license_charge::{charge_exact, scorings_of};
+use license_charge::{Scorings, charge_exact};
 use license_notes::lay;
 use license_views::view_table;
 use questions::hex::put_byte;
@@ -46,6 +46,6 @@ pub fn answer_view(
     let n = text.len();
     let lines = lay(class, text, area, words);
     let t = view_table(class, area, words, n, lines, View { start, end });
-    let charged = charge_exact(area, words, n, t, body, scorings_of(1));
+    let charged = charge_exact(area, words, n, t, body, Scorings::of(1));
     put_score(charged.value.score, out)
 }

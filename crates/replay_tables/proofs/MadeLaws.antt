@@ -9,11 +9,12 @@ use lib.Dec.{eqb}
 use lib.ListN.{length, take, drop, length-append}
 use lib.Seq.{take_at}
 use borrow.Author.Tests.{eq-eqb, ne_eqb, eqb-true, eqb-false}
+use Rattle.rules.specs.declared.Areas.{Areas}
 use Rattle.rules.specs.declared.Compiled.{Compiled}
 use Rattle.rules.specs.Lines.{lines}
 use Rattle.rules.specs.Table.{view_table}
 use Rattle.rules.specs.Book.{entries_of, shaped, compiled}
-use Rattle.rules.specs.Refusal.{refusal, Areas, of_text, before_compile, of_compile}
+use Rattle.rules.specs.Refusal.{refusal, of_text, before_compile, of_compile}
 use Rattle.rules.specs.Jobs.{over, compile, output_after, lent, CompileDone}
 use Rattle.rules.proofs.RefusalLaws.{refusal-first}
 use Rattle.detection_shelf.specs.Bodies.{table_of_body}

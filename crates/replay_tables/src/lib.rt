@@ -25,11 +25,9 @@ fn answer_table(
     requires { length body.old ≡ 49152 }
     ensures { InFront (table_for edition text.now) result out.new }
 {
-    let made = compile(text, edition, area, words, body);
-    if made.refusal != 0 {
+    let Ok(len) = compile(text, edition, area, words, body) else {
         return 0;
-    }
-    let len = made.len;
+    };
     put_table(&body[..len], out)
 }
 

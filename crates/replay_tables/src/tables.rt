@@ -34,6 +34,7 @@ pub fn put_table(body: &[u8], out: &mut [u8]) -> usize
     let total = read_u32(body, 0);
     let mut w = put_number(total, out, 0);
     let mut at = 8;
+    // A while: the step is what an entry takes.
     while at < body.len() {
         let len = wide(read_u32(body, at + 4));
         w = tell_entry(body, at, len, out, w);

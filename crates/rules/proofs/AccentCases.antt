@@ -7,6 +7,7 @@ use mathlib.Core.Bool.{false}
 use mathlib.Core.List.{List, [], ◌∷◌, ◌++◌}
 use lib.Ieee.{binary32, of_bits, to_bits}
 use lib.ListN.{length, take, replicate}
+use Rattle.rules.specs.declared.Areas.{Areas}
 use Rattle.rules.specs.declared.Limits.{Limits}
 use Rattle.rules.specs.declared.Mode.TheVariants.{Elimination}
 use Rattle.rules.specs.Bytes.{text}
@@ -14,7 +15,7 @@ use Rattle.rules.specs.Points.{points, encoded}
 use Rattle.rules.specs.Lines.{lines}
 use Rattle.rules.specs.Passes.{aggressive}
 use Rattle.rules.specs.Book.{written, compiled}
-use Rattle.rules.specs.Refusal.{Areas, refusal, of_text}
+use Rattle.rules.specs.Refusal.{refusal, of_text}
 use Rattle.rules.specs.Jobs.{area_after, check, compile, output_after, scan}
 use Rattle.rules.proofs.Opened.{opened}
 

@@ -7,12 +7,12 @@ use mathlib.Core.Bool.{Bool, false, cond}
 use mathlib.Core.List.{List, [], ◌∷◌, ◌++◌}
 use lib.ListN.{length, take, replicate}
 use lib.Ieee.{to_bits, of_bits, binary32}
+use Rattle.rules.specs.declared.Areas.{Areas}
 use Rattle.rules.specs.declared.Limits.{Limits}
 use Rattle.rules.specs.declared.Mode.TheVariants.{Elimination, TopDown}
 use Rattle.rules.specs.Bytes.{text}
 use Rattle.rules.specs.Search.{view}
 use Rattle.rules.specs.Book.{written, compiled}
-use Rattle.rules.specs.Refusal.{Areas}
 use Rattle.rules.specs.Jobs.{scan, score_job, bounds_job, results_after}
 use Rattle.rules.proofs.Opened.{opened}
 

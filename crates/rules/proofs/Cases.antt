@@ -8,6 +8,7 @@ use mathlib.Core.Bool.{true, false, cond}
 use mathlib.Core.List.{List, [], ◌∷◌, ◌++◌, map}
 use lib.ListN.{length, take, replicate}
 use lib.Ieee.{to_bits, of_bits, binary32}
+use Rattle.rules.specs.declared.Areas.{Areas}
 use Rattle.rules.specs.declared.Limits.{Limits}
 use Rattle.rules.specs.declared.Mode.{Mode}
 use Rattle.rules.specs.declared.Mode.TheVariants.{Elimination, TopDown}
@@ -17,7 +18,6 @@ use Rattle.rules.specs.Passes.{aggressive}
 use Rattle.rules.specs.Table.{Table}
 use Rattle.rules.specs.Search.{View, view, Stored, no_best, best_from}
 use Rattle.rules.specs.Book.{written, compiled, record_at, next_place, At, end, whole, broken}
-use Rattle.rules.specs.Refusal.{Areas}
 use Rattle.rules.specs.Jobs.{check, compile, output_after, area_after, score_job, bounds_job, scan, results_after, name_job}
 use Rattle.rules.proofs.Opened.{opened}
 

@@ -7,13 +7,13 @@ use mathlib.Core.Bool.{false}
 use mathlib.Core.List.{List, [], ◌∷◌, ◌++◌}
 use lib.ListN.{length, take, replicate}
 use lib.Ieee.{to_bits, of_bits, binary32}
+use Rattle.rules.specs.declared.Areas.{Areas}
 use Rattle.rules.specs.declared.Limits.{Limits}
 use Rattle.rules.specs.declared.Mode.TheVariants.{Elimination, TopDown}
 use Rattle.rules.specs.Bytes.{text}
 use Rattle.rules.specs.Lines.{line}
 use Rattle.rules.specs.Search.{view}
 use Rattle.rules.specs.Book.{written, compiled, edition}
-use Rattle.rules.specs.Refusal.{Areas}
 use Rattle.rules.specs.Jobs.{area_after, check, compile, output_after, score_job, bounds_job, scan, name_job}
 use Rattle.rules.proofs.Opened.{opened}
 

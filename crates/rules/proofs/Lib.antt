@@ -36,3 +36,4 @@ pub mod VerdictLaws
 pub mod PairLaws
 pub mod NameLaws
 pub mod RecordLaws
+pub mod ToldLaws

@@ -14,6 +14,7 @@ use lib.ListN.{length, get_or, take, drop, replicate, length-drop}
 use lib.Seq.{length-take-le, take-append_seam}
 use lib.Dec.{eqb}
 use borrow.Author.Tests.{ne_eqb}
+use Rattle.rules.specs.declared.Areas.{Areas}
 use Rattle.rules.specs.declared.Limits.{Limits}
 use Rattle.rules.specs.declared.Mode.{Mode}
 use Rattle.rules.specs.declared.Named.{Named}
@@ -22,7 +23,6 @@ use Rattle.rules.specs.Sizes.{name_most}
 use Rattle.rules.specs.Search.{Stored, no_text, recurse, turns}
 use Rattle.rules.specs.Scan.{verdict}
 use Rattle.rules.specs.Book.{Record, records_of, pieces, go_on, front, entries_of, stored_kind, table_in, stored_in, stored_of, stored_from, shelved, names_in, names_of, name_parts, no_part, part_in, Lies, ReadAs, edition_of}
-use Rattle.rules.specs.Refusal.{Areas}
 use Rattle.rules.specs.Jobs.{over, happened, named, name_part, answered, scan}
 use Rattle.rules.proofs.DownLaws.{Each, each_append, each_at, each_of}
 use Rattle.rules.proofs.SoundLaws.{within-from}

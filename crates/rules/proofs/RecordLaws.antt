@@ -13,6 +13,7 @@ use lib.Dec.{eqb}
 use lib.ListN.{length}
 use lib.Ieee.{lt}
 use borrow.Author.Tests.{eqb-false}
+use Rattle.rules.specs.declared.Areas.{Areas}
 use Rattle.rules.specs.declared.Limits.{Limits}
 use Rattle.rules.specs.declared.Mode.{Mode}
 use Rattle.rules.specs.declared.Mode.TheVariants.{Elimination, TopDown}
@@ -22,7 +23,7 @@ use Rattle.rules.specs.Search.{View, whole, viewed, blank, Stored, no_text, scor
 use Rattle.rules.specs.Scan.{Event, overall, found, Recorded, after, afford, stops, below, each_pass, elimination, steps, views_of, Pair, latest, contained, top_down, events, records}
 use Rattle.rules.specs.Beside.{Beside}
 use Rattle.rules.specs.Book.{shelved, edition_of}
-use Rattle.rules.specs.Refusal.{refusal, Areas, step_zero, of_scan}
+use Rattle.rules.specs.Refusal.{refusal, step_zero, of_scan}
 use Rattle.rules.specs.Jobs.{happened}
 use Rattle.rules.proofs.BoolLaws.{cond_of}
 use Rattle.rules.proofs.DownLaws.{Each, On, on_both, Inside, Reach, bounds_in, latest_in_lem, settled-of, down_by}

@@ -10,6 +10,7 @@ use mathlib.Core.List.{List, [], ◌∷◌, ◌++◌}
 use lib.ListN.{length, length-map}
 use lib.Dec.{ltb, eqb}
 use borrow.Author.Tests.{lt-ltb, le-ltb, ne_eqb, eqb-true, eqb-false, ltb-true, ltb-false}
+use Rattle.rules.specs.declared.Areas.{Areas}
 use Rattle.rules.specs.declared.Limits.{Limits}
 use Rattle.rules.specs.declared.Mode.{Mode}
 use Rattle.rules.specs.Sizes.{text_most, lines_most}
@@ -18,7 +19,7 @@ use Rattle.rules.specs.Points.{wide, taken}
 use Rattle.rules.specs.Lines.{gap, line_by, lines_by, lines, line_count}
 use Rattle.rules.specs.Book.{shelved, edition_of, compiled}
 use Rattle.rules.specs.Scan.{Event, events, afford, scorings}
-use Rattle.rules.specs.Refusal.{Row, row, refusal, of_text, of_books, Areas, before_compile, of_compile, before_scan, over_budget, of_scan}
+use Rattle.rules.specs.Refusal.{Row, row, refusal, of_text, of_books, before_compile, of_compile, before_scan, over_budget, of_scan}
 use Rattle.rules.specs.Jobs.{happened, answered, scan}
 use Rattle.rules.proofs.BoolLaws.{and_left, and_right}
 use Rattle.rules.proofs.BudgetLaws.{afford-count}

@@ -13,6 +13,7 @@ use Prim.Native.Nat.{ℕ, zero, suc, ◌+◌, ◌-◌, ◌≤◌, ◌<◌}
 use native.Mathlib.Omega.{arith}
 use lib.Dec.{ltb, eqb}
 use lib.ListN.{length, take}
+use Rattle.rules.specs.declared.Areas.{Areas}
 use Rattle.rules.specs.declared.Limits.{Limits}
 use Rattle.rules.specs.declared.Mode.{Mode}
 use Rattle.rules.specs.declared.Mode.TheVariants.{Elimination, TopDown}
@@ -20,7 +21,7 @@ use Rattle.rules.specs.Lines.{lines}
 use Rattle.rules.specs.Search.{whole, Stored, no_text, Scoring, Made, recurse, turns, scored, score_view, Best, no_best, best}
 use Rattle.rules.specs.Scan.{Event, paid, overall, found, Recorded, after, afford, verdict, names, contained, and_on, down_on, down_from, top_down, elimination, events}
 use Rattle.rules.specs.Book.{shelved, edition_of}
-use Rattle.rules.specs.Refusal.{refusal, Areas, of_scan}
+use Rattle.rules.specs.Refusal.{refusal, of_scan}
 use Rattle.rules.specs.Jobs.{happened, named}
 use Rattle.rules.proofs.BudgetLaws.{afford-whole, afford-part}
 use Rattle.rules.proofs.CountLaws.{best-count}

@@ -1,6 +1,7 @@
 -- The public jobs: for every input the answer, and what each lent area holds after it. A refusal's answer is its number, all else zero.
 -- Assumes nothing.
 use Rattle.std.specs.Prelude.{◌≡◌, ℕ, false, ◌||◌, cond, List, [], ◌++◌, eqb, length, get_or, drop, replicate}
+use Rattle.rules.specs.declared.Areas.{Areas}
 use Rattle.rules.specs.declared.Limits.{Limits}
 use Rattle.rules.specs.declared.Mode.{Mode}
 use Rattle.rules.specs.declared.Named.{Named}
@@ -16,7 +17,7 @@ use Rattle.rules.specs.Table.{Value, no_value}
 use Rattle.rules.specs.Search.{View, Stored, no_text, Best, Bounds, score_view, bounds}
 use Rattle.rules.specs.Scan.{Event, events, afford, scorings, records, verdict, names, numbers}
 use Rattle.rules.specs.Book.{stored, shelved, edition_of, name_parts, no_part, compiled}
-use Rattle.rules.specs.Refusal.{refusal, Areas, of_check, of_compile, of_view, of_name, of_scan}
+use Rattle.rules.specs.Refusal.{refusal, of_check, of_compile, of_view, of_name, of_scan}
 
 -- ---- lent memory
 -- a work area after an answer: every element zero after 0, 11 and 12; as it was after any other

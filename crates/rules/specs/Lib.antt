@@ -14,3 +14,4 @@ pub mod Count
 pub mod Book
 pub mod Refusal
 pub mod Jobs
+pub mod Told

@@ -2,6 +2,7 @@
 -- Assumes nothing.
 use Rattle.std.specs.Prelude.{ℕ, ◌+◌, ◌*◌, ◌/◌, Bool, false, not, ◌&&◌, ◌||◌, cond, List, [], ◌∷◌, ◌++◌, leb, ltb, eqb, length, Float}
 use Rattle.std.specs.Float.Ieee.{lt, le}
+use Rattle.rules.specs.declared.Areas.{Areas}
 use Rattle.rules.specs.declared.Limits.{Limits}
 use Rattle.rules.specs.declared.Mode.{Mode}
 use Rattle.rules.specs.declared.Mode.TheVariants.{Elimination, TopDown}
@@ -44,11 +45,6 @@ of_books bs =
 -- no stored text has the number k
 abbrev pub of_number : List (List ℕ) → ℕ → Row
 of_number bs k = row 9 (leb (length (shelved 0 bs)) k)
-
--- the lengths of the two lent work areas, in bytes and in u32
-pub record Areas : Type 0 where
-  pub bytes : ℕ
-  pub words : ℕ
 
 unfoldable pub small : List ℕ → Areas → Bool
 small t a = ltb a.bytes (byte_area (length t)) || ltb a.words (word_area (length t))

@@ -3,6 +3,9 @@
 // SPDX-License-Identifier: Apache-2.0), changed. Assumes nothing.
 #![tactic(auto)]
 
+ghost use Rattle.std.specs.Prelude.{◌≤◌};
+ghost use Rattle.rules.specs.Sizes.{name_most};
+
 // The rules' numbers, as specs/Sizes.antt has them. A text: its bytes and its lines.
 pub const TEXT_MOST: usize = 1048576;
 
@@ -34,6 +37,85 @@ pub const AREA_SPARE: usize = 64;
 
 // A record of a scan: its numbers in the results area.
 pub const RECORD_WIDTH: usize = 6;
+
+// Why a job refuses. The number that an answer for C carries is `refusal_number`; 16 is none.
+#[derive(Clone, Copy, Debug, PartialEq, Eq)]
+pub enum Refusal {
+    TextLong,
+    TextBytes,
+    LinesMany,
+    BookUnsound,
+    BookEmpty,
+    Limit,
+    StepZero,
+    View,
+    Number,
+    AreaSmall,
+    OutputShort,
+    Budget,
+    NoExpression,
+    TooDeep,
+    EditionsDiffer,
+    Overdrawn,
+}
+
+impl From<Refusal> for u32 {
+    ghost use Rattle.std.specs.Prelude.{◌≡◌};
+    ghost use Rattle.rules.specs.Told.{refusal_number};
+
+    ghost from_gives = { λ r n. n ≡ refusal_number r };
+
+    fn from(refusal: Refusal) -> u32 {
+        match refusal {
+            Refusal::TextLong => 1,
+            Refusal::TextBytes => 2,
+            Refusal::LinesMany => 3,
+            Refusal::BookUnsound => 4,
+            Refusal::BookEmpty => 5,
+            Refusal::Limit => 6,
+            Refusal::StepZero => 7,
+            Refusal::View => 8,
+            Refusal::Number => 9,
+            Refusal::AreaSmall => 10,
+            Refusal::OutputShort => 11,
+            Refusal::Budget => 12,
+            Refusal::NoExpression => 13,
+            Refusal::TooDeep => 14,
+            Refusal::EditionsDiffer => 15,
+            Refusal::Overdrawn => 17,
+        }
+    }
+}
+
+// What a stored text is: the kinds of a book's records that hold tables, in the order in which ties go.
+#[derive(Clone, Copy, Debug, PartialEq, Eq, PartialOrd, Ord)]
+pub enum Kind {
+    Original,
+    Alternate,
+    Header,
+}
+
+impl From<Kind> for u32 {
+    ghost use Rattle.std.specs.Prelude.{◌≡◌};
+    ghost use Rattle.rules.specs.Told.{kind_number};
+
+    ghost from_gives = { λ k n. n ≡ kind_number k };
+
+    fn from(kind: Kind) -> u32 {
+        match kind {
+            Kind::Original => 2,
+            Kind::Alternate => 3,
+            Kind::Header => 4,
+        }
+    }
+}
+
+// The lengths of the two lent work areas, in bytes and in u32.
+#[derive(Clone, Copy)]
+pub struct Areas {
+    pub bytes: usize,
+    pub words: usize,
+}
 
 // The two limits of a scan. They travel together, by value.
 #[derive(Clone, Copy)]
@@ -77,6 +159,15 @@ pub struct Bounds {
     pub first: usize,
     pub after: usize,
     pub value: Value,
+}
+
+// What the job `bounds` finds: first line, line after last, what these lines score, and the count of scorings.
+#[derive(Clone, Copy)]
+pub struct Located {
+    pub first: u32,
+    pub after: u32,
+    pub value: Value,
+    pub count: u64,
 }
 
 // The answer to `check a book`. A refusal is the rules' number in every answer, and 0 is none.
@@ -144,4 +235,24 @@ pub struct NamedText {
     pub refusal: u32,
     pub kind: u32,
     pub part: Named,
+}
+
+// A licence that is named: the kind of the text that names it, and where its name stands, which has at most 64 bytes.
+#[derive(Clone, Copy)]
+pub struct Licence {
+    pub kind: Kind,
+    pub part: Named,
+    ghost short: { part.len ≤ name_most },
+}
+
+// What the job `scan` finds: the licence that is named, if one is, with its name zero-filled; the overall value, the count of scorings and the number of
+// records; and whether the budget was out, so that this is only what it paid.
+#[derive(Clone, Copy)]
+pub struct Findings {
+    pub licence: Option<Licence>,
+    pub name: [u8; NAME_MOST],
+    pub value: Value,
+    pub count: u64,
+    pub records: u32,
+    pub over_budget: bool,
 }

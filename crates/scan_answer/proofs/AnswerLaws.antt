@@ -1,12 +1,13 @@
 -- The answer of the job `scan`: what the code makes of how the scan ended is what the definition says.
---     name-is, kind-is                  of a text that is named, and of none
+--     held-named, held-fits             of a text that is named, and of none
+--     found-is                          what is found is the answer to how the scan ended
 --     answer_fits                       the numbers fit the answer
 --     refused-is                        of a refusal before any work
 --     answer-is, results_are            where nothing is refused before any work
 --     scan-refused, scan-done           the two ends of the job
 -- Assumes nothing.
 use mathlib.Core.Path.{◌≡◌, refl, sym, ap, ap₂, ◌∙◌}
-use mathlib.Core.Bool.{Bool, true, false, cond}
+use mathlib.Core.Bool.{Bool, true, false, not, cond}
 use mathlib.Core.List.{List, [], ◌++◌}
 use mathlib.Core.Option.{none, some}
 use Prim.Native.Nat.{ℕ, ◌-◌, ◌≤◌}
@@ -16,23 +17,30 @@ use lib.Ieee.{lt}
 use lib.ListN.{length, drop, replicate, length-drop}
 use lib.Seq.{length-take-le}
 use borrow.Author.Tests.{leb-true, leb-false, lt-ltb, le-ltb, ne_eqb}
+use Rattle.rules.specs.declared.Areas.{Areas}
 use Rattle.rules.specs.declared.Limits.{Limits}
 use Rattle.rules.specs.declared.Mode.{Mode}
 use Rattle.rules.specs.declared.Scanned.{Scanned}
 use Rattle.rules.specs.Book.{edition, shelved, edition_of, name_parts, no_part, ReadAs}
 use Rattle.rules.specs.Sizes.{name_most}
 use Rattle.rules.specs.Lines.{lines}
-use Rattle.rules.specs.Table.{nought}
+use Rattle.rules.specs.Table.{nought, no_value}
 use Rattle.rules.specs.Search as rules
 use Rattle.rules.specs.Search.{Stored, no_text, no_best}
 use Rattle.rules.specs.Scan.{Event, events, afford, scorings, records, verdict, names, numbers}
 use Rattle.detection_shelf.specs.Shelves.{Shelf, texts, book_in, text_in, part_held, parts_of}
-use Rattle.rules.specs.Refusal.{refusal, of_scan, before_scan, results_need, Areas}
+use Rattle.rules.specs.Refusal.{refusal, of_scan, before_scan, results_need}
 use Rattle.rules.specs.Jobs.{over, lent, named, name_part, answered, happened, scan, results_after, area_after, ScanDone}
 use Rattle.rules.proofs.BudgetLaws.{afford-count}
 use Rattle.rules.proofs.RefusalLaws.{early, not_early, lines-count, scan-before, scan_then, scan-happened}
 use Rattle.rules.proofs.ScanCountLaws.{results_fit, numbers-length}
+use Rattle.std.proofs.Common.{Option, None, Some, Ok, IfSome, is_none, is_some}
+use Rattle.rules.specs.declared.Findings.{Findings}
+use Rattle.rules.specs.declared.Named.{Named}
+use Rattle.rules.specs.declared.Licence.{Licence}
+use Rattle.rules.specs.Told.{kind_number, scanned_told}
 use Rattle.lists.specs.Parts.{part}
+use Rattle.detection_shelf.specs.declared.Shelved.{Shelved}
 use Rattle.detect_best.specs.declared.Best.{Best}
 use Rattle.detect_best.specs.Beats.{best_in}
 use Rattle.license_charge.specs.declared.Scorings.{Scorings}
@@ -43,44 +51,9 @@ use Rattle.scan_ranges.specs.declared.Run.{Run}
 use Rattle.scan_elimination.specs.declared.Outcome.{Outcome}
 use Rattle.scan_ranges.specs.Run.{paid_numbers, left_over, run_of}
 use Rattle.scan_elimination.specs.Ended.{NameFits, Eliminated}
-use Rattle.scan_answer.specs.Answers.{named_in, part_for, KindIs, answer_for, refused_by, full, over_number, Scans}
+use Rattle.scan_answer.specs.Answers.{refused_by, held_for, stored_held, part_of, named_in, part_for, HeldFits, LicenceHeld, value_for, left_count, answer_for, full, over_number, Scans}
 
 -- ---- the text that is named
-module _ (lim : Limits) (b : Best) where
-  pub named-yes : (books : Shelf) → lt lim.threshold b.value.score ≡ true → named_in books lim b ≡ text_in books b.text
-  unfolding named names best_in
-  named-yes books h = rw h
-
-  pub named-no : (books : Shelf) → lt lim.threshold b.value.score ≡ false → named_in books lim b ≡ no_text
-  unfolding named names best_in
-  named-no books h = rw h
-
-  pub kind-yes : lt lim.threshold b.value.score ≡ true → KindIs lim b b.text.text.kind
-  unfolding text_in
-  kind-yes h = record { is = λ books. sym (ap (λ (s : Stored). s.kind) (named-yes books h)) }
-
-  pub kind-no : lt lim.threshold b.value.score ≡ false → KindIs lim b 0
-  unfolding no_text
-  kind-no h = record { is = λ books. sym (ap (λ (s : Stored). s.kind) (named-no books h)) }
-
-  abbrev NameIs : Shelf → List ℕ → ℕ → Type 0
-  NameIs books bytes len = (bytes ≡ over (named_in books lim b).name (replicate name_most 0)) × (len ≡ length (named_in books lim b).name)
-
-  pub name-yes : (books : Shelf) (bytes : List ℕ) (len : ℕ) → NameFits books b.text → lt lim.threshold b.value.score ≡ true →
-      bytes ≡ over (part (book_in books b.text.second) b.text.text.name b.text.text.past) (replicate name_most 0) → len ≡ b.text.text.past - b.text.text.name → NameIs books bytes len
-  unfolding text_in
-  name-yes books bytes len f h e k =
-      let n : (named_in books lim b).name ≡ part (book_in books b.text.second) b.text.text.name b.text.text.past = ap (λ (s : Stored). s.name) (named-yes books h) in
-      let l = length-take-le (b.text.text.past - b.text.text.name) (drop b.text.text.name (book_in books b.text.second)) (omega (arith, length-drop b.text.text.name (book_in books b.text.second), f.high)) in
-      (e ∙ ap (λ (s : List ℕ). over s (replicate name_most 0)) (sym n), k ∙ sym l ∙ ap length (sym n))
-
-  pub name-no : (books : Shelf) (bytes : List ℕ) (len : ℕ) → lt lim.threshold b.value.score ≡ false →
-      bytes ≡ over [] (replicate name_most 0) → len ≡ 0 → NameIs books bytes len
-  unfolding no_text
-  name-no books bytes len h e k =
-      let n : (named_in books lim b).name ≡ [] = ap (λ (s : Stored). s.name) (named-no books h) in
-      (e ∙ ap (λ (s : List ℕ). over s (replicate name_most 0)) (sym n), k ∙ ap length (sym n))
-
 no_name_lem : (lim : Limits) → named lim no_best ≡ no_text
 unfolding named no_best
 no_name_lem lim = at (names lim no_best)
@@ -88,6 +61,91 @@ no_name_lem lim = at (names lim no_best)
     at : (q : Bool) → cond q no_text no_text ≡ no_text
     at true = refl
     at false = refl
+
+module _ (books : Shelf) (lim : Limits) where
+  pub held-named : (b : Option Best) → named_in books lim b ≡ stored_held books (held_for lim b)
+  unfolding named names best_in
+  held-named None = no_name_lem lim
+  held-named (Some b) = at (lt lim.threshold b.value.score)
+    where
+      at : (q : Bool) → cond q (text_in books b.text) no_text ≡ stored_held books (cond q (Some b.text) None)
+      at true = refl
+      at false = refl
+
+  pub held-fits : (b : Option Best) → IfSome b (λ x. NameFits books x.text) → HeldFits books (held_for lim b)
+  held-fits None f = tt
+  held-fits (Some b) f = at (lt lim.threshold b.value.score)
+    where
+      at : (q : Bool) → HeldFits books (cond q (Some b.text) None)
+      at true = f
+      at false = tt
+
+pub held_short : (books : Shelf) (o : Option Shelved) → HeldFits books o → IfSome o (λ t. (t.text.name ≤ t.text.past) × (t.text.past - t.text.name ≤ name_most))
+held_short books None f = tt
+held_short books (Some t) f = (f.order, f.most)
+
+-- of what is named its kind and part, and of none
+pub licence-none : {o : Option Shelved} → o ≡ None → LicenceHeld o None
+unfolding no_text
+licence-none e = rw e (record { kind = λ books. refl; part = refl })
+
+pub licence-some : {o : Option Shelved} {t : Shelved} → o ≡ Some t → (l : Licence) → l.kind ≡ t.text.kind → l.part ≡ part_held t → LicenceHeld o (Some l)
+unfolding text_in
+licence-some e l k p = rw e (record { kind = λ books. ap kind_number k; part = p })
+
+-- the name's bytes, and none
+pub name-none : (books : Shelf) {o : Option Shelved} → o ≡ None → replicate name_most 0 ≡ over (stored_held books o).name (replicate name_most 0)
+unfolding no_text over
+name-none books e = rw e refl
+
+pub name-some : (books : Shelf) {o : Option Shelved} {t : Shelved} → o ≡ Some t → (bytes held : List ℕ) → held ≡ book_in books t.second →
+    bytes ≡ over (part held t.text.name t.text.past) (replicate name_most 0) → bytes ≡ over (stored_held books o).name (replicate name_most 0)
+unfolding text_in
+name-some books {o} {t} e bytes held h k = k ∙ ap (λ (s : List ℕ). over (part s t.text.name t.text.past) (replicate name_most 0)) h ∙ rw e refl
+
+-- the part of the name is as long
+held_length : (books : Shelf) (o : Option Shelved) → HeldFits books o → (part_of o).len ≡ length (stored_held books o).name
+unfolding no_text text_in
+held_length books None f = refl
+held_length books (Some t) f =
+    sym (length-take-le (t.text.past - t.text.name) (drop t.text.name (book_in books t.second)) (omega (arith, length-drop t.text.name (book_in books t.second), f.high)))
+
+-- a test of none by one of some
+other-way : (b r : Bool) → b ≡ not r → r ≡ not b
+other-way b true e = rw e refl
+other-way b false e = rw e refl
+
+pub value_is : (books : Shelf) (b : Option Best) → value_for b ≡ (best_in books b).value
+unfolding best_in no_best
+value_is books None = refl
+value_is books (Some b) = refl
+
+-- ---- what is found, as the answer to how the scan ended
+module _ (books : Shelf) (lim : Limits) (budget : ℕ) (x : Outcome) (f : Findings) (fits : IfSome x.best (λ b. NameFits books b.text)) where
+  abbrev held : Option Shelved
+  held = held_for lim x.best
+
+  pub found-is : LicenceHeld held f.licence → f.name ≡ over (stored_held books held).name (replicate name_most 0) → f.value ≡ value_for x.best →
+      f.count ≡ budget - left_count x.run.left → f.records ≡ x.run.records → is_some x.run.left ≡ not f.over_budget → scanned_told (Ok f) ≡ answer_for books lim budget x
+  found-is l n v c r known =
+      let w = sym (held-named books lim x.best) in
+      let len = ap (λ (p : Named). p.len) l.part ∙ held_length books held (held-fits books lim x.best fits) ∙ ap (λ (s : Stored). length s.name) w in
+      let name = n ∙ ap (λ (s : Stored). over s.name (replicate name_most 0)) w in
+      let kind = l.kind books ∙ ap (λ (s : Stored). s.kind) w in
+      let part = l.part in
+      let out = other-way _ _ known in
+      λ i. record {
+        refusal = cond (out i) 12 0;
+        name = name i;
+        len = len i;
+        kind = kind i;
+        score = (v i).score;
+        m = (v i).m;
+        t = (v i).t;
+        count = c i;
+        records = r i;
+        part = part i;
+      }
 
 -- ---- a refusal's answer is what the definition says where nothing happened
 pub refused-is : (bs : List (List ℕ)) (lim : Limits) (n : ℕ) → refused_by n ≡ answered n lim (name_parts false bs) []
@@ -130,9 +188,9 @@ module _ (t : List ℕ) (books : Shelf) (lim : Limits) (mode : Mode) (budget : �
 
   -- out, or all is paid
   record Ends : Type 0 where
-    number : cond x.run.out 12 0 ≡ over_number budget (full t books lim mode)
-    within : x.run.left ≤ budget
-    counted : budget - x.run.left ≡ length (scorings es)
+    number : cond (is_none x.run.left) 12 0 ≡ over_number budget (full t books lim mode)
+    within : left_count x.run.left ≤ budget
+    counted : budget - left_count x.run.left ≡ length (scorings es)
 
   ends : Ends
   unfolding left_over run_of
@@ -143,9 +201,9 @@ module _ (t : List ℕ) (books : Shelf) (lim : Limits) (mode : Mode) (budget : �
           let l = leb-true many budget q in
           let over : left_over budget (full t books lim mode) ≡ some (budget - many) = rw q in
           let run : x.run ≡ run_of x.run.records (some (budget - many)) = h.ran.run ∙ ap (run_of x.run.records) over in
-          let left : x.run.left ≡ budget - many = ap (λ (y : Run). y.left) run in
+          let left : left_count x.run.left ≡ budget - many = ap (λ (y : Run). left_count y.left) run in
           record {
-            number = ap (λ (y : Run). cond y.out 12 0) run ∙ sym (ap (λ (b : Bool). cond b 12 0) (le-ltb budget many l));
+            number = ap (λ (y : Run). cond (is_none y.left) 12 0) run ∙ sym (ap (λ (b : Bool). cond b 12 0) (le-ltb budget many l));
             within = omega (arith, left);
             counted = omega (arith, left, l, afford-count budget (full t books lim mode));
           }
@@ -153,9 +211,9 @@ module _ (t : List ℕ) (books : Shelf) (lim : Limits) (mode : Mode) (budget : �
           let l = leb-false many budget q in
           let over : left_over budget (full t books lim mode) ≡ none = rw q in
           let run : x.run ≡ run_of x.run.records none = h.ran.run ∙ ap (run_of x.run.records) over in
-          let left : x.run.left ≡ 0 = ap (λ (y : Run). y.left) run in
+          let left : left_count x.run.left ≡ 0 = ap (λ (y : Run). left_count y.left) run in
           record {
-            number = ap (λ (y : Run). cond y.out 12 0) run ∙ sym (ap (λ (b : Bool). cond b 12 0) (lt-ltb budget many l));
+            number = ap (λ (y : Run). cond (is_none y.left) 12 0) run ∙ sym (ap (λ (b : Bool). cond b 12 0) (lt-ltb budget many l));
             within = omega (arith, left);
             counted = omega (arith, left, l, afford-count budget (full t books lim mode));
           }
@@ -164,21 +222,22 @@ module _ (t : List ℕ) (books : Shelf) (lim : Limits) (mode : Mode) (budget : �
   unfolding paid_numbers
   recorded = omega (arith, h.ran.wrote.count, numbers-length t (records es))
 
-  pub answer_fits : x.run.left ≤ budget
+  pub answer_fits : left_count x.run.left ≤ budget
   answer_fits = ends.within
 
   part-is : part_for lim x.best ≡ name_part (parts_of books) (named lim (verdict es))
-  unfolding name_part named names best_in no_text
-  part-is = at (lt lim.threshold x.best.value.score) ∙ ap (λ (v : rules.Best). name_part (parts_of books) (named lim v)) h.best
+  unfolding name_part no_text
+  part-is = at (held_for lim x.best) (held-fits books lim x.best h.name) ∙ ap (name_part (parts_of books)) (sym (held-named books lim x.best) ∙ ap (named lim) h.best)
     where
-      at : (q : Bool) → cond q (part_held x.best.text) no_part ≡ name_part (parts_of books) (cond q (text_in books x.best.text) no_text)
-      at true = sym h.name.stands
-      at false = refl
+      at : (o : Option Shelved) → HeldFits books o → part_of o ≡ name_part (parts_of books) (stored_held books o)
+      at None f = refl
+      at (Some t) f = sym f.stands
 
   pub answer-is : answer_for books lim budget x ≡ answered (over_number budget (full t books lim mode)) lim (parts_of books) es
-  unfolding answered best_in
+  unfolding answered
   answer-is =
       let best = h.best in
+      let value = value_is books x.best ∙ ap (λ (b : rules.Best). b.value) h.best in
       let counted = ends.counted in
       let number = ends.number in
       let part = part-is in
@@ -188,9 +247,9 @@ module _ (t : List ℕ) (books : Shelf) (lim : Limits) (mode : Mode) (budget : �
         name = over (named lim (best i)).name (replicate name_most 0);
         len = length (named lim (best i)).name;
         kind = (named lim (best i)).kind;
-        score = (best i).value.score;
-        m = (best i).value.m;
-        t = (best i).value.t;
+        score = (value i).score;
+        m = (value i).m;
+        t = (value i).t;
         count = counted i;
         records = wrote i;
         part = part i;

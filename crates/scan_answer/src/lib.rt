@@ -1,121 +1,112 @@
-// The answer of the job `scan`: the licence that is named, where its name stands, its kind, and the numbers of the run.
+// What the job `scan` finds: the licence that is named, where its name stands, its kind, and the numbers of the run.
 // From detection/scan.rs of spdx 0.13.6 (Copyright 2018 Amazon.com, Inc. or its affiliates. All Rights Reserved.
-// SPDX-License-Identifier: Apache-2.0), changed: `ScanResult`, with refusals and a budget. Assumes nothing.
+// SPDX-License-Identifier: Apache-2.0), changed: `ScanResult`, with a budget. Assumes nothing.
 #![tactic(auto)]
 
-ghost use Rattle.std.specs.Prelude.{◌≡◌, cond, ◌≤◌, length, replicate};
+ghost use Rattle.std.specs.Prelude.{◌≡◌, ◌≤◌, ◌-◌, Ok, IfSome, replicate};
 ghost use Rattle.rules.specs.Sizes.{name_most};
-ghost use Rattle.detection_shelf.specs.Shelves.{shelf};
+ghost use Rattle.rules.specs.Told.{scanned_told};
+ghost use Rattle.detection_shelf.specs.Shelves.{shelf, book_in};
 ghost use Rattle.rules.specs.Jobs.{over};
 ghost use Rattle.scan_elimination.specs.Ended.{NameFits};
-ghost use Rattle.scan_answer.specs.Answers.{named_in, part_for, KindIs, answer_for, refused_by};
+ghost use Rattle.scan_answer.specs.Answers.{held_for, stored_held, HeldFits, LicenceHeld, value_for, left_count, answer_for};
 
 use detect_best::Best;
-use detection_texts::names::{Name, name_in};
-use rules::{Limits, NAME_MOST, Named, Scanned};
+use detection_shelf::Shelved;
+use detection_texts::names::name_in;
+use license_charge::Scorings;
+use rules::{Findings, Licence, Limits, NAME_MOST, Named, Value};
 use scan_elimination::Outcome;
 use scan_limits::names;
 
-// The name of the text that is named: none has no bytes.
-fn name_of(book: &[u8], second: &[u8], limits: Limits, best: Best) -> Name
-    requires { NameFits (shelf book.now second.now) best.text }
-    ensures { (result.bytes ≡ over (named_in (shelf book.now second.now) limits best).name (replicate name_most 0)) × (result.len ≡ length (named_in (shelf book.now second.now) limits best).name) }
+// The text that is named, where one is.
+fn named_text(limits: Limits, best: Option<Best>) -> Option<Shelved>
+    ensures { result ≡ held_for limits best }
 {
-    if names(limits, best) {
-        let held = best.text;
-        let text = held.text;
-        if held.second {
-            return name_in(second, text.name, text.past);
-        }
-        return name_in(book, text.name, text.past);
-    }
-    name_in(book, 0, 0)
-}
-
-// Where the name of the text that is named stands: none is the empty part at the first book's start.
-fn part_of(limits: Limits, best: Best) -> Named
-    requires { best.text.text.name ≤ best.text.text.past }
-    ensures { result ≡ part_for limits best }
-{
-    if names(limits, best) {
-        let held = best.text;
-        let text = held.text;
-        return Named {
-            second: held.second,
-            at: text.name,
-            len: text.past - text.name,
-        };
-    }
-    Named {
-        second: false,
-        at: 0,
-        len: 0,
+    match best {
+        Some(best) if names(limits, best) => Some(best.text),
+        _ => None,
     }
 }
 
-fn kind_of(limits: Limits, best: Best) -> u32
-    ensures { KindIs limits best result }
+// Its kind, and where its name stands.
+fn licence_of(named: Option<Shelved>) -> Option<Licence>
+    requires { IfSome named (λ t. (t.text.name ≤ t.text.past) × (t.text.past - t.text.name ≤ name_most)) }
+    ensures { LicenceHeld named result }
 {
-    if names(limits, best) {
-        let held = best.text;
-        let text = held.text;
-        return text.kind as u32;
-    }
-    0
-}
-
-fn refusal_of(out: bool) -> u32
-    ensures { result ≡ cond out 12 0 }
-{
-    if out { 12 } else { 0 }
-}
-
-// What a scan that began with `budget` scorings answers.
-pub fn answer(book: &[u8], second: &[u8], limits: Limits, outcome: Outcome, budget: u64) -> Scanned
-    requires name_fits { NameFits (shelf book.now second.now) outcome.best.text }
-    requires left_le_budget { outcome.run.left ≤ budget }
-    ensures { result ≡ answer_for (shelf book.now second.now) limits budget outcome }
-{
-    let best = outcome.best;
-    let run = outcome.run;
-    let name = name_of(book, second, limits, best);
-    let bytes = name.bytes;
-    let kind = kind_of(limits, best);
-    let refusal = refusal_of(run.out);
-    let part = part_of(limits, best);
-    let value = best.value;
-    Scanned {
-        refusal,
-        name: bytes,
-        len: name.len,
-        kind,
-        score: value.score,
-        m: value.m,
-        t: value.t,
-        count: budget - run.left,
-        records: run.records,
-        part,
-    }
-}
-
-pub fn refused(refusal: u32) -> Scanned
-    ensures { result ≡ refused_by refusal }
-{
+    let held = named?;
+    let text = held.text;
     let part = Named {
-        second: false,
-        at: 0,
-        len: 0,
+        second: held.second,
+        at: text.name,
+        len: text.past - text.name,
     };
-    Scanned {
-        refusal,
-        name: [0; NAME_MOST],
-        len: 0,
-        kind: 0,
-        score: 0.0,
-        m: 0,
-        t: 0,
-        count: 0,
-        records: 0,
+    Some(Licence {
+        kind: text.kind,
         part,
+    })
+}
+
+fn book_held<'a>(book: &'a [u8], second: &'a [u8], in_second: bool) -> &'a [u8]
+    ensures { result.now ≡ book_in (shelf book.now second.now) in_second }
+{
+    if in_second { second } else { book }
+}
+
+// Its name, zero-filled: none has no bytes.
+fn name_of(book: &[u8], second: &[u8], named: Option<Shelved>) -> [u8; NAME_MOST]
+    requires { HeldFits (shelf book.now second.now) named }
+    ensures { result ≡ over (stored_held (shelf book.now second.now) named).name (replicate name_most 0) }
+{
+    match named {
+        Some(held) => {
+            let text = held.text;
+            let from = book_held(book, second, held.second);
+            let name = name_in(from, text.name, text.past);
+            name.bytes
+        }
+        None => [0; NAME_MOST],
+    }
+}
+
+fn value_of(best: Option<Best>) -> Value
+    ensures { result ≡ value_for best }
+{
+    match best {
+        Some(best) => best.value,
+        None => Value {
+            score: 0.0,
+            m: 0,
+            t: 0,
+        },
+    }
+}
+
+// The scorings left: none where the budget was out.
+fn count_left(left: Option<Scorings>) -> u64
+    ensures { result ≡ left_count left }
+{
+    match left {
+        Some(left) => left.count(),
+        None => 0,
+    }
+}
+
+// What a scan that began with `budget` scorings found.
+pub fn answer(book: &[u8], second: &[u8], limits: Limits, outcome: Outcome, budget: u64) -> Findings
+    requires name_fits { IfSome outcome.best (λ b. NameFits (shelf book.now second.now) b.text) }
+    requires left_le_budget { left_count outcome.run.left ≤ budget }
+    ensures { scanned_told (Ok result) ≡ answer_for (shelf book.now second.now) limits budget outcome }
+{
+    let run = outcome.run;
+    let named = named_text(limits, outcome.best);
+    let name = name_of(book, second, named);
+    Findings {
+        licence: licence_of(named),
+        name,
+        value: value_of(outcome.best),
+        count: budget - count_left(run.left),
+        records: run.records,
+        over_budget: run.left.is_none(),
     }
 }

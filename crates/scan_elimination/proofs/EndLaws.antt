@@ -30,10 +30,12 @@ use Rattle.rules.specs.Book.{sound}
 use Rattle.detection_shelf.specs.declared.Counts.{Counts}
 use Rattle.detection_texts.proofs.TextLaws.{found_name}
 use Rattle.detect_best.specs.declared.Best.{Best}
-use Rattle.detect.specs.declared.Chosen.TheVariants as chosen
+use Rattle.std.specs.Prelude.{None, Some, IfSome, IsSomeAnd}
+use Rattle.std.specs.Prelude as prelude
+use Rattle.rules.specs.Told.{kind_number}
+use Rattle.license_charge.specs.declared.Charged.{Charged}
 use Rattle.detect_best.specs.Beats.{best_in}
 use Rattle.detect.specs.Bests.{chosen_in, ChosenStands, BestDone}
-use Rattle.detect.proofs.BestLaws.{no_best_yet, none_is}
 use Rattle.detection_shelf.specs.Shelves.{Shelf, texts, Stands, CountsOf, book_in, text_in}
 use Rattle.detection_shelf.proofs.ShelfLaws.{stands-part}
 use Rattle.scan_ranges.specs.declared.Scope.{Scope}
@@ -60,7 +62,7 @@ book-sound : (books : Shelf) (c : Counts) (second : Bool) → CountsOf books c �
 book-sound books c true h = h.sound-second
 book-sound books c false h = h.sound-first
 
-kind-from : (books : Shelf) (c : Counts) (t : Shelved) → CountsOf books c → Stands books t → 2 ≤ t.text.kind
+kind-from : (books : Shelf) (c : Counts) (t : Shelved) → CountsOf books c → Stands books t → 2 ≤ kind_number t.text.kind
 unfolding text_in
 kind-from books c t s h = (stands-sound books c t s h).kind-from
 
@@ -70,12 +72,8 @@ stands-name {books} {c} {t} s h = record {
   order = h.found.is.name-from;
   high = h.found.is.name-to;
   most = (found_name (book_in books t.second) t.text.number t.text (book-sound books c t.second s) h.inside h.found).1;
-  stands = rw (ne_eqb t.text.kind 0 (λ e. omega (arith, e, kind-from books c t s h))) (stands-part books t h);
+  stands = rw (ne_eqb (kind_number t.text.kind) 0 (λ e. omega (arith, e, kind-from books c t s h))) (stands-part books t h);
 }
-
-pub none-name : (books : Shelf) → NameFits books no_best_yet.text
-unfolding name_part text_in
-none-name books = record { order = omega arith; high = omega arith; most = omega arith; stands = refl }
 
 -- ---- the whole
 module _ (note : List ℕ) {scope : Scope} {class area₀ words₀ : List ℕ} {books : Shelf} (s : Scanning scope class area₀ words₀ books) (optimize : Bool) (p budget : ℕ) (r₀ : List ℕ)
@@ -105,71 +103,80 @@ module _ (note : List ℕ) {scope : Scope} {class area₀ words₀ : List ℕ} {
   asked v e = ap (rules.best (texts books) ls) (e ∙ ap (view 0) (sym (lines-length area₀ words₀ 0 scope.lines)))
 
   module _ {area words : List ℕ} (v : View) (e : v ≡ view 0 scope.lines) where
-    pub whole_out : (x : Outcome) → BestDone scope.n scope.lines area₀ words₀ area words v books budget chosen.Out → x.best ≡ no_best_yet → x.run ≡ run_of 0 none →
+    pub whole_out : (x : Outcome) → BestDone scope.n scope.lines area₀ words₀ area words v books budget None → x.best ≡ None → x.run ≡ run_of 0 none →
         Eliminated note all budget books r₀ r₀ x
-    unfolding chosen_in
+    unfolding chosen_in best_in
     whole_out x d b q =
         let out : pay made budget ≡ none = ap (λ (m : Made rules.Best). pay m budget) (sym (asked v e)) ∙ sym d.is in
         record {
-          best = ap (best_in books) b ∙ none_is books ∙ sym (ap (λ (es : List Event). verdict (afford budget es)) split ∙ verdict-out made budget _ out);
-          name = subst (λ (y : Best). NameFits books y.text) (sym b) (none-name books);
+          best = ap (best_in books) b ∙ sym (ap (λ (es : List Event). verdict (afford budget es)) split ∙ verdict-out made budget _ out);
+          name = subst (λ (y : prelude.Option Best). IfSome y (λ b. NameFits books b.text)) (sym b) tt;
           ran = going_out made (overall made.value ∷ more made.value) x.run out q (going_as split (going_first note all budget r₀ room));
         }
 
-    module _ (best : Best) (left : Scorings) (d : BestDone scope.n scope.lines area₀ words₀ area words v books budget (chosen.Found best left)) where
-      paid : pay made budget ≡ some (record { value = best_in books best; left = left.count })
-      unfolding chosen_in
-      paid = ap (λ (m : Made rules.Best). pay m budget) (sym (asked v e)) ∙ sym d.is
+    -- the books store a text, so that they have a best
+    pub best-none : {A : Type 0} (c : Charged (prelude.Option Best)) → c.value ≡ None → BestDone scope.n scope.lines area₀ words₀ area words v books budget (Some c) → A
+    unfolding ChosenStands
+    best-none c z d = let no : IsSomeAnd {T = Best} None (λ b. Stands books b.text) = rw z at (d.stands s.some-text) in absurd no
 
-      is : made.value ≡ best_in books best
-      is = sym (paid-is made budget (record { value = best_in books best; left = left.count }) paid).0
+    module _ (c : Charged (prelude.Option Best)) (best : Best) (known : c.value ≡ Some best)
+        (d : BestDone scope.n scope.lines area₀ words₀ area words v books budget (Some c)) where
+      abbrev left : Scorings
+      left = c.left
+
+      paid : pay made budget ≡ some (record { value = best_in books (Some best); left = left.count })
+      unfolding chosen_in
+      paid = ap (λ (m : Made rules.Best). pay m budget) (sym (asked v e)) ∙ rw known at (sym d.is)
+
+      is : made.value ≡ best_in books (Some best)
+      is = sym (paid-is made budget (record { value = best_in books (Some best); left = left.count }) paid).0
 
       pub best-stands : Stands books best.text
       unfolding ChosenStands
-      best-stands = d.stands s.some-text
+      best-stands = rw known at (d.stands s.some-text)
 
       -- what follows the best
-      then : all ≡ after made.list (overall (best_in books best) ∷ more (best_in books best))
+      then : all ≡ after made.list (overall (best_in books (Some best)) ∷ more (best_in books (Some best)))
       then = split ∙ ap (λ (b : rules.Best). after made.list (overall b ∷ more b)) is
 
-      writes : paid_numbers note budget all ≡ paid_numbers note left.count (more (best_in books best))
+      writes : paid_numbers note budget all ≡ paid_numbers note left.count (more (best_in books (Some best)))
       writes =
-          ap (paid_numbers note budget) then ∙ paid-written made budget (overall (best_in books best) ∷ more (best_in books best)) note (record { value = best_in books best; left = left.count }) paid ∙
-          overall-written note left.count (best_in books best) (more (best_in books best))
+          ap (paid_numbers note budget) then ∙ paid-written made budget (overall (best_in books (Some best)) ∷ more (best_in books (Some best))) note (record { value = best_in books (Some best); left = left.count }) paid ∙
+          overall-written note left.count (best_in books (Some best)) (more (best_in books (Some best)))
 
-      leaves : left_over budget all ≡ left_over left.count (more (best_in books best))
+      leaves : left_over budget all ≡ left_over left.count (more (best_in books (Some best)))
       leaves =
-          ap (left_over budget) then ∙ paid-left made budget (overall (best_in books best) ∷ more (best_in books best)) (record { value = best_in books best; left = left.count }) paid ∙
-          overall-left left.count (best_in books best) (more (best_in books best))
+          ap (left_over budget) then ∙ paid-left made budget (overall (best_in books (Some best)) ∷ more (best_in books (Some best))) (record { value = best_in books (Some best); left = left.count }) paid ∙
+          overall-left left.count (best_in books (Some best)) (more (best_in books (Some best)))
 
       -- a run of what follows is a run of the whole
-      ended_as : {r : List ℕ} (x : Outcome) → x.best ≡ best → Ran note (more (best_in books best)) left.count r₀ r x.run → Eliminated note all budget books r₀ r x
+      ended_as : {r : List ℕ} (x : Outcome) → x.best ≡ Some best → Ran note (more (best_in books (Some best))) left.count r₀ r x.run → Eliminated note all budget books r₀ r x
       ended_as {r} x b a = record {
         best = ap (best_in books) b ∙ sym (ap (λ (es : List Event). verdict (afford budget es)) then ∙
-            verdict-paid made budget (record { value = best_in books best; left = left.count }) (best_in books best) (more (best_in books best)) paid);
-        name = subst (λ (y : Best). NameFits books y.text) (sym b) (stands-name s.counted best-stands);
+            verdict-paid made budget (record { value = best_in books (Some best); left = left.count }) (best_in books (Some best)) (more (best_in books (Some best))) paid);
+        name = subst (λ (y : prelude.Option Best). IfSome y (λ t. NameFits books t.text)) (sym b) (stands-name s.counted best-stands);
         ran = record {
           wrote = subst (λ (l : List ℕ). Wrote l r₀ (record_width * x.run.records) r) (sym writes) a.wrote;
           run = a.run ∙ ap (run_of x.run.records) (sym leaves);
         };
       }
 
-      pub whole-stop : (x : Outcome) → stops lim (best_in books best) || not optimize ≡ true → x.best ≡ best → x.run ≡ run_of 0 (some left.count) → Eliminated note all budget books r₀ r₀ x
+      pub whole-stop : (x : Outcome) → stops lim (best_in books (Some best)) || not optimize ≡ true → x.best ≡ Some best → x.run ≡ run_of 0 (some left.count) → Eliminated note all budget books r₀ r₀ x
       whole-stop x t b q =
-          ended_as x b (going_end x.run q (going_as (none_more t) (going_first note (more (best_in books best)) left.count r₀ (subst (λ (l : List ℕ). length l ≤ length r₀) writes room))))
+          ended_as x b (going_end x.run q (going_as (none_more t) (going_first note (more (best_in books (Some best))) left.count r₀ (subst (λ (l : List ℕ). length l ≤ length r₀) writes room))))
         where
-          none_more : stops lim (best_in books best) || not optimize ≡ true → more (best_in books best) ≡ []
+          none_more : stops lim (best_in books (Some best)) || not optimize ≡ true → more (best_in books (Some best)) ≡ []
           none_more t = rw t
 
-      module _ (t : stops lim (best_in books best) || not optimize ≡ false) where
+      module _ (t : stops lim (best_in books (Some best)) || not optimize ≡ false) where
         -- the passes, over the areas as they stand
-        passes : more (best_in books best) ≡ each_pass lim (texts books) p (lines_at area words scope.lines) (best_in books best)
-        passes = rw t (ap (λ (ms : List (List ℕ)). each_pass lim (texts books) p ms (best_in books best)) (sym d.held.same))
+        passes : more (best_in books (Some best)) ≡ each_pass lim (texts books) p (lines_at area words scope.lines) (best_in books (Some best))
+        passes = rw t (ap (λ (ms : List (List ℕ)). each_pass lim (texts books) p ms (best_in books (Some best))) (sym d.held.same))
 
-        pub whole_room : length (paid_numbers note left.count (each_pass lim (texts books) p (lines_at area words scope.lines) (best_in books best))) ≤ length r₀
+        pub whole_room : length (paid_numbers note left.count (each_pass lim (texts books) p (lines_at area words scope.lines) (best_in books (Some best)))) ≤ length r₀
         whole_room = subst (λ (l : List ℕ). length l ≤ length r₀) (writes ∙ ap (paid_numbers note left.count) passes) room
 
-        pub whole-on : {r : List ℕ} (x : Outcome) → x.best ≡ best → Ran note (each_pass lim (texts books) p (lines_at area words scope.lines) (best_in books best)) left.count r₀ r x.run →
+        pub whole-on : {r : List ℕ} (x : Outcome) → x.best ≡ Some best → Ran note (each_pass lim (texts books) p (lines_at area words scope.lines) (best_in books (Some best))) left.count r₀ r x.run →
             Eliminated note all budget books r₀ r x
         whole-on {r} x b a = ended_as x b (subst (λ (es : List Event). Ran note es left.count r₀ r x.run) (sym passes) a)
 

@@ -5,7 +5,7 @@
 --     pass_again, pass_out_again        past a record: the best of what is left, and where it is not paid
 --     pass_end                          no pass left
 -- Assumes nothing.
-use mathlib.Core.Path.{◌≡◌, refl, sym, ap, ◌∙◌, subst}
+use mathlib.Core.Path.{◌≡◌, refl, sym, ap, ◌∙◌}
 use mathlib.Core.Bool.{true, false, cond}
 use mathlib.Core.List.{List, [], ◌∷◌, ◌++◌}
 use mathlib.Core.Option.{none, some}
@@ -22,14 +22,14 @@ use Rattle.rules.specs.Search.{Made, Stored, view, whole, blank, bounds}
 use Rattle.rules.specs.Scan.{Event, found, Recorded, after, below, each_pass}
 use Rattle.preproc_table.specs.Entries.{lines_at, Blanked}
 use Rattle.preproc_table.proofs.EntryLaws.{lines-length}
-use Rattle.license_bounds.specs.declared.Ranged.TheVariants as ranged
+use Rattle.std.specs.Prelude.{None, Some, IsSomeAnd}
+use Rattle.std.specs.Prelude as prelude
+use Rattle.license_charge.specs.declared.Charged.{Charged}
 use Rattle.license_charge.specs.declared.Scorings.{Scorings}
-use Rattle.license_charge.specs.Pay.{Paid, pay}
-use Rattle.license_bounds.specs.Found.{ranged_of}
+use Rattle.license_charge.specs.Pay.{Paid, pay, charged_of}
+use Rattle.license_charge.proofs.PayLaws.{out_of, paid_of}
 use Rattle.license_notes.specs.Laid.{Held}
 use Rattle.detect_best.specs.declared.Best.{Best}
-use Rattle.detect.specs.declared.Chosen.{Chosen}
-use Rattle.detect.specs.declared.Chosen.TheVariants as chosen
 use Rattle.detect_best.specs.Beats.{best_in}
 use Rattle.detect.specs.Bests.{chosen_in, ChosenStands, BestDone}
 use Rattle.detection_shelf.specs.Shelves.{Shelf, texts, text_in, Stands}
@@ -37,11 +37,11 @@ use Rattle.scan_ranges.specs.declared.Run.{Run}
 use Rattle.scan_ranges.specs.declared.Scope.{Scope}
 use Rattle.scan_ranges.specs.Run.{paid_numbers, run_of, Scanning, BestWithout, RangeFits, Ran}
 use Rattle.scan_ranges.proofs.RunLaws.{paid-is}
-use Rattle.scan_ranges.proofs.HeldLaws.{range-out, range-found, fits_of}
+use Rattle.scan_ranges.proofs.HeldLaws.{fits_of}
 use Rattle.scan_ranges.proofs.GoingLaws.{Going, going_first, going_as, going_paid, going_out, going_room, going_found, going_end, six_of}
 
 -- ---- the best of what white-out leaves, of areas that still hold the same lines
-pub without-held : {scope : Scope} {class area₀ words₀ area₁ words₁ area words : List ℕ} {books : Shelf} {range : Bounds} {budget : ℕ} {r : Chosen} →
+pub without-held : {scope : Scope} {class area₀ words₀ area₁ words₁ area words : List ℕ} {books : Shelf} {range : Bounds} {budget : ℕ} {r : prelude.Option (Charged (prelude.Option Best))} →
     Held scope.n scope.lines area₀ words₀ area₁ words₁ → BestWithout scope class area₁ words₁ area words books range budget r →
     BestWithout scope class area₀ words₀ area words books range budget r
 without-held {scope} {class} {area₀} {words₀} {area₁} {words₁} {area} {words} {books} {range} {budget} {r} h w =
@@ -55,14 +55,8 @@ without-held {scope} {class} {area₀} {words₀} {area₁} {words₁} {area} {w
       words_long = w.words_long ∙ h.words_long;
     }
 
--- an answer that is known to be another
-pub without-out : {scope : Scope} {class area₀ words₀ area words : List ℕ} {books : Shelf} {range : Bounds} {budget : ℕ} {r x : Chosen} → r ≡ x →
-    BestWithout scope class area₀ words₀ area words books range budget r → BestWithout scope class area₀ words₀ area words books range budget x
-without-out {scope} {class} {area₀} {words₀} {area} {words} {books} {range} {budget} {r} {x} e w =
-    subst (λ (y : Chosen). BestWithout scope class area₀ words₀ area words books range budget y) e w
-
 -- ---- the best of what white-out leaves
-pub best-without : {scope : Scope} {class area₀ words₀ words₁ area words : List ℕ} {books : Shelf} {v : View} {range : Bounds} {budget : ℕ} {r : Chosen} →
+pub best-without : {scope : Scope} {class area₀ words₀ words₁ area words : List ℕ} {books : Shelf} {v : View} {range : Bounds} {budget : ℕ} {r : prelude.Option (Charged (prelude.Option Best))} →
     Scanning scope class area₀ words₀ books → Blanked range.first range.after words₀ words₁ → length words₁ ≡ length words₀ →
     v ≡ view 0 scope.lines → BestDone scope.n scope.lines area₀ words₁ area words v books budget r →
     BestWithout scope class area₀ words₀ area words books range budget r
@@ -89,11 +83,11 @@ pub record Passing (note : List ℕ) (scope : Scope) (class area₀ words₀ : L
   pub stands : Stands books best.text
   pub within : k ≤ p
   pub going :
-      Going note (each_pass scope.limits (texts books) p (lines_at area₀ words₀ scope.lines) (best_in books first)) budget r₀ r k left
-      (each_pass scope.limits (texts books) (p - k) (lines_at area words scope.lines) (best_in books best))
+      Going note (each_pass scope.limits (texts books) p (lines_at area₀ words₀ scope.lines) (best_in books (Some first))) budget r₀ r k left
+      (each_pass scope.limits (texts books) (p - k) (lines_at area words scope.lines) (best_in books (Some best)))
 
 pub pass_first : (note : List ℕ) (scope : Scope) (class area words : List ℕ) (books : Shelf) (r : List ℕ) (p budget : ℕ) (first : Best) → Scanning scope class area words books → Stands books first.text →
-    length (paid_numbers note budget (each_pass scope.limits (texts books) p (lines_at area words scope.lines) (best_in books first))) ≤ length r →
+    length (paid_numbers note budget (each_pass scope.limits (texts books) p (lines_at area words scope.lines) (best_in books (Some first)))) ≤ length r →
     Passing note scope class area words books r p budget first area words r first budget 0
 pass_first note scope class area words books r p budget first s t h = record {
   ready = s;
@@ -101,7 +95,7 @@ pass_first note scope class area words books r p budget first s t h = record {
   words_long = refl;
   stands = t;
   within = omega arith;
-  going = going_as (ap (λ (n : ℕ). each_pass scope.limits (texts books) n (lines_at area words scope.lines) (best_in books first)) (sym (sub-zero p))) (going_first note _ budget r h);
+  going = going_as (ap (λ (n : ℕ). each_pass scope.limits (texts books) n (lines_at area words scope.lines) (best_in books (Some first))) (sym (sub-zero p))) (going_first note _ budget r h);
 }
 
 module _ {note : List ℕ} {scope : Scope} {class area₀ words₀ : List ℕ} {books : Shelf} {r₀ : List ℕ} {p budget : ℕ} {first : Best} {area words r : List ℕ} {best : Best} {left k : ℕ}
@@ -110,7 +104,7 @@ module _ {note : List ℕ} {scope : Scope} {class area₀ words₀ : List ℕ} {
   lim = scope.limits
 
   abbrev pub all : List Event
-  all = each_pass lim (texts books) p (lines_at area₀ words₀ scope.lines) (best_in books first)
+  all = each_pass lim (texts books) p (lines_at area₀ words₀ scope.lines) (best_in books (Some first))
 
   abbrev pub ls : List (List ℕ)
   ls = lines_at area words scope.lines
@@ -134,9 +128,9 @@ module _ {note : List ℕ} {scope : Scope} {class area₀ words₀ : List ℕ} {
   abbrev pub told : Bounds → List Event
   told x = cond (below lim x) [] (found (record { text = text; range = x }) ∷ more x)
 
-  split : k < p → each_pass lim (texts books) (p - k) ls (best_in books best) ≡ after made.list (told made.value)
+  split : k < p → each_pass lim (texts books) (p - k) ls (best_in books (Some best)) ≡ after made.list (told made.value)
   unfolding each_pass best_in
-  split l = ap (λ (n : ℕ). each_pass lim (texts books) n ls (best_in books best)) (fewer l)
+  split l = ap (λ (n : ℕ). each_pass lim (texts books) n ls (best_in books (Some best))) (fewer l)
     where
       fewer : k < p → p - k ≡ suc (p - (k + 1))
       fewer l = omega arith
@@ -147,16 +141,21 @@ module _ {note : List ℕ} {scope : Scope} {class area₀ words₀ : List ℕ} {
   asked v e = ap (λ (w : View). bounds ls w text) (e ∙ ap (view 0) (sym (lines-length area words 0 scope.lines)))
 
   -- where the budget is out
-  pub pass_out : (v : View) (x : Run) → k < p → v ≡ view 0 scope.lines → ranged.Out ≡ ranged_of (pay (bounds ls v text) left) → x ≡ run_of k none →
+  pub pass_out : (v : View) (x : Run) → k < p → v ≡ view 0 scope.lines → None ≡ charged_of (pay (bounds ls v text) left) → x ≡ run_of k none →
       Ran note all budget r₀ r x
   pass_out v x l e o q =
-      going_out made (told made.value) x (ap (λ (m : Made Bounds). pay m left) (sym (asked v e)) ∙ range-out (pay (bounds ls v text) left) o) q
+      going_out made (told made.value) x (ap (λ (m : Made Bounds). pay m left) (sym (asked v e)) ∙ out_of (pay (bounds ls v text) left) o) q
       (going_as (split l) i.going)
 
-  module _ (v : View) (range : Bounds) (rest : Scorings) (l : k < p) (e : v ≡ view 0 scope.lines)
-      (o : ranged.Found range rest ≡ ranged_of (pay (bounds ls v text) left)) where
+  module _ (v : View) (c : Charged Bounds) (l : k < p) (e : v ≡ view 0 scope.lines) (o : Some c ≡ charged_of (pay (bounds ls v text) left)) where
+    abbrev range : Bounds
+    range = c.value
+
+    abbrev rest : Scorings
+    rest = c.left
+
     paid : pay made left ≡ some (record { value = range; left = rest.count })
-    paid = ap (λ (m : Made Bounds). pay m left) (sym (asked v e)) ∙ range-found (pay (bounds ls v text) left) range rest o
+    paid = ap (λ (m : Made Bounds). pay m left) (sym (asked v e)) ∙ paid_of (pay (bounds ls v text) left) c o
 
     is : made.value ≡ range
     is = sym (paid-is made left (record { value = range; left = rest.count }) paid).0
@@ -191,28 +190,36 @@ module _ {note : List ℕ} {scope : Scope} {class area₀ words₀ : List ℕ} {
         on : Going note all budget r₀ r' (k + 1) rest.count (more range)
         on = going_found recorded (more range) (going_as high past) r' q
 
-        pub pass_out_again : {area' words' : List ℕ} (x : Run) → BestWithout scope class area words area' words' books range rest.count chosen.Out → x ≡ run_of (k + 1) none →
+        pub pass_out_again : {area' words' : List ℕ} (x : Run) → BestWithout scope class area words area' words' books range rest.count None → x ≡ run_of (k + 1) none →
             Ran note all budget r₀ r' x
         unfolding chosen_in
         pass_out_again x w e' =
             going_out (next range) (each_pass lim (texts books) (p - (k + 1)) (without range) (next range).value) x (sym w.is) e' on
 
-        pub pass_again : {area' words' : List ℕ} (best' : Best) (left' : Scorings) → BestWithout scope class area words area' words' books range rest.count (chosen.Found best' left') →
-            Passing note scope class area₀ words₀ books r₀ p budget first area' words' r' best' left'.count (k + 1)
+        -- the books store a text, so that they have a best
+        pub best-none : {A : Type 0} {area' words' : List ℕ} (d : Charged (prelude.Option Best)) → d.value ≡ None →
+            BestWithout scope class area words area' words' books range rest.count (Some d) → A
+        unfolding ChosenStands
+        best-none d z w = let no : IsSomeAnd {T = Best} None (λ b. Stands books b.text) = rw z at w.stands in absurd no
+
+        pub pass_again : {area' words' : List ℕ} (d : Charged (prelude.Option Best)) (best' : Best) → d.value ≡ Some best' →
+            BestWithout scope class area words area' words' books range rest.count (Some d) → Passing note scope class area₀ words₀ books r₀ p budget first area' words' r' best' d.left.count (k + 1)
         unfolding chosen_in ChosenStands
-        pass_again {area'} {words'} best' left' w =
-            let paid-best : Paid rules.Best = record { value = best_in books best'; left = left'.count } in
+        pass_again {area'} {words'} d best' is' w =
+            let paid-best : Paid rules.Best = record { value = best_in books (Some best'); left = d.left.count } in
+            let paid-is' : pay (next range) rest.count ≡ some paid-best = rw is' at (sym w.is) in
+            let stands' : Stands books best'.text = rw is' at w.stands in
             let es = each_pass lim (texts books) (p - (k + 1)) (without range) (next range).value in
-            let same : es ≡ each_pass lim (texts books) (p - (k + 1)) (lines_at area' words' scope.lines) (best_in books best') =
-            ap (λ (b : rules.Best). each_pass lim (texts books) (p - (k + 1)) (without range) b) (sym (paid-is (next range) rest.count paid-best (sym w.is)).0) ∙
-            ap (λ (m : List (List ℕ)). each_pass lim (texts books) (p - (k + 1)) m (best_in books best')) (sym w.lines) in
+            let same : es ≡ each_pass lim (texts books) (p - (k + 1)) (lines_at area' words' scope.lines) (best_in books (Some best')) =
+            ap (λ (b : rules.Best). each_pass lim (texts books) (p - (k + 1)) (without range) b) (sym (paid-is (next range) rest.count paid-best paid-is').0) ∙
+            ap (λ (m : List (List ℕ)). each_pass lim (texts books) (p - (k + 1)) m (best_in books (Some best'))) (sym w.lines) in
             record {
               ready = w.ready;
               area_long = w.area_long ∙ i.area_long;
               words_long = w.words_long ∙ i.words_long;
-              stands = w.stands;
+              stands = stands';
               within = omega arith;
-              going = going_as same (going_paid (next range) es paid-best (sym w.is) on);
+              going = going_as same (going_paid (next range) es paid-best paid-is' on);
             }
 
   pub pass_end : (x : Run) → p ≤ k → x ≡ run_of k (some left) → Ran note all budget r₀ r x
@@ -222,5 +229,5 @@ module _ {note : List ℕ} {scope : Scope} {class area₀ words₀ : List ℕ} {
       zero_left : p - k ≡ 0
       zero_left = omega (arith, l)
 
-      none_left : each_pass lim (texts books) (p - k) ls (best_in books best) ≡ []
-      none_left = ap (λ (n : ℕ). each_pass lim (texts books) n ls (best_in books best)) zero_left
+      none_left : each_pass lim (texts books) (p - k) ls (best_in books (Some best)) ≡ []
+      none_left = ap (λ (n : ℕ). each_pass lim (texts books) n ls (best_in books (Some best))) zero_left

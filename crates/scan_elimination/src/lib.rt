@@ -3,7 +3,7 @@
 // SPDX-License-Identifier: Apache-2.0), changed: the mode `Elimination`, with every scoring charged. Assumes nothing.
 #![tactic(auto)]
 
-ghost use Rattle.std.specs.Prelude.{◌≤◌, length};
+ghost use Rattle.std.specs.Prelude.{◌≤◌, length, Some};
 ghost use Rattle.rules.specs.Sizes.{text_most};
 ghost use Rattle.rules.specs.Scan as rules;
 ghost use Rattle.preproc_table.specs.Entries.{lines_at};
@@ -12,15 +12,14 @@ ghost use Rattle.detection_shelf.specs.Shelves.{shelf, texts, Stands};
 ghost use Rattle.scan_ranges.specs.Run.{Scanning, BestWithout, paid_numbers, Ran};
 ghost use Rattle.scan_elimination.specs.Ended.{Eliminated};
 
-use detect::{Chosen, best_text};
-use detect_best::{Best, no_best};
-use license_bounds::Ranged;
-use license_charge::Scorings;
+use detect::best_text;
+use detect_best::Best;
+use license_charge::{Charged, Scorings};
 use preproc_table::blank_lines;
 use rules::Bounds;
 use scan_limits::{below, stops};
 use scan_places::{first_mark, put_record};
-use scan_ranges::{Run, Scope, ended, out_at, text_bounds, whole_view};
+use scan_ranges::{Run, Scope, text_bounds, whole_view};
 
 // The lines in range are made blank; the best text of the whole note, as it then stands.
 fn best_without<'a>(
@@ -32,7 +31,7 @@ fn best_without<'a>(
     second: &'a [u8],
     range: Bounds,
     budget: Scorings,
-) -> Chosen
+) -> Option<Charged<Option<Best>>>
     requires scanning { Scanning scope class.now area.old words.old (shelf book.now second.now) }
     requires first_le_after { (range.first ≤ range.after) × (range.after ≤ scope.lines) }
     ensures { BestWithout scope class.now area.old words.old area.new words.new (shelf book.now second.now) range budget.count result }
@@ -71,41 +70,39 @@ pub fn each_pass<'a>(
 ) -> Run
     requires scanning { Scanning scope class.now area.old words.old (shelf book.now second.now) }
     requires stands { Stands (shelf book.now second.now) first.text }
-    requires first_in_bounds { length (paid_numbers note.now budget.count (rules.each_pass scope.limits (texts (shelf book.now second.now)) p (lines_at area.old words.old scope.lines) (best_in (shelf book.now second.now) first))) ≤ length results.old }
+    requires first_in_bounds { length (paid_numbers note.now budget.count (rules.each_pass scope.limits (texts (shelf book.now second.now)) p (lines_at area.old words.old scope.lines) (best_in (shelf book.now second.now) (Some first)))) ≤ length results.old }
     requires note_len_bound { length note.now ≤ text_most }
-    ensures { Ran note.now (rules.each_pass scope.limits (texts (shelf book.now second.now)) p (lines_at area.old words.old scope.lines) (best_in (shelf book.now second.now) first)) budget.count results.old results.new result }
+    ensures { Ran note.now (rules.each_pass scope.limits (texts (shelf book.now second.now)) p (lines_at area.old words.old scope.lines) (best_in (shelf book.now second.now) (Some first))) budget.count results.old results.new result }
 {
     let v = whole_view(scope.lines);
     let mut best = first;
     let mut left = budget;
-    let mut k: u32 = 0;
-    while k < p as u32 {
+    for k in 0..u32::from(p) {
         let text = best.text;
-        let Ranged::Found(range, paid) = text_bounds(
-            class, area, words, scope, v, book, second, text, left,
-        ) else {
-            return out_at(k);
+        let Some(c) = text_bounds(class, area, words, scope, v, book, second, text, left) else {
+            return Run::out_at(k);
         };
+        let range = c.value;
         if below(scope.limits, range) {
-            return ended(k, paid);
+            return Run::ended(k, c.left);
         }
         put_record(note, first_mark(), results, k, text.number, range);
-        k += 1;
-        let Chosen::Found(next, rest) = best_without(
-            class, area, words, scope, book, second, range, paid,
-        ) else {
-            return out_at(k);
+        let Some(b) = best_without(class, area, words, scope, book, second, range, c.left) else {
+            return Run::out_at(k + 1);
+        };
+        let Some(next) = b.value else {
+            return Run::ended(k + 1, b.left);
         };
         best = next;
-        left = rest;
+        left = b.left;
     }
-    ended(k, left)
+    Run::ended(u32::from(p), left)
 }
 
 // The best text of a note, and how the passes over it ended.
 #[derive(Clone, Copy)]
 pub struct Outcome {
-    pub best: Best,
+    pub best: Option<Best>,
     pub run: Run,
 }
 
@@ -132,28 +129,32 @@ pub fn elimination<'a>(
     let lines = scope.lines;
     let texts = scope.texts;
     let v = whole_view(lines);
-    let Chosen::Found(best, left) = best_text(
-        class, area, words, n, lines, v, book, second, texts, budget,
-    ) else {
+    let Some(c) = best_text(class, area, words, n, lines, v, book, second, texts, budget) else {
         return Outcome {
-            best: no_best(),
-            run: out_at(0),
+            best: None,
+            run: Run::out_at(0),
+        };
+    };
+    let Some(best) = c.value else {
+        return Outcome {
+            best: None,
+            run: Run::ended(0, c.left),
         };
     };
     if stops(scope.limits, best) {
         return Outcome {
-            best,
-            run: ended(0, left),
+            best: c.value,
+            run: Run::ended(0, c.left),
         };
     }
     if !optimize {
         return Outcome {
-            best,
-            run: ended(0, left),
+            best: c.value,
+            run: Run::ended(0, c.left),
         };
     }
     let run = each_pass(
-        note, class, area, words, scope, book, second, p, best, results, left,
+        note, class, area, words, scope, book, second, p, best, results, c.left,
     );
-    Outcome { best, run }
+    Outcome { best: c.value, run }
 }

@@ -16,14 +16,13 @@ use Rattle.rules.specs.Scan.{Event, top_down, elimination, events}
 use Rattle.rules.specs.Refusal.{step_zero}
 use Rattle.rules.proofs.VerdictLaws.{verdict-prefix, down_verdict}
 use Rattle.detection_shelf.specs.Shelves.{Shelf}
-use Rattle.detect_best.specs.declared.Best.{Best}
-use Rattle.detect.proofs.BestLaws.{no_best_yet, none_is}
+use Rattle.std.proofs.Common.{None}
 use Rattle.detect_best.specs.Beats.{best_in}
+use Rattle.scan_ranges.specs.declared.Run.{Run}
 use Rattle.license_charge.specs.declared.Scorings.{Scorings}
 use Rattle.scan_elimination.specs.declared.Outcome.{Outcome}
 use Rattle.scan_ranges.specs.Run.{Ran}
-use Rattle.scan_elimination.specs.Ended.{NameFits, Eliminated}
-use Rattle.scan_elimination.proofs.EndLaws.{none-name}
+use Rattle.scan_elimination.specs.Ended.{Eliminated}
 
 -- ---- by mode
 module _ (lim : Limits) (mode : Mode) (ss : List Stored) (ls : List (List ℕ)) where
@@ -50,10 +49,11 @@ pub eliminated_of : {note : List ℕ} {es : List Event} {left : Scorings} {budge
 eliminated_of {note} {es} {left} {budget} {books} {r₀} {r} {x} e h = subst (λ (s : Scorings). Eliminated note es s.count books r₀ r x) e h
 
 -- top-down as a whole
-pub down_ended : {note : List ℕ} (lim : Limits) (s : ℕ) (ss : List Stored) (ls : List (List ℕ)) {budget : ℕ} {books : Shelf} {r₀ r : List ℕ} (x : Outcome) → x.best ≡ no_best_yet →
-    Ran note (top_down lim s ss ls) budget r₀ r x.run → Eliminated note (top_down lim s ss ls) budget books r₀ r x
-down_ended lim s ss ls {budget} {books} {r₀} {r} x b a = record {
-  best = ap (best_in books) b ∙ none_is books ∙ sym (verdict-prefix (λ b. b ≡ no_best) refl budget (top_down lim s ss ls) (down_verdict lim s ss ls));
-  name = subst (λ (y : Best). NameFits books y.text) (sym b) (none-name books);
+pub down_ended : {note : List ℕ} (lim : Limits) (s : ℕ) (ss : List Stored) (ls : List (List ℕ)) {budget : ℕ} {books : Shelf} {r₀ r : List ℕ} {run : Run} →
+    Ran note (top_down lim s ss ls) budget r₀ r run → Eliminated note (top_down lim s ss ls) budget books r₀ r (record { best = None; run = run })
+unfolding best_in
+down_ended lim s ss ls {budget} a = record {
+  best = sym (verdict-prefix (λ b. b ≡ no_best) refl budget (top_down lim s ss ls) (down_verdict lim s ss ls));
+  name = tt;
   ran = a;
 }

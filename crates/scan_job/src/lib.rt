@@ -3,26 +3,27 @@
 // SPDX-License-Identifier: Apache-2.0), changed: `Scanner::scan`, with refusals and a budget. Assumes nothing.
 #![tactic(auto)]
 
-ghost use Rattle.std.specs.Prelude.{◌≡◌, false, ◌≤◌, length, [], ◌∷◌};
+ghost use Rattle.std.specs.Prelude.{◌≡◌, false, ◌≤◌, length, [], ◌∷◌, Ok, option_copied};
 ghost use Rattle.rules.specs.Sizes.{text_most};
 ghost use Rattle.rules.specs.Scan.{events};
-ghost use Rattle.detection_shelf.specs.Shelves.{shelf, texts, books_of, Lends, CountsOf};
+ghost use Rattle.detection_shelf.specs.Shelves.{shelf, texts, CountsOf};
+ghost use Rattle.refusals.specs.Lent.{books_lent};
 ghost use Rattle.refusals.specs.Admits.{ScanThrough};
 ghost use Rattle.rules.specs.Refusal.{step_zero};
 ghost use Rattle.rules.specs.Jobs.{lent, ScanDone};
+ghost use Rattle.rules.specs.Told.{scanned_told};
 ghost use Rattle.preproc_table.specs.Entries.{lines_at};
 ghost use Rattle.scan_ranges.specs.Run.{Scanning, paid_numbers};
 ghost use Rattle.scan_elimination.specs.Ended.{Eliminated};
 ghost use Rattle.scan_answer.specs.Answers.{Scans};
 
-use detect_best::no_best;
 use detection_edition::edition_of;
 use detection_shelf::Counts;
-use license_charge::{Scorings, scorings_of};
+use license_charge::Scorings;
 use license_notes::{clear, lay};
-use refusals::admit_scan;
-use rules::{Limits, Mode, Scanned};
-use scan_answer::{answer, refused};
+use refusals::{admit_scan, second_bytes};
+use rules::{Areas, Findings, Limits, Mode, Refusal};
+use scan_answer::answer;
 use scan_elimination::{Outcome, elimination};
 use scan_ranges::Scope;
 use scan_top_down::top_down;
@@ -57,10 +58,7 @@ fn scan_mode<'a>(
             let run = top_down(
                 note, class, area, words, scope, step, book, second, results, budget,
             );
-            Outcome {
-                best: no_best(),
-                run,
-            }
+            Outcome { best: None, run }
         }
     }
 }
@@ -77,10 +75,10 @@ pub fn scan_laid<'a>(
     area: &mut [u8],
     words: &mut [u32],
     results: &mut [u32],
-) -> Scanned
+) -> Findings
     requires scan_through { ScanThrough text.now (shelf book.now second.now) limits mode (lent area.old words.old) (length results.old) }
     requires counts_of { CountsOf (shelf book.now second.now) counts }
-    ensures { Scans text.now (shelf book.now second.now) limits mode budget results.old results.new result }
+    ensures { Scans text.now (shelf book.now second.now) limits mode budget results.old results.new (scanned_told (Ok result)) }
 {
     let class = class_table(edition_of(book));
     let n = text.len();
@@ -101,49 +99,46 @@ pub fn scan_laid<'a>(
         book,
         second,
         results,
-        scorings_of(budget),
+        Scorings::of(budget),
     );
     answer(book, second, limits, outcome, budget)
 }
 
-// Over lent books, two or one: refusals 1 to 7, 10, 12 and 15, or the scan. The work areas are zero after 0 and 12, and as they were after any other; the
+// Over lent books, one or two: refusals 1 to 7, 10, 12 and 15, or the scan. The work areas are zero after 0 and 12, and as they were after any other; the
 // results change only where a record is paid.
 pub fn scan_lent<'a>(
     text: &[u8],
     book: &'a [u8],
-    second: &'a [u8],
-    two: bool,
+    second: Option<&'a [u8]>,
     limits: Limits,
     mode: Mode,
     budget: u64,
     area: &mut [u8],
     words: &mut [u32],
     results: &mut [u32],
-) -> Scanned
-    requires { Lends (shelf book.now second.now) two }
-    ensures { ScanDone text.now (books_of (shelf book.now second.now) two) limits mode budget area.old area.new words.old words.new results.old results.new result }
+) -> Result<Findings, Refusal>
+    ensures { ScanDone text.now (books_lent book.now (option_copied second.entry)) limits mode budget area.old area.new words.old words.new results.old results.new (scanned_told result) }
 {
-    let admitted = admit_scan(
+    let areas = Areas {
+        bytes: area.len(),
+        words: words.len(),
+    };
+    let admitted = admit_scan(text, book, second, limits, mode, areas, results.len())?;
+    let beside = second_bytes(second);
+    let found = scan_laid(
         text,
         book,
-        second,
-        two,
+        beside,
         limits,
         mode,
-        area.len(),
-        words.len(),
-        results.len(),
-    );
-    let refusal = admitted.refusal;
-    if refusal != 0 {
-        return refused(refusal);
-    }
-    let counts = admitted.texts;
-    let scanned = scan_laid(
-        text, book, second, limits, mode, counts, budget, area, words, results,
+        admitted.texts,
+        budget,
+        area,
+        words,
+        results,
     );
     clear(area, words);
-    scanned
+    Ok(found)
 }
 
 // Two books, whose texts count on from the first into the second. The name's bytes are `detection_part::name_part` of both and the answer's part.
@@ -157,11 +152,19 @@ pub fn scan_both<'a>(
     area: &mut [u8],
     words: &mut [u32],
     results: &mut [u32],
-) -> Scanned
-    ensures { ScanDone text.now (book.now ∷ second.now ∷ []) limits mode budget area.old area.new words.old words.new results.old results.new result }
+) -> Result<Findings, Refusal>
+    ensures { ScanDone text.now (book.now ∷ second.now ∷ []) limits mode budget area.old area.new words.old words.new results.old results.new (scanned_told result) }
 {
     scan_lent(
-        text, book, second, true, limits, mode, budget, area, words, results,
+        text,
+        book,
+        Some(second),
+        limits,
+        mode,
+        budget,
+        area,
+        words,
+        results,
     )
 }
 
@@ -175,19 +178,8 @@ pub fn scan(
     area: &mut [u8],
     words: &mut [u32],
     results: &mut [u32],
-) -> Scanned
-    ensures { ScanDone text.now (book.now ∷ []) limits mode budget area.old area.new words.old words.new results.old results.new result }
+) -> Result<Findings, Refusal>
+    ensures { ScanDone text.now (book.now ∷ []) limits mode budget area.old area.new words.old words.new results.old results.new (scanned_told result) }
 {
-    scan_lent(
-        text,
-        book,
-        &book[..0],
-        false,
-        limits,
-        mode,
-        budget,
-        area,
-        words,
-        results,
-    )
+    scan_lent(text, book, None, limits, mode, budget, area, words, results)
 }

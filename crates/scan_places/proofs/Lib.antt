@@ -1,2 +1,1 @@
 pub mod WalkLaws
-pub mod PutLaws

@@ -35,10 +35,11 @@ pub fn first_mark() -> Mark
 }
 
 // How many lines a byte ends.
+#[tactic(auto, unfolding(rules::specs::Bytes::newline))]
 fn newlines(b: u8) -> usize
     ensures { result ≡ cond (newline b) 1 0 }
 {
-    if b == 10 { 1 } else { 0 }
+    usize::from(b == 10)
 }
 
 // The byte where the k-th line behind `at` starts, and the text's end where there are fewer. Each byte on the way is read once.
@@ -46,16 +47,14 @@ fn line_on(text: &[u8], at: usize, k: usize) -> usize
     requires { at ≤ length text.now }
     ensures { result ≡ at + line_start k (drop at text.now) }
 {
-    let mut place = at;
     let mut left = k;
-    while place < text.len() {
+    for place in at..text.len() {
         if left == 0 {
             return place;
         }
         left -= newlines(text[place]);
-        place += 1;
     }
-    place
+    text.len()
 }
 
 // From a line before the range, or its first: an empty range is where its line starts, any other ends before the newline of its last line.
@@ -87,16 +86,12 @@ pub fn past_gap(text: &[u8], range: Bounds, end: usize) -> usize
     line_on(text, end, 2)
 }
 
-fn put_six(results: &mut [u32], at: usize, a: u32, b: u32, c: u32, d: u32, e: u32, f: u32)
+// A record's numbers go to their place.
+fn put_six(results: &mut [u32], at: usize, numbers: [u32; RECORD_WIDTH])
     requires { at + record_width ≤ length results.old }
-    ensures { results.new ≡ take at results.old ++ (a ∷ b ∷ c ∷ d ∷ e ∷ f ∷ []) ++ drop (at + record_width) results.old }
+    ensures { results.new ≡ take at results.old ++ numbers ++ drop (at + record_width) results.old }
 {
-    results[at] = a;
-    results[at + 1] = b;
-    results[at + 2] = c;
-    results[at + 3] = d;
-    results[at + 4] = e;
-    results[at + 5] = f;
+    results[at..at + RECORD_WIDTH].copy_from_slice(&numbers);
 }
 
 // Record k: the stored number, the first line, the line after the last, the score's bits, and where these lines start and end, from a line on
@@ -123,6 +118,6 @@ pub fn put_record(
     let start = places.start as u32;
     let end = places.end as u32;
     let at = RECORD_WIDTH * k as usize;
-    put_six(results, at, number, first, after, bits, start, end);
+    put_six(results, at, [number, first, after, bits, start, end]);
     places.end
 }

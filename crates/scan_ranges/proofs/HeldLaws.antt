@@ -1,12 +1,10 @@
--- What both scans conclude: from the answers of bounds what was paid, and from areas that still hold the same lines that a scan can go on.
---     range-out, range-found            the two answers
+-- What both scans conclude: from areas that still hold the same lines that a scan can go on.
 --     fits_of                           bounds lie in their view and score from 0.0 to 1.0
 --     held_none, held_more              the same lines, once and again
 --     scanning_held                     a scan goes on
 -- Assumes nothing.
-use mathlib.Core.Path.{◌≡◌, refl, sym, ap, ◌∙◌, subst}
+use mathlib.Core.Path.{◌≡◌, refl, ◌∙◌, subst}
 use mathlib.Core.List.{List}
-use mathlib.Core.Option.{Option, none, some}
 use Prim.Native.Nat.{ℕ, ◌≤◌}
 use native.Mathlib.Omega.{arith}
 use Rattle.rules.specs.declared.Bounds.{Bounds}
@@ -14,33 +12,12 @@ use Rattle.rules.specs.declared.View.{View}
 use Rattle.rules.specs.Search.{bounds}
 use Rattle.rules.proofs.DownLaws.{bounds_in}
 use Rattle.preproc_table.specs.Entries.{lines_at}
-use Rattle.license_bounds.specs.declared.Ranged.TheVariants as ranged
-use Rattle.license_charge.specs.declared.Scorings.{Scorings}
-use Rattle.license_charge.specs.Pay.{Paid}
-use Rattle.license_bounds.specs.Found.{ranged_of}
 use Rattle.license_notes.specs.Laid.{Laid, Held}
 use Rattle.detection_shelf.specs.declared.Shelved.{Shelved}
 use Rattle.detection_shelf.specs.Shelves.{Shelf, text_in, Stands}
 use Rattle.scan_ranges.specs.declared.Scope.{Scope}
 use Rattle.scan_ranges.specs.Run.{Scanning, RangeFits}
 use Rattle.scan_ranges.proofs.ValueLaws.{bounds-unit, stands-sound}
-use Rattle.detect.specs.declared.Chosen.{Chosen}
-use Rattle.detect.specs.Bests.{BestDone}
-
--- ---- what the answers of bounds say of what was paid
-pub range-out : (o : Option (Paid Bounds)) → ranged.Out ≡ ranged_of o → o ≡ none
-unfolding ranged_of
-range-out none e = refl
-range-out (some p) e = absurd (let z : ◌≡◌ {A = ℕ} 0 1 = cc in omega arith)
-
-pub range-found : (o : Option (Paid Bounds)) (x : Bounds) (left : Scorings) → ranged.Found x left ≡ ranged_of o → o ≡ some (record { value = x; left = left.count })
-unfolding ranged_of
-range-found none x left e = absurd (let z : ◌≡◌ {A = ℕ} 0 1 = cc in omega arith)
-range-found (some p) x left e =
-    let v : p.value ≡ x = cc in
-    let s : ◌≡◌ {A = Scorings} (record { count = p.left }) left = cc in
-    let l = ap (λ (y : Scorings). y.count) s in
-    simp (sym v, sym l)
 
 -- ---- bounds lie in their view, and score from 0.0 to 1.0
 pub fits_of : {scope : Scope} {class area words : List ℕ} {books : Shelf} → Scanning scope class area words books → (v : View) (t : Shelved) → v.start ≤ v.end → v.end ≤ scope.lines →
@@ -76,9 +53,3 @@ held_more a b = record {
   words_long = b.words_long ∙ a.words_long;
   same = b.same ∙ a.same;
 }
-
--- ---- answers that are known to be others
-pub done_as : {n lines : ℕ} {area₀ words₀ area words : List ℕ} {v : View} {books : Shelf} {budget : ℕ} {r x : Chosen} → r ≡ x →
-    BestDone n lines area₀ words₀ area words v books budget r → BestDone n lines area₀ words₀ area words v books budget x
-done_as {n} {lines} {area₀} {words₀} {area} {words} {v} {books} {budget} {r} {x} e d =
-    subst (λ (y : Chosen). BestDone n lines area₀ words₀ area words v books budget y) e d

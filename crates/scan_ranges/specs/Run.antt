@@ -1,7 +1,8 @@
 -- A list of events under what is left of a budget: what it records, and what is then left, if the budget pays all. What a scan works on,
 -- and how it ends.
 -- Assumes nothing.
-use Rattle.std.specs.Prelude.{◌≡◌, ℕ, ◌-◌, ◌*◌, ◌≤◌, ◌<◌, true, false, cond, List, T, leb, length}
+use Rattle.std.specs.Prelude.{◌≡◌, ℕ, ◌-◌, ◌*◌, ◌≤◌, ◌<◌, true, false, cond, List, T, leb, length, None, Some}
+use Rattle.std.specs.Prelude as prelude
 use Rattle.std.proofs.Math.Option.{Option, none, some}
 use Rattle.lists.specs.Wrote.{Wrote}
 use Rattle.rules.specs.declared.View.{View}
@@ -12,12 +13,11 @@ use Rattle.rules.specs.Scan.{Event, afford, scorings, records, numbers}
 use Rattle.rules.specs.Refusal.{unit}
 use Rattle.slices.specs.Classes.{Classes}
 use Rattle.preproc_table.specs.Entries.{lines_at}
-use Rattle.license_bounds.specs.declared.Ranged.{Ranged}
-use Rattle.license_charge.specs.Pay.{pay}
-use Rattle.license_bounds.specs.Found.{ranged_of}
+use Rattle.license_charge.specs.declared.Charged.{Charged}
+use Rattle.license_charge.specs.Pay.{pay, charged_of}
 use Rattle.license_notes.specs.Laid.{Laid, Held}
 use Rattle.detection_shelf.specs.declared.Shelved.{Shelved}
-use Rattle.detect.specs.declared.Chosen.{Chosen}
+use Rattle.detect_best.specs.declared.Best.{Best}
 use Rattle.detect.specs.Bests.{chosen_in, ChosenStands}
 use Rattle.detection_shelf.specs.Shelves.{Shelf, texts, CountsOf, text_in}
 use Rattle.scan_ranges.specs.declared.Scope.{Scope}
@@ -40,8 +40,8 @@ pub record Scanning (scope : Scope) (class area words : List ℕ) (books : Shelf
   pub some-text : 0 < length (texts books)
 
 -- the bounds of a view against a stored text, paid from the budget; the areas still hold the same lines
-pub record RangeDone (scope : Scope) (class area₀ words₀ area words : List ℕ) (v : View) (books : Shelf) (text : Shelved) (budget : ℕ) (r : Ranged) : Type 0 where
-  pub is : r ≡ ranged_of (pay (bounds (lines_at area₀ words₀ scope.lines) v (text_in books text)) budget)
+pub record RangeDone (scope : Scope) (class area₀ words₀ area words : List ℕ) (v : View) (books : Shelf) (text : Shelved) (budget : ℕ) (r : prelude.Option (Charged Bounds)) : Type 0 where
+  pub is : r ≡ charged_of (pay (bounds (lines_at area₀ words₀ scope.lines) v (text_in books text)) budget)
   pub held : Held scope.n scope.lines area₀ words₀ area words
 
 -- a range of the lines, with a score from 0.0 to 1.0
@@ -51,7 +51,7 @@ pub record RangeFits (lines : ℕ) (range : Bounds) : Type 0 where
   pub unit : T (unit range.value.score)
 
 -- the best of all lines, those in range made blank, paid from the budget; the areas hold these lines
-pub record BestWithout (scope : Scope) (class area₀ words₀ area words : List ℕ) (books : Shelf) (range : Bounds) (budget : ℕ) (r : Chosen) : Type 0 where
+pub record BestWithout (scope : Scope) (class area₀ words₀ area words : List ℕ) (books : Shelf) (range : Bounds) (budget : ℕ) (r : prelude.Option (Charged (prelude.Option Best))) : Type 0 where
   pub is :
       let rest = blank range.first range.after (lines_at area₀ words₀ scope.lines) in
       chosen_in books r ≡ pay (best (texts books) rest (whole rest)) budget
@@ -63,8 +63,8 @@ pub record BestWithout (scope : Scope) (class area₀ words₀ area words : List
 
 -- how a run with so many records ends
 unfoldable pub run_of : ℕ → Option ℕ → Run
-run_of k none = record { out = true; records = k; left = 0 }
-run_of k (some l) = record { out = false; records = k; left = l }
+run_of k none = record { records = k; left = None }
+run_of k (some l) = record { records = k; left = Some (record { count = l }) }
 
 -- x is how these events end under the budget; the results area holds their records, of the note t, and is otherwise as it was
 pub record Ran (t : List ℕ) (es : List Event) (budget : ℕ) (r₀ r : List ℕ) (x : Run) : Type 0 where

@@ -10,9 +10,9 @@ ghost use Rattle.detection_shelf.specs.Shelves.{shelf, Stands};
 ghost use Rattle.scan_ranges.specs.Run.{Scanning, RangeDone, run_of};
 
 use detection_shelf::{Counts, Shelved, body_of};
-use license_bounds::{Ranged, find_bounds};
-use license_charge::{Scorings, count_of};
-use rules::{Limits, View};
+use license_bounds::find_bounds;
+use license_charge::{Charged, Scorings};
+use rules::{Bounds, Limits, View};
 
 // What a scan works on: the note's bytes and lines, how many texts the books store, and the limits.
 #[derive(Clone, Copy)]
@@ -23,33 +23,34 @@ pub struct Scope {
     pub limits: Limits,
 }
 
-// How a scan ended: whether the budget was out, how many ranges are recorded, and the scorings left, 0 where it was out.
+// How a scan ended: how many ranges are recorded, and the scorings left, or none of this where the budget was out.
 #[derive(Clone, Copy)]
 pub struct Run {
-    pub out: bool,
     pub records: u32,
-    pub left: u64,
+    pub left: Option<Scorings>,
 }
 
-// The budget is out, with k ranges recorded.
-pub fn out_at(k: u32) -> Run
-    ensures { result ≡ run_of k none }
-{
-    Run {
-        out: true,
-        records: k,
-        left: 0,
+impl Run {
+    // The budget is out, with k ranges recorded.
+    #[tactic(auto, unfolding(crate::specs::Run::run_of))]
+    pub fn out_at(k: u32) -> Run
+        ensures { result ≡ run_of k none }
+    {
+        Run {
+            records: k,
+            left: None,
+        }
     }
-}
 
-// All is paid, with k ranges recorded.
-pub fn ended(k: u32, left: Scorings) -> Run
-    ensures { result ≡ run_of k (some left.count) }
-{
-    Run {
-        out: false,
-        records: k,
-        left: count_of(left),
+    // All is paid, with k ranges recorded.
+    #[tactic(auto, unfolding(crate::specs::Run::run_of))]
+    pub fn ended(k: u32, left: Scorings) -> Run
+        ensures { result ≡ run_of k (some left.count) }
+    {
+        Run {
+            records: k,
+            left: Some(left),
+        }
     }
 }
 
@@ -73,7 +74,7 @@ pub fn text_bounds<'a>(
     second: &'a [u8],
     text: Shelved,
     budget: Scorings,
-) -> Ranged
+) -> Option<Charged<Bounds>>
     requires scanning { Scanning scope class.now area.old words.old (shelf book.now second.now) }
     requires start_le_end { (v.start ≤ v.end) × (v.end ≤ scope.lines) }
     requires stands { Stands (shelf book.now second.now) text }

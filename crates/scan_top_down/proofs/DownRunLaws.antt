@@ -4,7 +4,7 @@
 --     Downing, rounds-first, rounds-found                       the rounds still to come, paid from what is left, are all paid from the budget
 --     rounds-out, rounds_nothing, rounds-end                    the ways out
 -- Assumes nothing.
-use mathlib.Core.Path.{◌≡◌, refl, sym, ap, ◌∙◌, subst}
+use mathlib.Core.Path.{◌≡◌, sym, ap, ◌∙◌, subst}
 use mathlib.Core.Bool.{Bool, true, false, cond}
 use mathlib.Core.List.{List, ◌∷◌, ◌++◌}
 use mathlib.Core.Option.{Option, none, some}
@@ -23,40 +23,44 @@ use Rattle.rules.proofs.DownLaws.{contained_in_lem, down_step}
 use Rattle.rules.proofs.PlaceLaws.{start_none}
 use Rattle.preproc_table.specs.Entries.{lines_at}
 use Rattle.preproc_table.proofs.EntryLaws.{lines-length}
-use Rattle.license_bounds.specs.declared.Ranged.{Ranged}
-use Rattle.license_bounds.specs.declared.Ranged.TheVariants as ranged
+use Rattle.std.specs.Prelude.{None, Some}
+use Rattle.std.specs.Prelude as prelude
+use Rattle.license_charge.specs.declared.Charged.{Charged}
 use Rattle.license_charge.specs.declared.Scorings.{Scorings}
 use Rattle.license_charge.specs.Pay.{Paid, pay}
 use Rattle.license_notes.specs.Laid.{Held}
-use Rattle.license_charge.proofs.PayLaws.{and_then, pay_bind, pay-done}
+use Rattle.license_charge.proofs.PayLaws.{and_then, pay_bind, pay-done, out_of, paid_of}
 use Rattle.detection_shelf.specs.declared.Shelved.{Shelved}
 use Rattle.detection_shelf.specs.Shelves.{Shelf, texts, text_in, Stands}
 use Rattle.scan_ranges.specs.declared.Run.{Run}
 use Rattle.scan_ranges.specs.declared.Scope.{Scope}
 use Rattle.scan_view.specs.declared.Latest.{Latest}
-use Rattle.scan_view.specs.declared.Latest.TheVariants as recent
-use Rattle.scan_view.specs.declared.Walked.{Walked}
-use Rattle.scan_view.specs.declared.Walked.TheVariants as walked
 use Rattle.scan_top_down.specs.declared.Contained.{Contained}
-use Rattle.scan_top_down.specs.declared.Contained.TheVariants as round
 use Rattle.scan_ranges.specs.Run.{Scanning, RangeDone, RangeFits, paid_numbers, run_of, Ran}
 use Rattle.scan_view.specs.Down.{latest_in, pair_in, LatestStands, Pairs}
 use Rattle.scan_top_down.specs.Contains.{contained_in, ContainedStands, Contains}
 use Rattle.scan_ranges.proofs.RunLaws.{paid-is}
-use Rattle.scan_ranges.proofs.HeldLaws.{range-out, range-found, fits_of, held_none, held_more, scanning_held}
+use Rattle.scan_ranges.proofs.HeldLaws.{fits_of, held_none, held_more, scanning_held}
 use Rattle.scan_ranges.proofs.GoingLaws.{Going, going_first, going_as, going_paid, going_out, going_room, going_found, going_end, six_of}
 use Rattle.scan_views.proofs.RoundLaws.{views_from}
 
 -- ---- the pair's bounds
 module _ {scope : Scope} {class area₀ words₀ : List ℕ} {books : Shelf} (s : Scanning scope class area₀ words₀ books) (budget : Scorings) where
-  abbrev pub settles : Latest → List Stored → List (List ℕ) → Made (Option Recorded)
+  abbrev pub settles : prelude.Option Latest → List Stored → List (List ℕ) → Made (Option Recorded)
   settles l ss ms = settled scope.limits ms (latest_in books l)
 
-  pub settle_none : (l : Latest) → l ≡ recent.Nothing → Contains scope area₀ words₀ area₀ words₀ books (λ ss ms. settles l ss ms) budget.count (round.Nothing budget)
+  pub settle_none : (l : prelude.Option Latest) → l ≡ None →
+      Contains scope area₀ words₀ area₀ words₀ books (λ ss ms. settles l ss ms) budget.count (Some (record { value = None; left = budget }))
   unfolding settled latest_in contained_in ContainedStands
   settle_none l e = rw e (record { is = sym (pay-done none budget.count); stands = tt; held = held_none s.laid })
 
-  module _ (l : Latest) (v : View) (t : Shelved) (e : l ≡ recent.Pair v t) where
+  module _ (l : prelude.Option Latest) (pair : Latest) (e : l ≡ Some pair) where
+    abbrev v : View
+    v = pair.view
+
+    abbrev t : Shelved
+    t = pair.text
+
     abbrev ls : List (List ℕ)
     ls = lines_at area₀ words₀ scope.lines
 
@@ -65,26 +69,32 @@ module _ {scope : Scope} {class area₀ words₀ : List ℕ} {books : Shelf} (s 
 
     pair-paid : pay (settles l (texts books) ls) budget.count ≡ and_then (pay (bounds ls v (text_in books t)) budget.count) (λ r n. pay (done (kept r)) n)
     unfolding settled latest_in
-    pair-paid = ap (λ (k : Latest). pay (settles k (texts books) ls) budget.count) e ∙ pay_bind (bounds ls v (text_in books t)) (λ r. done (kept r)) budget.count
+    pair-paid = ap (λ (k : prelude.Option Latest). pay (settles k (texts books) ls) budget.count) e ∙ pay_bind (bounds ls v (text_in books t)) (λ r. done (kept r)) budget.count
 
-    pub settle_out : {area words : List ℕ} → RangeDone scope class area₀ words₀ area words v books t budget.count ranged.Out →
-        Contains scope area₀ words₀ area words books (λ ss ms. settles l ss ms) budget.count round.Out
+    pub settle_out : {area words : List ℕ} → RangeDone scope class area₀ words₀ area words v books t budget.count None →
+        Contains scope area₀ words₀ area words books (λ ss ms. settles l ss ms) budget.count None
     unfolding contained_in ContainedStands and_then
     settle_out d = record {
-      is = sym (pair-paid ∙ ap (λ (o : Option (Paid Bounds)). and_then o (λ r n. pay (done (kept r)) n)) (range-out (pay (bounds ls v (text_in books t)) budget.count) d.is));
+      is = sym (pair-paid ∙ ap (λ (o : Option (Paid Bounds)). and_then o (λ r n. pay (done (kept r)) n)) (out_of (pay (bounds ls v (text_in books t)) budget.count) d.is));
       stands = tt;
       held = d.held;
     }
 
-    module _ {area words : List ℕ} (range : Bounds) (left : Scorings) (d : RangeDone scope class area₀ words₀ area words v books t budget.count (ranged.Found range left)) where
+    module _ {area words : List ℕ} (r : Charged Bounds) (d : RangeDone scope class area₀ words₀ area words v books t budget.count (Some r)) where
+      abbrev range : Bounds
+      range = r.value
+
+      abbrev left : Scorings
+      left = r.left
+
       range-paid : pay (bounds ls v (text_in books t)) budget.count ≡ some (record { value = range; left = left.count })
-      range-paid = range-found (pay (bounds ls v (text_in books t)) budget.count) range left d.is
+      range-paid = paid_of (pay (bounds ls v (text_in books t)) budget.count) r d.is
 
       kept-paid : pay (settles l (texts books) ls) budget.count ≡ pay (done (kept range)) left.count
       unfolding and_then
       kept-paid = pair-paid ∙ ap (λ (o : Option (Paid Bounds)). and_then o (λ r n. pay (done (kept r)) n)) range-paid
 
-      pub settle_below : below scope.limits range ≡ true → Contains scope area₀ words₀ area words books (λ ss ms. settles l ss ms) budget.count (round.Nothing left)
+      pub settle_below : below scope.limits range ≡ true → Contains scope area₀ words₀ area words books (λ ss ms. settles l ss ms) budget.count (Some (record { value = None; left = left }))
       unfolding contained_in ContainedStands
       settle_below b = record {
         is = sym (kept-paid ∙ ap (λ (q : Bool). pay (done (cond q none (some (record { text = text_in books t; range = range })))) left.count) b ∙ pay-done none left.count);
@@ -93,7 +103,7 @@ module _ {scope : Scope} {class area₀ words₀ : List ℕ} {books : Shelf} (s 
       }
 
       pub settle_found : below scope.limits range ≡ false → LatestStands books scope.lines l →
-          Contains scope area₀ words₀ area words books (λ ss ms. settles l ss ms) budget.count (round.Found t range left)
+          Contains scope area₀ words₀ area words books (λ ss ms. settles l ss ms) budget.count (Some (record { value = Some (record { text = t; range = range }); left = left }))
       unfolding contained_in ContainedStands LatestStands
       settle_found b h = record {
         is = sym (kept-paid ∙ ap (λ (q : Bool). pay (done (cond q none (some (record { text = text_in books t; range = range })))) left.count) b ∙
@@ -124,8 +134,8 @@ module _ (scope : Scope) (area₀ words₀ : List ℕ) (books : Shelf) (c step b
       pay_bind (seeks (texts books) lines_of) (λ p. settled scope.limits lines_of p) budget
 
   module _ {area₁ words₁ : List ℕ} where
-    pub contains-out : Pairs scope area₀ words₀ area₁ words₁ books (λ ss ms. seeks ss ms) budget walked.Out →
-        Contains scope area₀ words₀ area₁ words₁ books (λ ss ms. contains ss ms) budget round.Out
+    pub contains-out : Pairs scope area₀ words₀ area₁ words₁ books (λ ss ms. seeks ss ms) budget None →
+        Contains scope area₀ words₀ area₁ words₁ books (λ ss ms. contains ss ms) budget None
     unfolding pair_in contained_in ContainedStands and_then
     contains-out w = record {
       is = sym (round_paid ∙ ap (λ (o : Option (Paid (Option Pair))). and_then o (λ p n. pay (settled scope.limits lines_of p) n)) (sym w.is));
@@ -133,47 +143,18 @@ module _ (scope : Scope) (area₀ words₀ : List ℕ) (books : Shelf) (c step b
       held = w.held;
     }
 
-    -- the walk came to l, and then it was settled
-    settle_after : {area words : List ℕ} {x : Walked} (l : Latest) {left : ℕ} {r : Contained} → pair_in books x ≡ some (record { value = latest_in books l; left = left }) →
-        Pairs scope area₀ words₀ area₁ words₁ books (λ ss ms. seeks ss ms) budget x →
-        Contains scope area₁ words₁ area words books (λ ss ms. settled scope.limits ms (latest_in books l)) left r →
+    -- the walk came to a pair or none, and then it was settled
+    pub contains-settled : {area words : List ℕ} (l : Charged (prelude.Option Latest)) {r : prelude.Option (Charged (prelude.Option Contained))} →
+        Pairs scope area₀ words₀ area₁ words₁ books (λ ss ms. seeks ss ms) budget (Some l) →
+        Contains scope area₁ words₁ area words books (λ ss ms. settled scope.limits ms (latest_in books l.value)) l.left.count r →
         Contains scope area₀ words₀ area words books (λ ss ms. contains ss ms) budget r
-    unfolding and_then
-    settle_after l {left = left} e w d = record {
-      is = d.is ∙ ap (λ (ms : List (List ℕ)). pay (settled scope.limits ms (latest_in books l)) left) w.held.same ∙
-          sym (round_paid ∙ ap (λ (o : Option (Paid (Option Pair))). and_then o (λ p n. pay (settled scope.limits lines_of p) n)) (sym w.is ∙ e));
+    unfolding pair_in and_then
+    contains-settled l w d = record {
+      is = d.is ∙ ap (λ (ms : List (List ℕ)). pay (settled scope.limits ms (latest_in books l.value)) l.left.count) w.held.same ∙
+          sym (round_paid ∙ ap (λ (o : Option (Paid (Option Pair))). and_then o (λ p n. pay (settled scope.limits lines_of p) n)) (sym w.is));
       stands = d.stands;
       held = held_more w.held d.held;
     }
-
-    module _ {area words : List ℕ} {l : Latest} {left : Scorings} {r : Contained} where
-      pub contains-on : Pairs scope area₀ words₀ area₁ words₁ books (λ ss ms. seeks ss ms) budget (walked.On l left) →
-          Contains scope area₁ words₁ area words books (λ ss ms. settled scope.limits ms (latest_in books l)) left.count r →
-          Contains scope area₀ words₀ area words books (λ ss ms. contains ss ms) budget r
-      unfolding pair_in
-      contains-on w d = settle_after l refl w d
-
-      pub contains-over : Pairs scope area₀ words₀ area₁ words₁ books (λ ss ms. seeks ss ms) budget (walked.Over l left) →
-          Contains scope area₁ words₁ area words books (λ ss ms. settled scope.limits ms (latest_in books l)) left.count r →
-          Contains scope area₀ words₀ area words books (λ ss ms. contains ss ms) budget r
-      unfolding pair_in
-      contains-over w d = settle_after l refl w d
-
--- ---- answers that are known to be others
-pub range_as : {scope : Scope} {class area₀ words₀ area words : List ℕ} {v : View} {books : Shelf} {t : Shelved} {budget : ℕ} {r x : Ranged} → r ≡ x →
-    RangeDone scope class area₀ words₀ area words v books t budget r → RangeDone scope class area₀ words₀ area words v books t budget x
-range_as {scope} {class} {area₀} {words₀} {area} {words} {v} {books} {t} {budget} {r} {x} e d =
-    subst (λ (y : Ranged). RangeDone scope class area₀ words₀ area words v books t budget y) e d
-
-pub pairs_as : {scope : Scope} {area₀ words₀ area words : List ℕ} {books : Shelf} {run : List Stored → List (List ℕ) → Made (Option Pair)} {budget : ℕ} {r x : Walked} → r ≡ x →
-    Pairs scope area₀ words₀ area words books run budget r → Pairs scope area₀ words₀ area words books run budget x
-pairs_as {scope} {area₀} {words₀} {area} {words} {books} {run} {budget} {r} {x} e d =
-    subst (λ (y : Walked). Pairs scope area₀ words₀ area words books run budget y) e d
-
-pub contains_as : {scope : Scope} {area₀ words₀ area words : List ℕ} {books : Shelf} {run : List Stored → List (List ℕ) → Made (Option Recorded)} {budget : ℕ} {r x : Contained} → r ≡ x →
-    Contains scope area₀ words₀ area words books run budget r → Contains scope area₀ words₀ area words books run budget x
-contains_as {scope} {area₀} {words₀} {area} {words} {books} {run} {budget} {r} {x} e d =
-    subst (λ (y : Contained). Contains scope area₀ words₀ area words books run budget y) e d
 
 -- ---- the rounds
 pub record Downing (note : List ℕ) (scope : Scope) (class area₀ words₀ : List ℕ) (books : Shelf) (r₀ : List ℕ) (step budget : ℕ) (area words r : List ℕ) (left c at k : ℕ) : Type 0 where
@@ -222,12 +203,12 @@ module _ {note : List ℕ} {scope : Scope} {class area₀ words₀ : List ℕ} {
   down_split h = down_step scope.limits step (texts books) all_lines p c ∙ simp (lt-ltb c (length all_lines) (omega (arith, many)))
 
   -- a round, over the areas as they stand
-  round_is : {area' words' : List ℕ} {x : Contained} → Contains scope area words area' words' books (λ ss ms. rules.contained scope.limits step ss ms c) left x →
+  round_is : {area' words' : List ℕ} {x : prelude.Option (Charged (prelude.Option Contained))} → Contains scope area words area' words' books (λ ss ms. rules.contained scope.limits step ss ms c) left x →
       contained_in books x ≡ pay made left
   round_is d = d.is ∙ ap (λ (ms : List (List ℕ)). pay (rules.contained scope.limits step (texts books) ms c) left) i.held.same
 
   module _ (h : c < scope.lines) where
-    pub rounds-out : {area' words' : List ℕ} (x : Run) → Contains scope area words area' words' books (λ ss ms. rules.contained scope.limits step ss ms c) left round.Out →
+    pub rounds-out : {area' words' : List ℕ} (x : Run) → Contains scope area words area' words' books (λ ss ms. rules.contained scope.limits step ss ms c) left None →
         x ≡ run_of k none → Ran note whole budget r₀ r x
     unfolding contained_in
     rounds-out x d q = going_out made (and_on (λ a. on a) made.value) x (sym (round_is d)) q (going_as (down_split h) i.going)
@@ -238,47 +219,47 @@ module _ {note : List ℕ} {scope : Scope} {class area₀ words₀ : List ℕ} {
         going_paid made (and_on (λ a. on a) o) (record { value = o; left = rest }) e
         (going_as (down_split h ∙ ap (λ (q : Option Recorded). after made.list (and_on (λ a. on a) q)) (sym (paid-is made left (record { value = o; left = rest }) e).0)) i.going)
 
-    pub rounds_nothing : {area' words' : List ℕ} (x : Run) (rest : Scorings) → Contains scope area words area' words' books (λ ss ms. rules.contained scope.limits step ss ms c) left (round.Nothing rest) →
-        x ≡ run_of k (some rest.count) → Ran note whole budget r₀ r x
+    pub rounds_nothing : {area' words' : List ℕ} (x : Run) (w : Charged (prelude.Option Contained)) → w.value ≡ None →
+        Contains scope area words area' words' books (λ ss ms. rules.contained scope.limits step ss ms c) left (Some w) → x ≡ run_of k (some w.left.count) → Ran note whole budget r₀ r x
     unfolding contained_in and_on
-    rounds_nothing x rest d q = going_end x q (paid-past none rest.count (sym (round_is d)))
+    rounds_nothing x w z d q = going_end x q (paid-past none w.left.count (rw z at (sym (round_is d))))
 
-    module _ {area' words' : List ℕ} (t : Shelved) (range : Bounds) (rest : Scorings)
-        (d : Contains scope area words area' words' books (λ ss ms. rules.contained scope.limits step ss ms c) left (round.Found t range rest)) where
+    module _ {area' words' : List ℕ} (w : Charged (prelude.Option Contained)) (x : Contained) (known : w.value ≡ Some x)
+        (d : Contains scope area words area' words' books (λ ss ms. rules.contained scope.limits step ss ms c) left (Some w)) where
       abbrev recorded : Recorded
-      recorded = record { text = text_in books t; range = range }
+      recorded = record { text = text_in books x.text; range = x.range }
 
-      paid-found : pay made left ≡ some (record { value = some recorded; left = rest.count })
+      paid-found : pay made left ≡ some (record { value = some recorded; left = w.left.count })
       unfolding contained_in
-      paid-found = sym (round_is d)
+      paid-found = rw known at (sym (round_is d))
 
-      past : Going note whole budget r₀ r k rest.count (found recorded ∷ on (range.after + 1))
+      past : Going note whole budget r₀ r k w.left.count (found recorded ∷ on (x.range.after + 1))
       unfolding and_on
-      past = paid-past (some recorded) rest.count paid-found
+      past = paid-past (some recorded) w.left.count paid-found
 
-      pub rounds_fits : RangeFits scope.lines range
+      pub rounds_fits : RangeFits scope.lines x.range
       unfolding ContainedStands
-      rounds_fits = d.stands.1
+      rounds_fits = (rw known at d.stands).1
 
       pub rounds-room : record_width * k + record_width ≤ length r
-      rounds-room = going_room recorded (on (range.after + 1)) past
+      rounds-room = going_room recorded (on (x.range.after + 1)) past
 
-      pub rounds-from : c ≤ range.first
+      pub rounds-from : c ≤ x.range.first
       rounds-from =
-          (contained_in_lem scope.limits step (texts books) all_lines p c recorded (sym (paid-is made left (record { value = some recorded; left = rest.count }) paid-found).0)).0
+          (contained_in_lem scope.limits step (texts books) all_lines p c recorded (sym (paid-is made left (record { value = some recorded; left = w.left.count }) paid-found).0)).0
 
-      pub rounds_rise : c ≤ range.after
+      pub rounds_rise : c ≤ x.range.after
       rounds_rise = omega (arith, rounds-from, rounds_fits.order)
 
-      pub rounds-found : {r' : List ℕ} {at' : ℕ} → r' ≡ take (record_width * k) r ++ six_of note recorded ++ drop (record_width * k + record_width) r → at' ≡ line_start (range.after + 1) note →
-          Downing note scope class area₀ words₀ books r₀ step budget area' words' r' rest.count (range.after + 1) at' (k + 1)
+      pub rounds-found : {r' : List ℕ} {at' : ℕ} → r' ≡ take (record_width * k) r ++ six_of note recorded ++ drop (record_width * k + record_width) r → at' ≡ line_start (x.range.after + 1) note →
+          Downing note scope class area₀ words₀ books r₀ step budget area' words' r' w.left.count (x.range.after + 1) at' (k + 1)
       rounds-found {r'} e f = record {
         ready = scanning_held i.ready d.held;
         held = held_more i.held d.held;
         within = omega (arith, i.within, rounds_rise);
         to = omega (arith, rounds_fits.high);
         place = f;
-        going = going_found recorded (on (range.after + 1)) past r' e;
+        going = going_found recorded (on (x.range.after + 1)) past r' e;
       }
 
   pub rounds-end : (x : Run) → scope.lines ≤ c → x ≡ run_of k (some left) → Ran note whole budget r₀ r x

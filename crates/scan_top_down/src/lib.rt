@@ -13,21 +13,19 @@ ghost use Rattle.scan_view.specs.Down.{latest_in, LatestStands};
 ghost use Rattle.scan_top_down.specs.Contains.{Contains};
 
 use detection_shelf::Shelved;
-use license_bounds::Ranged;
-use license_charge::Scorings;
+use license_charge::{Charged, Scorings};
 use rules::Bounds;
 use scan_limits::below;
 use scan_places::{Mark, past_gap, put_record};
-use scan_ranges::{Run, Scope, ended, out_at, text_bounds};
-use scan_view::{Latest, Walked};
+use scan_ranges::{Run, Scope, text_bounds};
+use scan_view::Latest;
 use scan_views::walk_starts;
 
-// What a round finds: the budget is out; nothing; or a text and its range. With the scorings left.
+// What a round finds: a text and its range.
 #[derive(Clone, Copy)]
-pub enum Contained {
-    Out,
-    Nothing(Scorings),
-    Found(Shelved, Bounds, Scorings),
+pub struct Contained {
+    pub text: Shelved,
+    pub range: Bounds,
 }
 
 // The bounds of the pair against its text; below the threshold it is nothing.
@@ -38,25 +36,30 @@ fn settle<'a>(
     scope: Scope,
     book: &'a [u8],
     second: &'a [u8],
-    latest: Latest,
+    latest: Option<Latest>,
     budget: Scorings,
-) -> Contained
+) -> Option<Charged<Option<Contained>>>
     requires scanning { Scanning scope class.now area.old words.old (shelf book.now second.now) }
     requires latest_stands { LatestStands (shelf book.now second.now) scope.lines latest }
     ensures { Contains scope area.old words.old area.new words.new (shelf book.now second.now) (λ ss ls. rules.settled scope.limits ls (latest_in (shelf book.now second.now) latest)) budget.count result }
 {
-    let Latest::Pair(v, text) = latest else {
-        return Contained::Nothing(budget);
+    let Some(pair) = latest else {
+        return Some(Charged {
+            value: None,
+            left: budget,
+        });
     };
-    let Ranged::Found(range, left) = text_bounds(
-        class, area, words, scope, v, book, second, text, budget,
-    ) else {
-        return Contained::Out;
-    };
+    let text = pair.text;
+    let c = text_bounds(
+        class, area, words, scope, pair.view, book, second, text, budget,
+    )?;
+    let left = c.left;
+    let range = c.value;
     if below(scope.limits, range) {
-        return Contained::Nothing(left);
+        return Some(Charged { value: None, left });
     }
-    Contained::Found(text, range, left)
+    let value = Some(Contained { text, range });
+    Some(Charged { value, left })
 }
 
 // The range that is found from line c on.
@@ -70,16 +73,22 @@ fn find_contained<'a>(
     book: &'a [u8],
     second: &'a [u8],
     budget: Scorings,
-) -> Contained
+) -> Option<Charged<Option<Contained>>>
     requires scanning { Scanning scope class.now area.old words.old (shelf book.now second.now) }
     requires c_le_lines { (c ≤ scope.lines) × (0 < step) }
     ensures { Contains scope area.old words.old area.new words.new (shelf book.now second.now) (λ ss ls. rules.contained scope.limits step ss ls c) budget.count result }
 {
-    match walk_starts(class, area, words, scope, c, step, book, second, budget) {
-        Walked::Out => Contained::Out,
-        Walked::On(latest, left) => settle(class, area, words, scope, book, second, latest, left),
-        Walked::Over(latest, left) => settle(class, area, words, scope, book, second, latest, left),
-    }
+    let found = walk_starts(class, area, words, scope, c, step, book, second, budget)?;
+    settle(
+        class,
+        area,
+        words,
+        scope,
+        book,
+        second,
+        found.value,
+        found.left,
+    )
 }
 
 // Round by round: c strictly rises, since a range ends at c or behind it. The byte where line c starts is carried along, so that all records together
@@ -107,19 +116,22 @@ pub fn top_down<'a>(
     let mut c: usize = 0;
     let mut at: usize = 0;
     let mut k: u32 = 0;
+    // A while: c goes on behind each range.
     while c < lines {
-        match find_contained(class, area, words, scope, c, step, book, second, left) {
-            Contained::Out => return out_at(k),
-            Contained::Nothing(rest) => return ended(k, rest),
-            Contained::Found(text, range, rest) => {
-                let from = Mark { line: c, at };
-                let end = put_record(note, from, results, k, text.number, range);
-                at = past_gap(note, range, end);
-                k += 1;
-                c = range.after + 1;
-                left = rest;
-            }
-        }
+        let Some(round) = find_contained(class, area, words, scope, c, step, book, second, left)
+        else {
+            return Run::out_at(k);
+        };
+        left = round.left;
+        let Some(found) = round.value else {
+            return Run::ended(k, left);
+        };
+        let range = found.range;
+        let from = Mark { line: c, at };
+        let end = put_record(note, from, results, k, found.text.number, range);
+        at = past_gap(note, range, end);
+        k += 1;
+        c = range.after + 1;
     }
-    ended(k, left)
+    Run::ended(k, left)
 }

@@ -8,34 +8,34 @@ ghost use Rattle.detection_shelf.specs.Shelves.{shelf};
 ghost use Rattle.scan_ranges.specs.Run.{Scanning};
 ghost use Rattle.scan_view.specs.Down.{walk, latest_in, LatestStands, Walks, lower_in};
 
-use detect::{Chosen, best_above};
+use detect::best_above;
 use detection_shelf::Shelved;
-use license_charge::Scorings;
+use license_charge::{Charged, Scorings};
 use rules::View;
 use scan_ranges::Scope;
 
-// The latest view that reached the threshold, and its best text: found, or none yet.
+// The latest view that reached the threshold, and its best text.
 #[derive(Clone, Copy)]
-pub enum Latest {
-    Nothing,
-    Pair(View, Shelved),
+pub struct Latest {
+    pub view: View,
+    pub text: Shelved,
 }
 
-// A walk over views: the budget is out; or it goes on; or a score below the threshold has ended it. With the latest pair and the scorings left.
+// How far a walk over views is: the latest pair, if there is one yet, and whether a score below the threshold has ended it.
 #[derive(Clone, Copy)]
-pub enum Walked {
-    Out,
-    On(Latest, Scorings),
-    Over(Latest, Scorings),
+pub struct Walked {
+    pub latest: Option<Latest>,
+    pub ended: bool,
 }
 
 // A score below the threshold ends the walk once there is a pair.
-fn below_threshold(latest: Latest, left: Scorings) -> Walked
-    ensures { result ≡ lower_in latest left }
+#[tactic(auto, unfolding(crate::specs::Down::lower_in))]
+fn below_threshold(latest: Option<Latest>) -> Walked
+    ensures { result ≡ lower_in latest }
 {
-    match latest {
-        Latest::Nothing => Walked::On(Latest::Nothing, left),
-        Latest::Pair(v, t) => Walked::Over(Latest::Pair(v, t), left),
+    Walked {
+        latest,
+        ended: latest.is_some(),
     }
 }
 
@@ -48,9 +48,9 @@ pub fn see_view<'a>(
     v: View,
     book: &'a [u8],
     second: &'a [u8],
-    latest: Latest,
+    latest: Option<Latest>,
     budget: Scorings,
-) -> Walked
+) -> Option<Charged<Walked>>
     requires scanning { Scanning scope class.now area.old words.old (shelf book.now second.now) }
     requires start_le_end { (v.start ≤ v.end) × (v.end ≤ scope.lines) }
     requires latest_stands { LatestStands (shelf book.now second.now) scope.lines latest }
@@ -60,14 +60,22 @@ pub fn see_view<'a>(
     let lines = scope.lines;
     let texts = scope.texts;
     let floor = scope.limits.threshold;
-    let Chosen::Found(best, left) = best_above(
+    let c = best_above(
         class, area, words, n, lines, v, book, second, texts, floor, budget,
-    ) else {
-        return Walked::Out;
+    )?;
+    let left = c.left;
+    let Some(best) = c.value else {
+        let value = below_threshold(latest);
+        return Some(Charged { value, left });
     };
     if best.value.score < floor {
-        return below_threshold(latest, left);
+        let value = below_threshold(latest);
+        return Some(Charged { value, left });
     }
     let text = best.text;
-    Walked::On(Latest::Pair(v, text), left)
+    let value = Walked {
+        latest: Some(Latest { view: v, text }),
+        ended: false,
+    };
+    Some(Charged { value, left })
 }

@@ -11,7 +11,7 @@ ghost use Rattle.detection_shelf.specs.Shelves.{shelf};
 ghost use Rattle.scan_ranges.specs.Run.{Scanning};
 ghost use Rattle.scan_view.specs.Down.{walk, latest_in, LatestStands, Walks, Pairs};
 
-use license_charge::Scorings;
+use license_charge::{Charged, Scorings};
 use rules::View;
 use scan_ranges::Scope;
 use scan_steps::next_step;
@@ -27,9 +27,9 @@ fn walk_ends<'a>(
     step: u64,
     book: &'a [u8],
     second: &'a [u8],
-    from: Latest,
+    from: Option<Latest>,
     budget: Scorings,
-) -> Walked
+) -> Option<Charged<Walked>>
     requires scanning { Scanning scope class.now area.old words.old (shelf book.now second.now) }
     requires start_le_lines { (start ≤ scope.lines) × (0 < step) }
     requires latest_stands { LatestStands (shelf book.now second.now) scope.lines from }
@@ -39,19 +39,22 @@ fn walk_ends<'a>(
     let mut latest = from;
     let mut left = budget;
     let mut end = start;
+    // A while: the last step is cut short, and no sum may wrap.
     while end < past {
         let v = View { start, end };
-        match see_view(class, area, words, scope, v, book, second, latest, left) {
-            Walked::Out => return Walked::Out,
-            Walked::On(l, rest) => {
-                latest = l;
-                left = rest;
-            }
-            Walked::Over(l, rest) => return Walked::Over(l, rest),
+        let seen = see_view(class, area, words, scope, v, book, second, latest, left)?;
+        if seen.value.ended {
+            return Some(seen);
         }
+        latest = seen.value.latest;
+        left = seen.left;
         end = next_step(end, step, past);
     }
-    Walked::On(latest, left)
+    let value = Walked {
+        latest,
+        ended: false,
+    };
+    Some(Charged { value, left })
 }
 
 // All views from line c on: the starts c, c + step, .. below the last line.
@@ -65,27 +68,32 @@ pub fn walk_starts<'a>(
     book: &'a [u8],
     second: &'a [u8],
     budget: Scorings,
-) -> Walked
+) -> Option<Charged<Option<Latest>>>
     requires scanning { Scanning scope class.now area.old words.old (shelf book.now second.now) }
     requires c_le_lines { (c ≤ scope.lines) × (0 < step) }
     ensures { Pairs scope area.old words.old area.new words.new (shelf book.now second.now) (λ ss ls. latest_of scope.limits ss ls none (views_of step scope.lines (steps step c scope.lines))) budget.count result }
 {
     let lines = scope.lines;
-    let mut latest = Latest::Nothing;
+    let mut latest = None;
     let mut left = budget;
     let mut start = c;
+    // A while: the last step is cut short, and no sum may wrap.
     while start < lines {
-        match walk_ends(
+        let walked = walk_ends(
             class, area, words, scope, start, step, book, second, latest, left,
-        ) {
-            Walked::Out => return Walked::Out,
-            Walked::On(l, rest) => {
-                latest = l;
-                left = rest;
-            }
-            Walked::Over(l, rest) => return Walked::Over(l, rest),
+        )?;
+        latest = walked.value.latest;
+        left = walked.left;
+        if walked.value.ended {
+            return Some(Charged {
+                value: latest,
+                left,
+            });
         }
         start = next_step(start, step, lines);
     }
-    Walked::On(latest, left)
+    Some(Charged {
+        value: latest,
+        left,
+    })
 }

@@ -13,7 +13,7 @@ ghost use Rattle.refusals.specs.Admits.{ViewThrough};
 
 use detection_edition::edition_of;
 use detection_shelf::{Counts, body_of, stored_on};
-use license_charge::{charge_exact, scorings_of};
+use license_charge::{Scorings, charge_exact};
 use license_notes::lay;
 use license_views::view_table;
 use rules::{Value, View};
@@ -40,6 +40,6 @@ pub fn score_laid<'a>(
     let t = view_table(&class, area, words, n, lines, v);
     let found = stored_on(book, second, counts, k);
     let body = body_of(book, second, found);
-    let charged = charge_exact(area, words, n, t, body, scorings_of(1));
+    let charged = charge_exact(area, words, n, t, body, Scorings::of(1));
     charged.value
 }

@@ -167,15 +167,6 @@ digit-table e =
     ap (λ (f : ℕ → Bool). λ x. f x || in_class (class_table e) 9 9 x) (slip-table e) ∙ ap (λ (f : ℕ → Bool). λ x. slip e x || f x) (others-table e) ∙
     fun_ext (λ x. four_or-other e x (eqb x 52) refl)
 
--- ---- the same range twice
-pub either_same : (t : List ℕ) (lo hi : ℕ) → in_either t lo hi lo hi ≡ in_class t lo hi
-unfolding in_either
-either_same t lo hi = fun_ext (λ x. twice (in_class t lo hi x))
-  where
-    twice : (b : Bool) → (b || b) ≡ b
-    twice true = refl
-    twice false = refl
-
 -- ---- a table that is lent
 -- of some edition
 pub by_table : {t : List ℕ} {test : ℕ → Bool} (kind : List ℕ → ℕ → Bool) → Classes t → ((e : ℕ) → kind (class_table e) ≡ test) → kind t ≡ test

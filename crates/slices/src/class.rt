@@ -8,7 +8,8 @@ use rules::EDITION_FIRST;
 
 // 1 dropped, 2 the bar, 3 slashes, 4 the digit 4 of edition 1, 5 space, tab and U+00A0, 6 newline, 7 bytes 11 to 13, 8 U+0085, 9 the other digits,
 // 10 letters that lower case leaves, 11 upper case, 12 underscore, 13 quotes, 14 dash, 15 opening, 16 closing, 17 other punctuation.
-// What the passes ask for is a range of these, or one alone; specs/Classes.antt has the same by name.
+// What the passes ask for is a range of these, or one alone; specs/Classes.antt has the same by name. They are numbers and no enum: the contract of
+// `class_table` is over the rules' `class_of`, which gives numbers.
 pub const DROPPED_LOW: u8 = 1;
 
 pub const DROPPED_HIGH: u8 = 2;
@@ -264,6 +265,7 @@ pub fn class_table(edition: u32) -> [u8; 256]
 }
 
 // Whether the class of b is from lo to hi.
+#[tactic(auto, unfolding(crate::specs::Classes::in_class, rules::specs::Bytes::within))]
 pub fn in_class(class: &[u8; 256], lo: u8, hi: u8, b: u8) -> bool
     ensures { result ≡ in_class class.now lo hi b }
 {
@@ -272,11 +274,9 @@ pub fn in_class(class: &[u8; 256], lo: u8, hi: u8, b: u8) -> bool
 }
 
 // Whether it is from lo to hi, or from low to high: the digits are two ranges, since the 4 has a class of its own.
+#[tactic(auto, unfolding(crate::specs::Classes::in_either))]
 pub fn in_either(class: &[u8; 256], lo: u8, hi: u8, low: u8, high: u8, b: u8) -> bool
     ensures { result ≡ in_either class.now lo hi low high b }
 {
-    if in_class(class, lo, hi, b) {
-        return true;
-    }
-    in_class(class, low, high, b)
+    in_class(class, lo, hi, b) || in_class(class, low, high, b)
 }

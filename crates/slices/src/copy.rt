@@ -1,17 +1,13 @@
-// Bytes copied: upwards within one lent slice, and from one to another. One walk each. Assumes nothing.
+// Numbers copied: upwards within one lent slice, and bytes from one to another. One walk each. Assumes nothing.
 ghost use Rattle.std.specs.Prelude.{◌≡◌, ◌++◌, ◌+◌, ◌≤◌, ◌<◌, length, take, drop};
 ghost use Rattle.std.proofs.Math.Seq.{paste};
 
-// k bytes from `from` on, copied to `to`, which lies past them; answers where they end.
-pub fn copy_up(area: &mut [u8], from: usize, k: usize, to: usize) -> usize
+// k from `from` on, copied to `to`, which lies past them; answers where they end.
+pub fn copy_up<T: Copy>(area: &mut [T], from: usize, k: usize, to: usize) -> usize
     requires { (from + k ≤ to) × (to + k ≤ length area.old) }
     ensures { (result ≡ to + k) × (area.new ≡ paste area.old to (drop from area.old) k) }
 {
-    let mut i = 0;
-    while i < k {
-        area[to + i] = area[from + i];
-        i += 1;
-    }
+    area.copy_within(from..from + k, to);
     to + k
 }
 
@@ -21,10 +17,8 @@ pub fn copy_to(src: &[u8], from: usize, k: usize, dst: &mut [u8], to: usize) -> 
     requires k_in_bounds_2 { to + k ≤ length dst.old }
     ensures { (result ≡ to + k) × (dst.new ≡ paste dst.old to (drop from src.now) k) }
 {
-    let mut i = 0;
-    while i < k {
-        dst[to + i] = src[from + i];
-        i += 1;
+    if 0 < k {
+        dst[to..to + k].copy_from_slice(&src[from..from + k]);
     }
     to + k
 }

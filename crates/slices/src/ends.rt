@@ -19,16 +19,8 @@ pub struct ByteSpan {
 pub fn trimmed_end(class: &[u8; 256], lo: u8, hi: u8, s: &[u8]) -> usize
     ensures { result ≡ kept_len (in_class class.now lo hi) s.now }
 {
-    let mut e = s.len();
-    while 0 < e {
-        let k = e - 1;
-        if in_class(class, lo, hi, s[k]) {
-            e = k;
-        } else {
-            return e;
-        }
-    }
-    e
+    let last = s.iter().rposition(|b| !in_class(class, lo, hi, *b));
+    last.map_or(0, |k| k + 1)
 }
 
 // Where s starts and ends without the bytes of classes lo to hi around it. Reads those, and two bytes more.
@@ -39,7 +31,7 @@ pub fn bare(class: &[u8; 256], lo: u8, hi: u8, s: &[u8]) -> ByteSpan
     let rest = &s[start..];
     let len = trimmed_end(class, lo, hi, rest);
     ByteSpan {
-        start: start,
+        start,
         end: start + len,
     }
 }

@@ -5,8 +5,25 @@
 ghost use Rattle.std.specs.Prelude.{◌≡◌, not, eqb, drop};
 ghost use Rattle.rules.specs.Bytes.{lead, line_len};
 ghost use Rattle.slices.specs.Classes.{in_class, in_either};
+ghost use Rattle.slices.specs.Leads.{Leads};
 
 use crate::class::{in_class, in_either};
+
+// What lies from the place on.
+pub fn rest(s: &[u8], at: usize) -> &[u8]
+    ensures { result.now ≡ drop at s.now }
+{
+    s.get(at..).unwrap_or(&[])
+}
+
+// Bytes that pass a test: as many as any test of the rules leads with, where the closure computes it.
+pub fn lead_by<F: Fn(u8) -> bool>(s: &[u8], at: usize, test: F) -> usize
+    requires { F.IsAlwaysCallable test }
+    ensures { Leads (F.post test) s.now at result }
+{
+    let left = rest(s, at);
+    left.iter().position(|b| !test(*b)).unwrap_or(left.len())
+}
 
 // Bytes of classes lo to hi, or low to high.
 pub fn either_len(
@@ -20,63 +37,34 @@ pub fn either_len(
 ) -> usize
     ensures { result ≡ lead (in_either class.now lo hi low high) (drop at s.now) }
 {
-    let mut i = at;
-    while i < s.len() {
-        if in_either(class, lo, hi, low, high, s[i]) {
-            i += 1;
-        } else {
-            return i - at;
-        }
-    }
-    i - at
+    lead_by(s, at, |b| in_either(class, lo, hi, low, high, b))
 }
 
 // Bytes of classes lo to hi.
 pub fn run_len(class: &[u8; 256], lo: u8, hi: u8, s: &[u8], at: usize) -> usize
     ensures { result ≡ lead (in_class class.now lo hi) (drop at s.now) }
 {
-    either_len(class, lo, hi, lo, hi, s, at)
+    lead_by(s, at, |b| in_class(class, lo, hi, b))
 }
 
 // Bytes of no class from lo to hi.
 pub fn other_len(class: &[u8; 256], lo: u8, hi: u8, s: &[u8], at: usize) -> usize
     ensures { result ≡ lead (λ x. not (in_class class.now lo hi x)) (drop at s.now) }
 {
-    let mut i = at;
-    while i < s.len() {
-        if in_class(class, lo, hi, s[i]) {
-            return i - at;
-        }
-        i += 1;
-    }
-    i - at
+    lead_by(s, at, |b| !in_class(class, lo, hi, b))
 }
 
 // Bytes up to the first newline, or to the end.
+#[tactic(auto, unfolding(rules::specs::Bytes::line_len, rules::specs::Bytes::newline))]
 pub fn line_len(s: &[u8], at: usize) -> usize
     ensures { result ≡ line_len (drop at s.now) }
 {
-    let mut i = at;
-    while i < s.len() {
-        if s[i] == 10 {
-            return i - at;
-        }
-        i += 1;
-    }
-    i - at
+    lead_by(s, at, |b| b != 10)
 }
 
 // Bytes b.
 pub fn byte_run(s: &[u8], at: usize, b: u8) -> usize
     ensures { result ≡ lead (eqb b) (drop at s.now) }
 {
-    let mut i = at;
-    while i < s.len() {
-        if b == s[i] {
-            i += 1;
-        } else {
-            return i - at;
-        }
-    }
-    i - at
+    lead_by(s, at, |x| x == b)
 }

@@ -1,116 +1,89 @@
--- `starts`, `common` and `order` from a place on, by the bytes there.
+-- `starts`, `order`, `same` and `rises` are the library's words for slices.
 -- Assumes nothing.
 use mathlib.Core.Path.{◌≡◌, refl, ap, ◌∙◌}
-use mathlib.Core.Bool.{true, false}
-use mathlib.Core.List.{List, ◌∷◌}
-use Prim.Native.Nat.compare
-use Prim.Native.Nat.{ℕ, zero, suc, ◌+◌, ◌≤◌, ◌<◌, compare, Ordering}
-use native.Mathlib.Nat.{not-suc-le-zero, le_of_suc-le-suc}
+use mathlib.Core.Bool.{Bool, true, false, ◌&&◌, cond}
+use mathlib.Core.List.{List, [], ◌∷◌}
+use Prim.Native.Nat.{ℕ, suc, ◌+◌, ◌<◌, compare, Ordering as Told}
+use native.Mathlib.Omega.{arith}
 use lib.Dec.{eqb, compare_is_eq}
-use lib.ListN.{length, drop, get_or}
-use borrow.Author.Tests.{eq-eqb, ne_eqb}
-use Rattle.rules.specs.Bytes.{starts, order, rises}
+use lib.ListN.{length, take}
+use lib.Pointwise.{pointwise}
+use Rattle.std.proofs.lemmas.Cmp.{ranked}
+use Rattle.std.specs.Prelude.{nat_eq}
+use Rattle.std.specs.declared.cmp.Ordering.{Ordering}
+use Rattle.std.specs.declared.cmp.Ordering.TheVariants.{Less, Equal, Greater}
+use Rattle.std.specs.Ordering.{nat_cmp, ordering_then, is_lt, MatchOrdering}
+use Rattle.std.specs.Cmp.Lexicographic.{slice_cmp}
+use Rattle.std.specs.List.{prefix_len, zip}
 use Rattle.rules.specs.Prefix.{common}
-use Rattle.lists.proofs.SliceLaws.{drop-next, drop-done}
-use Rattle.slices_order.specs.Order.{order_number}
+use Rattle.rules.specs.Bytes.{starts, order, same, rises}
+use Rattle.rules.proofs.OrderLaws.{compare_is}
+use Rattle.slices_order.specs.Order.{ordering_of}
 
-module _ (w s : List ℕ) (i k : ℕ) where
-  pub starts-done : length w ≤ i → starts (drop i w) (drop k s) ≡ true
-  unfolding starts
-  starts-done h = rw (drop-done w i h)
+-- ---- one starts with the other
+pub starts_is : (w s : List ℕ) → pointwise nat_eq w (take (length w) s) ≡ starts w s
+unfolding starts
+starts_is [] s = refl
+starts_is (x ∷ w) [] = refl
+starts_is (x ∷ w) (y ∷ s) = ap (λ (b : Bool). eqb x y && b) (starts_is w s)
 
-  pub starts-short : i < length w → length s ≤ k → starts (drop i w) (drop k s) ≡ false
-  unfolding starts
-  starts-short h l = rw (drop-next w i h, drop-done s k l)
+-- ---- the order
+told : (x y : ℕ) (r : Ordering) → MatchOrdering r (x < y) (x ≡ y) (y < x) → r ≡ ordering_of (compare x y)
+unfolding ordering_of
+told x y Less h = rw (compare_is Told.lt x y h)
+told x y Equal h = rw (compare_is Told.eq x y h)
+told x y Greater h = rw (compare_is Told.gt x y h)
 
-  pub starts_other : i < length w → k < length s → (get_or w i 0 ≡ get_or s k 0 → ⊥) → starts (drop i w) (drop k s) ≡ false
-  unfolding starts
-  starts_other h l e = rw (drop-next w i h, drop-next s k l, ne_eqb _ _ e)
+then_of : (o p : Told) → ordering_then (ordering_of o) (ordering_of p) ≡ ordering_of (elim o [ Told.lt ↦ Told.lt | Told.eq ↦ p | Told.gt ↦ Told.gt ])
+unfolding ordering_of
+then_of Told.lt p = refl
+then_of Told.eq p = refl
+then_of Told.gt p = refl
 
-  pub starts_more : i < length w → k < length s → get_or w i 0 ≡ get_or s k 0 →
-      starts (drop i w) (drop k s) ≡ starts (drop (i + 1) w) (drop (k + 1) s)
-  unfolding starts
-  starts_more h l e = rw (drop-next w i h, drop-next s k l, eq-eqb _ _ e)
+pub order_is : (a b : List ℕ) → slice_cmp nat_cmp a b ≡ ordering_of (order a b)
+unfolding order ordering_of
+order_is [] [] = refl
+order_is [] (y ∷ b) = refl
+order_is (x ∷ a) [] = refl
+order_is (x ∷ a) (y ∷ b) =
+    ap (λ (o : Ordering). ordering_then o (slice_cmp nat_cmp a b)) (told x y (nat_cmp x y) (ranked x y (nat_cmp x y) refl)) ∙
+    ap (λ (o : Ordering). ordering_then (ordering_of (compare x y)) o) (order_is a b) ∙ then_of (compare x y) (order a b)
 
--- ---- numbers
-below_compare : (x y : ℕ) → x < y → compare x y ≡ Ordering.lt
-below_compare zero zero h = absurd (not-suc-le-zero h)
-below_compare zero (suc y) h = compare.zero-suc y
-below_compare (suc x) zero h = absurd (not-suc-le-zero h)
-below_compare (suc x) (suc y) h = compare.suc-suc x y ∙ below_compare x y (le_of_suc-le-suc h)
+eq_then : (o p : Told) → (compare_is_eq o && compare_is_eq p) ≡ compare_is_eq (elim o [ Told.lt ↦ Told.lt | Told.eq ↦ p | Told.gt ↦ Told.gt ])
+eq_then Told.lt p = refl
+eq_then Told.eq p = refl
+eq_then Told.gt p = refl
 
-above_compare : (x y : ℕ) → y < x → compare x y ≡ Ordering.gt
-above_compare zero zero h = absurd (not-suc-le-zero h)
-above_compare zero (suc y) h = absurd (not-suc-le-zero h)
-above_compare (suc x) zero h = compare.suc-zero x
-above_compare (suc x) (suc y) h = compare.suc-suc x y ∙ above_compare x y (le_of_suc-le-suc h)
+pub same_is : (a b : List ℕ) → pointwise nat_eq a b ≡ same a b
+unfolding same order
+same_is [] [] = refl
+same_is [] (y ∷ b) = refl
+same_is (x ∷ a) [] = refl
+same_is (x ∷ a) (y ∷ b) = ap (λ (t : Bool). eqb x y && t) (same_is a b) ∙ eq_then (compare x y) (order a b)
 
-same_compare : (x : ℕ) → compare x x ≡ Ordering.eq
-same_compare zero = compare.zero-zero
-same_compare (suc x) = compare.suc-suc x x ∙ same_compare x
-
-equal_compare : (x y : ℕ) → x ≡ y → compare x y ≡ Ordering.eq
-equal_compare x y e = rw e (same_compare y)
-
--- the order by the first bytes
-order-first : (x y : ℕ) (xs ys : List ℕ) {o : Ordering} → compare x y ≡ o →
-    order (x ∷ xs) (y ∷ ys) ≡ elim o [ Ordering.lt ↦ Ordering.lt | Ordering.eq ↦ order xs ys | Ordering.gt ↦ Ordering.gt ]
-unfolding order
-order-first x y xs ys e =
-    ap (λ (o : Ordering). elim o [ Ordering.lt ↦ Ordering.lt | Ordering.eq ↦ order xs ys | Ordering.gt ↦ Ordering.gt ]) e
-
-module _ (a b : List ℕ) (i : ℕ) where
-  pub common-done : length a ≤ i → length (common (drop i a) (drop i b)) ≡ 0
-  unfolding common
-  common-done h = rw (drop-done a i h)
-
-  pub common-short : i < length a → length b ≤ i → length (common (drop i a) (drop i b)) ≡ 0
-  unfolding common
-  common-short h l = rw (drop-next a i h, drop-done b i l)
-
-  pub common-other : i < length a → i < length b → (get_or a i 0 ≡ get_or b i 0 → ⊥) → length (common (drop i a) (drop i b)) ≡ 0
-  unfolding common
-  common-other h l e = rw (drop-next a i h, drop-next b i l, ne_eqb _ _ e)
-
-  pub common-more : i < length a → i < length b → get_or a i 0 ≡ get_or b i 0 →
-      length (common (drop i a) (drop i b)) ≡ suc (length (common (drop (i + 1) a) (drop (i + 1) b)))
-  unfolding common
-  common-more h l e = rw (drop-next a i h, drop-next b i l, eq-eqb _ _ e)
-
-  pub order-short : i < length a → length b ≤ i → order (drop i a) (drop i b) ≡ Ordering.gt
-  unfolding order
-  order-short h l = rw (drop-next a i h, drop-done b i l)
-
-  pub order_below : i < length a → i < length b → get_or a i 0 < get_or b i 0 → order (drop i a) (drop i b) ≡ Ordering.lt
-  order_below h l e = rw (drop-next a i h, drop-next b i l) (order-first _ _ (drop (i + 1) a) (drop (i + 1) b) (below_compare _ _ e))
-
-  pub order_above : i < length a → i < length b → get_or b i 0 < get_or a i 0 → order (drop i a) (drop i b) ≡ Ordering.gt
-  order_above h l e = rw (drop-next a i h, drop-next b i l) (order-first _ _ (drop (i + 1) a) (drop (i + 1) b) (above_compare _ _ e))
-
-  pub order-more : i < length a → i < length b → get_or a i 0 ≡ get_or b i 0 →
-      order (drop i a) (drop i b) ≡ order (drop (i + 1) a) (drop (i + 1) b)
-  order-more h l e = rw (drop-next a i h, drop-next b i l) (order-first _ _ (drop (i + 1) a) (drop (i + 1) b) (equal_compare _ _ e))
-
-  pub order_longer : length a ≤ i → i < length b → order (drop i a) (drop i b) ≡ Ordering.lt
-  unfolding order
-  order_longer h l = rw (drop-done a i h, drop-next b i l)
-
-  pub order_same : length a ≤ i → length b ≤ i → order (drop i a) (drop i b) ≡ Ordering.eq
-  unfolding order
-  order_same h l = rw (drop-done a i h, drop-done b i l)
-
--- the numbers of the order
-pub number_same : (o : Ordering) → eqb (order_number o) 1 ≡ compare_is_eq o
-unfolding order_number
-number_same Ordering.lt = refl
-number_same Ordering.eq = refl
-number_same Ordering.gt = refl
-
-pub number-rises : (a b : List ℕ) → eqb (order_number (order a b)) 0 ≡ rises a b
-unfolding rises order_number
-number-rises a b = at (order a b)
+pub rises_is : (a b : List ℕ) → is_lt (ordering_of (order a b)) ≡ rises a b
+unfolding rises ordering_of
+rises_is a b = at (order a b)
   where
-    at : (o : Ordering) → eqb (order_number o) 0 ≡ elim o [ Ordering.lt ↦ true | Ordering.eq ↦ false | Ordering.gt ↦ false ]
-    at Ordering.lt = refl
-    at Ordering.eq = refl
-    at Ordering.gt = refl
+    at : (o : Told) → is_lt (ordering_of o) ≡ elim o [ Told.lt ↦ true | Told.eq ↦ false | Told.gt ↦ false ]
+    at Told.lt = refl
+    at Told.eq = refl
+    at Told.gt = refl
+
+-- ---- what they have in common: the pairs at the front whose two are equal
+abbrev pub pair_same : ℕ × ℕ → Bool
+pair_same p = eqb p.0 p.1
+
+one_more : (n : ℕ) → 1 + n ≡ suc n
+one_more n = omega arith
+
+pub common_is : (a b : List ℕ) → length (take (prefix_len pair_same (zip a b)) (zip a b)) ≡ length (common a b)
+unfolding common
+common_is [] b = refl
+common_is (x ∷ a) [] = refl
+common_is (x ∷ a) (y ∷ b) = at (eqb x y) (common_is a b)
+  where
+    at : (t : Bool) → length (take (prefix_len pair_same (zip a b)) (zip a b)) ≡ length (common a b) →
+        length (take (cond t (1 + prefix_len pair_same (zip a b)) 0) ((x, y) ∷ zip a b)) ≡ length (cond t (x ∷ common a b) [])
+    at true e = ap (λ (n : ℕ). length (take n ((x, y) ∷ zip a b))) (one_more (prefix_len pair_same (zip a b))) ∙ ap suc e
+    at false e = refl

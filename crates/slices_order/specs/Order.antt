@@ -1,9 +1,10 @@
--- The order of two byte strings as a number.
+-- The order of two byte strings as the language's own.
 -- Assumes nothing.
-use Prim.Native.Nat.{ℕ, Ordering}
+use Prim.Native.Nat.{Ordering as Told}
+use Rattle.std.specs.declared.cmp.Ordering.{Ordering}
+use Rattle.std.specs.declared.cmp.Ordering.TheVariants.{Less, Equal, Greater}
 
--- 0 before, 1 equal, 2 after
-unfoldable pub order_number : Ordering → ℕ
-order_number Ordering.lt = 0
-order_number Ordering.eq = 1
-order_number Ordering.gt = 2
+unfoldable pub ordering_of : Told → Ordering
+ordering_of Told.lt = Less
+ordering_of Told.eq = Equal
+ordering_of Told.gt = Greater

@@ -6,73 +6,45 @@
 ghost use Rattle.std.specs.Prelude.{◌≡◌, length, drop};
 ghost use Rattle.rules.specs.Bytes.{starts, order, same, rises};
 ghost use Rattle.rules.specs.Prefix.{common};
-ghost use Rattle.slices_order.specs.Order.{order_number};
+ghost use Rattle.slices_order.specs.Order.{ordering_of};
+
+use slices::lead::rest;
+use std::cmp::Ordering;
 
 // s, from the place on, starts with w. Linear in w.
+#[tactic(auto, using(crate::proofs::OrderLaws::starts_is))]
 pub fn starts_with(s: &[u8], at: usize, w: &[u8]) -> bool
     ensures { result ≡ starts w.now (drop at s.now) }
 {
-    let mut i = 0;
-    let mut k = at;
-    while i < w.len() {
-        if s.len() <= k {
-            return false;
-        }
-        if w[i] != s[k] {
-            return false;
-        }
-        i += 1;
-        k += 1;
-    }
-    true
+    rest(s, at).starts_with(w)
 }
 
 // The length of the common prefix. Linear in it.
 pub fn common_len(a: &[u8], b: &[u8]) -> usize
     ensures { result ≡ length (common a.now b.now) }
 {
-    let mut i = 0;
-    while i < a.len() {
-        if b.len() <= i {
-            return i;
-        }
-        if a[i] != b[i] {
-            return i;
-        }
-        i += 1;
-    }
-    i
+    a.iter().zip(b).take_while(|(x, y)| x == y).count()
 }
 
-// 0 where a comes before b, 1 where they are equal, 2 where a comes after b. Linear in the common prefix.
-pub fn compare(a: &[u8], b: &[u8]) -> u8
-    ensures { result ≡ order_number (order a.now b.now) }
+// Linear in the common prefix.
+#[tactic(auto, using(crate::proofs::OrderLaws::order_is))]
+pub fn compare(a: &[u8], b: &[u8]) -> Ordering
+    ensures { result ≡ ordering_of (order a.now b.now) }
 {
-    let mut i = 0;
-    while i < a.len() {
-        if b.len() <= i {
-            return 2;
-        }
-        if a[i] < b[i] {
-            return 0;
-        }
-        if b[i] < a[i] {
-            return 2;
-        }
-        i += 1;
-    }
-    if i < b.len() { 0 } else { 1 }
+    a.cmp(b)
 }
 
+#[tactic(auto, using(crate::proofs::OrderLaws::same_is))]
 pub fn equal(a: &[u8], b: &[u8]) -> bool
     ensures { result ≡ same a.now b.now }
 {
-    compare(a, b) == 1
+    a == b
 }
 
 // b stands strictly above a.
+#[tactic(auto, using(crate::proofs::OrderLaws::rises_is))]
 pub fn above(a: &[u8], b: &[u8]) -> bool
     ensures { result ≡ rises a.now b.now }
 {
-    compare(a, b) == 0
+    compare(a, b).is_lt()
 }

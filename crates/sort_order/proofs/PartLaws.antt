@@ -58,37 +58,35 @@ part-short m c (x ∷ xs) = go (ends_part m c x) (part-short m (marks_left m c x
     go true e = omega arith
     go false e = omega arith
 
--- the parts from i and from j on, with m to end them and c marks left
-module _ (m c : ℕ) (l : List ℕ) (i j : ℕ) where
-  -- the first is over
-  pub over-end : length l ≤ i → part_later m c l i j ≡ false
-  unfolding part_later part_of lex_later
-  over-end h = rw (drop_of_length-le l {i = i} h)
+-- a part that begins with the byte x, and another, with m to end them and c marks left
+module _ (m c x : ℕ) (xs : List ℕ) where
+  pub over_mark : (zs : List ℕ) → ends_part m c x ≡ true → lex_later (part_of m c (x ∷ xs)) (part_of m c zs) ≡ false
+  unfolding part_of lex_later
+  over_mark zs e = rw e
 
-  module _ (h : i < length l) where
-    pub over_mark : ends_part m c (get_or l i 0) ≡ true → part_later m c l i j ≡ false
-    unfolding part_later part_of lex_later
-    over_mark e = rw (drop-next l i h, e)
-
+  module _ (e : ends_part m c x ≡ false) where
     -- the second is over, and the first is not
-    module _ (e : ends_part m c (get_or l i 0) ≡ false) where
-      pub other-end : length l ≤ j → part_later m c l i j ≡ true
-      unfolding part_later part_of lex_later
-      other-end t = rw (drop-next l i h, e, drop_of_length-le l {i = j} t)
+    pub other-end : lex_later (part_of m c (x ∷ xs)) (part_of m c []) ≡ true
+    unfolding part_of lex_later
+    other-end = rw e
 
-      module _ (k : j < length l) where
-        pub other_mark : ends_part m c (get_or l j 0) ≡ true → part_later m c l i j ≡ true
-        unfolding part_later part_of lex_later
-        other_mark t = rw (drop-next l i h, e, drop-next l j k, t)
+    module _ (y : ℕ) (ys : List ℕ) where
+      pub other_mark : ends_part m c y ≡ true → lex_later (part_of m c (x ∷ xs)) (part_of m c (y ∷ ys)) ≡ true
+      unfolding part_of lex_later
+      other_mark t = rw (e, t)
 
-        -- neither is
-        pub unlike : ends_part m c (get_or l j 0) ≡ false → (get_or l j 0 ≡ get_or l i 0 → ⊥) → part_later m c l i j ≡ ltb (get_or l j 0) (get_or l i 0)
-        unfolding part_later part_of lex_later
-        unlike t n = rw (drop-next l i h, e, drop-next l j k, t, ne_eqb (get_or l j 0) (get_or l i 0) n)
+      -- neither is
+      pub unlike : ends_part m c y ≡ false → (y ≡ x → ⊥) → lex_later (part_of m c (x ∷ xs)) (part_of m c (y ∷ ys)) ≡ ltb y x
+      unfolding part_of lex_later
+      unlike t n = rw (e, t, ne_eqb y x n)
 
-        pub alike : get_or l j 0 ≡ get_or l i 0 → part_later m c l i j ≡ part_later m (marks_left m c (get_or l i 0)) l (i + 1) (j + 1)
-        unfolding part_later part_of lex_later
-        alike t = rw (drop-next l i h, e, drop-next l j k, t, e, eq-eqb (get_or l i 0) (get_or l i 0) refl)
+      pub alike : y ≡ x → lex_later (part_of m c (x ∷ xs)) (part_of m c (y ∷ ys)) ≡ lex_later (part_of m (marks_left m c x) xs) (part_of m (marks_left m c x) ys)
+      unfolding part_of lex_later
+      alike t = rw (t, e, eq-eqb x x refl)
+
+pub over-end : (m c : ℕ) (zs : List ℕ) → lex_later (part_of m c []) (part_of m c zs) ≡ false
+unfolding part_of lex_later
+over-end m c zs = refl
 
 -- of two lists at most one comes after the other
 no : false ≡ true → ⊥

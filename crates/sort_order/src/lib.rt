@@ -1,76 +1,86 @@
-// The order of a text's parts. A part is named by where it starts: it ends at the c-th byte `mark` from there, or at the text's end. Bigrams are
-// parts with (32, 2) of a processed text, common prefixes parts with (10, 1) of a list of lines. Assumes nothing of the starts: one past the end
-// is an empty part.
+// The order of a text's parts. A part is named by where it starts: it ends at the last of so many bytes `mark` from there, or at the text's end.
+// Bigrams are parts of a processed text, common prefixes parts of a list of lines. Assumes nothing of the starts: one past the end is an empty part.
 #![tactic(auto)]
 
 ghost use Rattle.std.specs.Prelude.{◌≡◌, ◌+◌, length, drop};
-ghost use Rattle.sort_spread.specs.Sort.{ends_part, marks_left, part_of, part_later};
+ghost use Rattle.sort_spread.specs.Sort.{ends_part, marks_left, part_of, lex_later, part_later};
 
-// Whether x ends a part, with `left` marks left.
-pub fn ends_part(x: u8, mark: u8, left: usize) -> bool
-    ensures { result ≡ ends_part mark left x }
-{
-    if x == mark {
-        return left < 2;
-    }
-    false
+use slices::lead::rest;
+
+// What ends a part: the byte `mark`, where as many as `times` of them are to come.
+#[derive(Clone, Copy)]
+pub struct Cut {
+    pub mark: u8,
+    pub times: usize,
 }
 
-// Whether the part that starts at a comes after the one that starts at b.
-pub fn part_after(text: &[u8], a: usize, b: usize, mark: u8, c: usize) -> bool
-    ensures { result ≡ part_later mark c text.now a b }
-{
-    let mut i = a;
-    let mut j = b;
-    let mut left = c;
-    while i < text.len() {
-        let x = text[i];
-        if ends_part(x, mark, left) {
-            return false;
+// A bigram ends at the second space.
+pub const BIGRAM: Cut = Cut { mark: 32, times: 2 };
+
+// A line ends at the first newline.
+pub const LINE: Cut = Cut { mark: 10, times: 1 };
+
+impl Cut {
+    // Whether x ends a part.
+    pub fn ends_at(self, x: u8) -> bool
+        ensures { result ≡ ends_part self.mark self.times x }
+    {
+        x == self.mark && self.times < 2
+    }
+
+    // What ends the part past x: one mark less where x is one.
+    pub fn past(self, x: u8) -> Cut
+        ensures { result ≡ record { mark = self.mark; times = marks_left self.mark self.times x } }
+    {
+        if x == self.mark {
+            return Cut {
+                mark: self.mark,
+                times: self.times.saturating_sub(1),
+            };
         }
-        if text.len() <= j {
-            return true;
-        }
-        let y = text[j];
-        if y != x {
-            if ends_part(y, mark, left) {
-                return true;
+        self
+    }
+
+    // Whether the part that one slice begins with comes after the one that the other does.
+    fn is_after(self, first: &[u8], second: &[u8]) -> bool
+        ensures { result ≡ lex_later (part_of self.mark self.times first.now) (part_of self.mark self.times second.now) }
+    {
+        let mut cut = self;
+        let mut others = second.iter();
+        for x in first {
+            if cut.ends_at(*x) {
+                return false;
             }
-            return y < x;
+            let Some(y) = others.next() else {
+                return true;
+            };
+            if *y != *x {
+                return cut.ends_at(*y) || *y < *x;
+            }
+            cut = cut.past(*x);
         }
-        left = marks_left(left, x, mark);
-        i = i + 1;
-        j = j + 1;
+        false
     }
-    false
-}
 
-// One mark less where x is one.
-pub fn marks_left(left: usize, x: u8, mark: u8) -> usize
-    ensures { result ≡ marks_left mark left x }
-{
-    if x == mark {
-        if left < 1 {
-            return 0;
-        }
-        return left - 1;
+    // Whether the part that starts at a comes after the one that starts at b.
+    pub fn part_after(self, text: &[u8], a: usize, b: usize) -> bool
+        ensures { result ≡ part_later self.mark self.times text.now a b }
+    {
+        self.is_after(rest(text, a), rest(text, b))
     }
-    left
-}
 
-// Where the part that starts at a ends.
-pub fn part_end(text: &[u8], a: usize, mark: u8, c: usize) -> usize
-    ensures { result ≡ a + length (part_of mark c (drop a text.now)) }
-{
-    let mut i = a;
-    let mut left = c;
-    while i < text.len() {
-        let x = text[i];
-        if ends_part(x, mark, left) {
-            return i;
+    // Where the part that starts at a ends.
+    pub fn part_end(self, text: &[u8], a: usize) -> usize
+        ensures { result ≡ a + length (part_of self.mark self.times (drop a text.now)) }
+    {
+        let mut cut = self;
+        for i in a..text.len() {
+            let x = text[i];
+            if cut.ends_at(x) {
+                return i;
+            }
+            cut = cut.past(x);
         }
-        left = marks_left(left, x, mark);
-        i = i + 1;
+        a.max(text.len())
     }
-    i
 }

@@ -5,7 +5,7 @@
 use mathlib.Core.Path.{◌≡◌, refl, sym, ap, ◌∙◌}
 use mathlib.Core.Logic.{◌⊎◌, ⊎_elim}
 use mathlib.Core.List.{List}
-use Prim.Native.Nat.{ℕ, ◌+◌, ◌-◌, ◌≤◌, ◌<◌}
+use Prim.Native.Nat.{ℕ, ◌+◌, ◌≤◌, ◌<◌}
 use native.Mathlib.Omega.{arith}
 use lib.ListN.{length, take, drop, set, get_or, length-set}
 use lib.Seq.{slice, drop-set-lt}
@@ -75,25 +75,23 @@ module _ {key : ℕ → ℕ} {p₀ p c : List ℕ} {from to k i : ℕ} (s : Plac
   placing_end h most = (spreading_end s.placed (omega (arith, length_part from k p₀ s.fits)) most, s.rest)
 
 -- ---- there and back
-pub record SpreadPass (p₀ p : List ℕ) (k d : ℕ) : Type 0 where
-  pub few : d ≤ 12
+pub record SpreadPass (p₀ p : List ℕ) (k : ℕ) : Type 0 where
   pub long : length p ≡ length p₀
   pub same : Shuffled (take k p) (take k p₀)
   pub rest : drop (k + k) p ≡ drop (k + k) p₀
 
-pub passing_start : (p : List ℕ) (k : ℕ) → SpreadPass p p k 12
-passing_start p k = record { few = omega arith; long = refl; same = λ q. refl; rest = refl }
+pub passing_start : (p : List ℕ) (k : ℕ) → SpreadPass p p k
+passing_start p k = record { long = refl; same = λ q. refl; rest = refl }
 
-pub passing_next : {p₀ p : List ℕ} {k d : ℕ} → SpreadPass p₀ p k d → (p₁ p₂ : List ℕ) → length p₁ ≡ length p → length p₂ ≡ length p₁ →
+pub passing_next : {p₀ p : List ℕ} {k : ℕ} → SpreadPass p₀ p k → (p₁ p₂ : List ℕ) → length p₁ ≡ length p → length p₂ ≡ length p₁ →
     Shuffled (slice k (k + k) p₁) (slice 0 (0 + k) p) × (drop (k + k) p₁ ≡ drop (k + k) p) →
-    Shuffled (slice 0 (0 + k) p₂) (slice k (k + k) p₁) × (drop (0 + k) p₂ ≡ drop (0 + k) p₁) → SpreadPass p₀ p₂ k (d - 2)
-passing_next {p₀} {p} {k} {d} s p₁ p₂ n m there back =
+    Shuffled (slice 0 (0 + k) p₂) (slice k (k + k) p₁) × (drop (0 + k) p₂ ≡ drop (0 + k) p₁) → SpreadPass p₀ p₂ k
+passing_next {p₀} {p} {k} s p₁ p₂ n m there back =
     let z : 0 + k ≡ k = omega arith in
     let a : Shuffled (slice k (k + k) p₁) (take k p) = rw z at there.0 in
     let b : Shuffled (take k p₂) (slice k (k + k) p₁) = rw z at back.0 in
     let r : drop k p₂ ≡ drop k p₁ = rw z at back.1 in
     record {
-      few = omega (arith, s.few);
       long = m ∙ n ∙ s.long;
       same = λ q. b q ∙ a q ∙ s.same q;
       rest = drop_back k p₂ p₁ r (k + k) (omega arith) ∙ there.1 ∙ s.rest;

@@ -15,23 +15,18 @@ fn byte_from(text: &[u8], start: u32, d: usize) -> usize
     ensures { (result ≡ byte_from d text.now start) × (result < 256) }
 {
     let at = wide(start) + d;
-    if at < text.len() {
-        return text[at] as usize;
-    }
-    0
+    text.get(at).map_or(0, |x| usize::from(*x))
 }
 
-// Each counter, from 0, becomes how many of the k starts have its byte.
-fn count_bytes(text: &[u8], p: &[u32], from: usize, k: usize, d: usize, c: &mut [u32; 256])
-    requires k_in_bounds { (from + k ≤ length p.now) × (k < 4294967296) × (d < 12) }
+// Each counter, from 0, becomes how many of the starts have its byte.
+fn count_bytes(text: &[u8], starts: &[u32], d: usize, c: &mut [u32; 256])
+    requires few { (length starts.now < 4294967296) × (d < 12) }
     requires counters { Counters (λ b. 0) c.old }
-    ensures { Counters (keyed (byte_from d text.now) (slice from (from + k) p.now)) c.new }
+    ensures { Counters (keyed (byte_from d text.now) starts.now) c.new }
 {
-    let mut i = 0;
-    while i < k {
-        let b = byte_from(text, p[from + i], d);
-        c[b] = c[b] + 1;
-        i = i + 1;
+    for x in starts {
+        let b = byte_from(text, *x, d);
+        c[b] += 1;
     }
 }
 
@@ -41,12 +36,10 @@ fn sum_counts(c: &mut [u32; 256])
     ensures { Counters (λ b. added (take b c.old)) c.new }
 {
     let mut sum = 0;
-    let mut b = 0;
-    while b < 256 {
-        let n = c[b];
-        c[b] = sum;
-        sum = sum + n;
-        b = b + 1;
+    for x in c {
+        let n = *x;
+        *x = sum;
+        sum += n;
     }
 }
 
@@ -66,14 +59,12 @@ fn place_starts(
     ensures same { Shuffled (slice to (to + k) p.new) (slice from (from + k) p.old) }
     ensures rest { drop (to + k) p.new ≡ drop (to + k) p.old }
 {
-    let mut i = 0;
-    while i < k {
+    for i in 0..k {
         let x = p[from + i];
         let b = byte_from(text, x, d);
         let w = c[b];
         p[to + wide(w)] = x;
         c[b] = w + 1;
-        i = i + 1;
     }
 }
 
@@ -85,7 +76,7 @@ fn spread_by(text: &[u8], p: &mut [u32], from: usize, to: usize, k: usize, d: us
     ensures rest { drop (to + k) p.new ≡ drop (to + k) p.old }
 {
     let mut c: [u32; 256] = [0; 256];
-    count_bytes(text, p, from, k, d, &mut c);
+    count_bytes(text, &p[from..from + k], d, &mut c);
     sum_counts(&mut c);
     place_starts(text, p, from, to, k, d, &mut c);
 }
@@ -100,10 +91,9 @@ pub fn spread_all(text: &[u8], p: &mut [u32], k: usize)
     if k < 64 {
         return;
     }
-    let mut d = 12;
-    while 1 < d {
-        spread_by(text, p, 0, k, k, d - 1);
-        spread_by(text, p, k, 0, k, d - 2);
-        d = d - 2;
+    for turn in (0..6).rev() {
+        let d = turn * 2;
+        spread_by(text, p, 0, k, k, d + 1);
+        spread_by(text, p, k, 0, k, d);
     }
 }

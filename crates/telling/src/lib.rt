@@ -58,16 +58,9 @@ fn print_record(numbers: &[u32])
     print_number(numbers[5]);
 }
 
-// So many records of a results area. A scan records no more than the area holds, so the test of the room never fails.
+// So many records of a results area, or as many as it holds.
 pub fn print_records(results: &[u32], records: u32) {
-    let mut at: usize = 0;
-    let mut left = records;
-    while 0 < left {
-        if results.len() - at < RECORD_WIDTH {
-            return;
-        }
-        print_record(&results[at..]);
-        at += RECORD_WIDTH;
-        left -= 1;
+    for record in results.chunks_exact(RECORD_WIDTH).take(records as usize) {
+        print_record(record);
     }
 }

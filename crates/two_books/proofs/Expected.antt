@@ -8,12 +8,12 @@ use Prim.Native.Nat.{ℕ}
 use Prim.Native.String.{String}
 use lib.Ieee.{Float, to_bits, of_bits, binary32}
 use lib.ListN.{length, take}
+use Rattle.rules.specs.declared.Areas.{Areas}
 use Rattle.rules.specs.declared.Limits.{Limits}
 use Rattle.rules.specs.declared.Mode.TheVariants.{Elimination}
 use Rattle.rules.specs.Bytes.{text}
 use Rattle.rules.specs.Search.{view}
 use Rattle.rules.specs.Book.{part_in, written, compiled}
-use Rattle.rules.specs.Refusal.{Areas}
 use Rattle.rules.specs.Jobs.{scan, score_job, bounds_job}
 use Rattle.rules.proofs.Opened.{opened}
 use Rattle.questions.specs.Hex.{hex_glyph, hex_pairs}

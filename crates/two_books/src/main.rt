@@ -6,9 +6,10 @@
 // `lines_hold`, one equation by `refl`). Assumes nothing but the C library's write.
 #![tactic(auto)]
 
+use answers_c::{BoundsFound, NoteScanned, ViewScored};
 use bounds_job::bounds_both;
 use detection_part::name_part;
-use rules::{Limits, Mode, Named, Scanned, View};
+use rules::{Limits, Mode, Named, View};
 use scan_job::{scan, scan_both};
 use score_job::score_both;
 use telling::{print, print_bits, print_count, print_number, score_bits};
@@ -45,13 +46,18 @@ fn tell_part<'a>(first: &'a [u8], second: &'a [u8], part: Named) {
     print(b"\x0a");
 }
 
-fn tell_answer<'a>(first: &'a [u8], second: &'a [u8], answer: Scanned) {
+fn tell_answer<'a>(first: &'a [u8], second: &'a [u8], answer: NoteScanned) {
     print_number(answer.refusal);
     print(b" ");
     print_count(answer.count);
     print(b" ");
     print_number(answer.kind);
-    tell_part(first, second, answer.part);
+    let part = Named {
+        second: answer.second,
+        at: answer.at,
+        len: answer.len as usize,
+    };
+    tell_part(first, second, part);
 }
 
 fn limits() -> Limits {
@@ -78,7 +84,7 @@ fn tell_both<'a>(note: &[u8], first: &'a [u8], second: &'a [u8], budget: u64) {
         &mut words,
         &mut results,
     );
-    tell_answer(first, second, answer);
+    tell_answer(first, second, NoteScanned::from(answer));
 }
 
 // Elimination over one: its name's part is of this book.
@@ -97,7 +103,7 @@ fn tell_alone(note: &[u8], book: &[u8]) {
         &mut words,
         &mut results,
     );
-    tell_answer(book, &book[..0], answer);
+    tell_answer(book, &book[..0], NoteScanned::from(answer));
 }
 
 // The whole note, of one line, against stored text k.
@@ -105,12 +111,12 @@ fn tell_view<'a>(note: &[u8], first: &'a [u8], second: &'a [u8], k: u32) {
     let mut area = byte_area();
     let mut words = word_area();
     let v = View { start: 0, end: 1 };
-    let scored = score_both(note, first, second, v, k, &mut area, &mut words);
+    let scored = ViewScored::from(score_both(note, first, second, v, k, &mut area, &mut words));
     print_number(scored.refusal);
     print(b" ");
     print_bits(score_bits(scored.score));
     print(b" ");
-    let found = bounds_both(note, first, second, v, k, &mut area, &mut words);
+    let found = BoundsFound::from(bounds_both(note, first, second, v, k, &mut area, &mut words));
     print_number(found.refusal);
     print(b" ");
     print_number(found.first);

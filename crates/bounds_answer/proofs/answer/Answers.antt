@@ -1,37 +1,36 @@
 -- `bounds_answer::answer` meets its contract: case by case.
 -- Assumes nothing.
-use mathlib.Core.Path.{◌≡◌, sym, ap, subst, ◌∙◌}
+use mathlib.Core.Path.{◌≡◌, sym, ap, subst}
 use Prim.Native.Nat.{ℕ, ◌≤◌}
 use native.Mathlib.Omega.{arith}
+use Rattle.std.proofs.Common.{Option, Some}
 use Rattle.rules.specs.declared.Bounds.{Bounds}
 use Rattle.rules.specs.Sizes.{lines_most}
-use Rattle.license_bounds.specs.declared.Ranged.{Ranged}
-use Rattle.license_bounds.specs.declared.Ranged.TheVariants.{Found}
-use Rattle.license_charge.specs.declared.Scorings.{Scorings}
+use Rattle.license_charge.specs.declared.Charged.{Charged}
 use Rattle.bounds_answer.specs.Answers.{answer_for, FitsAnswer}
 use Rattle.bounds_answer.proofs.answer.Goals as goal
 
 -- what is found fits
-fits : (x : Ranged) (budget : ℕ) (b : Bounds) (left : Scorings) → FitsAnswer x budget → x ≡ Found b left → (b.first ≤ lines_most) × (b.after ≤ lines_most) × (left.count ≤ budget)
+fits : (x : Option (Charged Bounds)) (budget : ℕ) (y : Charged Bounds) → FitsAnswer x budget → x ≡ Some y → (y.value.first ≤ lines_most) × (y.value.after ≤ lines_most) × (y.left.count ≤ budget)
 unfolding FitsAnswer
-fits x budget b left h e = subst (λ (y : Ranged). FitsAnswer y budget) e h
+fits x budget y h e = subst (λ (z : Option (Charged Bounds)). FitsAnswer z budget) e h
 
 pub overflow_cast-result : goal.overflow_cast-result
-overflow_cast-result c = let f = fits _ _ _ _ c.requires c.in-Found.is in
+overflow_cast-result c = let f = fits _ _ _ c.requires c.in_ok-charged.was in
     omega (arith, f.0, f.1)
 
-pub overflow_cast-result-in-Found : goal.overflow_cast-result-in-Found
-overflow_cast-result-in-Found c = let f = fits _ _ _ _ c.requires c.in-Found.is in
+pub overflow_cast-result-2 : goal.overflow_cast-result-2
+overflow_cast-result-2 c = let f = fits _ _ _ c.requires c.in_ok-charged.was in
     omega (arith, f.0, f.1)
 
 pub overflow_sub-result : goal.overflow_sub-result
-overflow_sub-result c = let f = fits _ _ _ _ c.requires c.in-Found.is in
-    omega (arith, f.2, c.count_of.ensures)
+overflow_sub-result c = let f = fits _ _ _ c.requires c.in_ok-charged.was in
+    omega (arith, f.2, c.count.ensures)
 
-pub returns-in-Found : goal.returns-in-Found
+pub returns-in_err-charged : goal.returns-in_err-charged
 unfolding answer_for
-returns-in-Found c = rw c.count_of.ensures (sym (ap (λ (x : Ranged). answer_for x c.args.budget) c.in-Found.is))
+returns-in_err-charged c = rw c.from_residual.ensures (sym (ap (λ (x : Option (Charged Bounds)). answer_for x c.args.budget) c.in_err-charged.was))
 
-pub returns-in-Out : goal.returns-in-Out
+pub returns : goal.returns
 unfolding answer_for
-returns-in-Out c = c.refused.ensures ∙ sym (ap (λ (x : Ranged). answer_for x c.args.budget) c.in-Out.is)
+returns c = rw c.count.ensures (sym (ap (λ (x : Option (Charged Bounds)). answer_for x c.args.budget) c.in_ok-charged.was))

@@ -1,17 +1,15 @@
 -- `bounds_work::bounds_laid` meets its contract: the note's lines are laid, the stored text's body is found, and the budget pays the search.
 -- Assumes nothing.
-use mathlib.Core.Path.{sym, ap, ◌∙◌}
+use mathlib.Core.Path.{◌∙◌}
 use native.Mathlib.Omega.{arith}
 use Rattle.slices.proofs.KindLaws.{edition-classes}
 use Rattle.license_notes.proofs.LaidLaws.{noted_lines}
 use lib.ListN.{get_or}
 use Rattle.rules.specs.Lines.{lines}
-use Rattle.rules.specs.Book.{edition}
 use Rattle.rules.specs.Search.{no_text}
+use Rattle.rules.specs.Book.{edition}
 use Rattle.detection_shelf.specs.Shelves.{shelf, texts}
-use Rattle.detection_shelf.specs.Bodies.{table_of_body}
-use Rattle.detection_shelf.proofs.ShelfLaws.{stored-table}
-use Rattle.bounds_work.proofs.BoundsWorkLaws.{answer_fits, answer-is, bounds-found}
+use Rattle.bounds_work.proofs.BoundsWorkLaws.{body_read, found_some, answer_fits, answer-is, found_told, bounds-found}
 use Rattle.bounds_work.proofs.bounds_laid.Goals as goal
 
 pub lay-lines-requires : goal.lay-lines-requires
@@ -27,19 +25,22 @@ body_of-body-requires c = c.stored_on-found.ensures.0
 pub find_bounds-ranged-requires : goal.find_bounds-ranged-requires
 find_bounds-ranged-requires c = let p = c.requires.view_through in record { working = record { laid = c.lay-lines.ensures.laid; classes = edition-classes _ c.class_table-class.ensures; sound = rw c.body_of-body.ensures c.stored_on-found.ensures.0.found.is.sound }; start_le_end = (omega (arith, p.start), omega (arith, p.end, c.lay-lines.ensures.count), omega (arith, p.both.few, c.lay-lines.ensures.count)) }
 
-pub answer-requires : goal.answer-requires
-answer-requires c = let p = c.requires.view_through in
-    let books = shelf c.args.book.now c.args.second.now in
-    let wanted = get_or (texts books) c.args.k no_text in
-    let text = stored-table books _ _ c.stored_on-found.ensures.0 c.stored_on-found.ensures.1 ∙ ap table_of_body (sym c.body_of-body.ensures) in
-    answer_fits _ _ _ p.start (omega (arith, p.end, p.both.few)) _ _ c.scorings_of.ensures (c.find_bounds-ranged.ensures.found wanted text)
+pub answer-located-requires : goal.answer-located-requires
+answer-located-requires c = let p = c.requires.view_through in
+    answer_fits _ _ _ p.start (omega (arith, p.end, p.both.few)) _ _ c.of.ensures (c.find_bounds-ranged.ensures.found (get_or (texts (shelf c.args.book.now c.args.second.now)) c.args.k no_text) (body_read c.stored_on-found.ensures.0 c.stored_on-found.ensures.1 c.body_of-body.ensures))
+
+pub unwrap-requires : goal.unwrap-requires
+unwrap-requires c = let p = c.requires.view_through in
+    found_some
+    (c.answer-located.ensures ∙
+    answer-is _ _ _ p.start (omega (arith, p.end, p.both.few)) _ _ c.of.ensures (c.find_bounds-ranged.ensures.found (get_or (texts (shelf c.args.book.now c.args.second.now)) c.args.k no_text) (body_read c.stored_on-found.ensures.0 c.stored_on-found.ensures.1 c.body_of-body.ensures)))
 
 pub returns : goal.returns
 returns c = let a = c.args in
     let p = c.requires.view_through in
-    let books = shelf a.book.now a.second.now in
-    let wanted = get_or (texts books) a.k no_text in
-    let text = stored-table books _ _ c.stored_on-found.ensures.0 c.stored_on-found.ensures.1 ∙ ap table_of_body (sym c.body_of-body.ensures) in
-    bounds-found (lines (edition a.book.now) a.text.now) (texts books) _ a.v a.k _ p.start (omega (arith, p.end, p.both.few))
+    bounds-found (lines (edition a.book.now) a.text.now) (texts (shelf a.book.now a.second.now)) _ a.v a.k _ p.start (omega (arith, p.end, p.both.few))
     (noted_lines _ _ _ _ _ c.edition_of.ensures c.class_table-class.ensures c.lay-lines.ensures.lines)
-    (c.answer.ensures ∙ answer-is _ _ _ p.start (omega (arith, p.end, p.both.few)) _ _ c.scorings_of.ensures (c.find_bounds-ranged.ensures.found wanted text))
+    (found_told
+    (c.answer-located.ensures ∙
+    answer-is _ _ _ p.start (omega (arith, p.end, p.both.few)) _ _ c.of.ensures (c.find_bounds-ranged.ensures.found (get_or (texts (shelf c.args.book.now c.args.second.now)) c.args.k no_text) (body_read c.stored_on-found.ensures.0 c.stored_on-found.ensures.1 c.body_of-body.ensures)))
+    c.unwrap.ensures)

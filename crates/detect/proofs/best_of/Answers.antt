@@ -9,6 +9,7 @@ use Rattle.rules.specs.Table.{Table, value_of}
 use Rattle.floors.specs.Floors.{Judged}
 use Rattle.detection_shelf.specs.Bodies.{table_of_body}
 use Rattle.license_views.specs.Tabled.{table_over}
+use Rattle.std.specs.Prelude.{Option}
 use Rattle.detect_best.specs.declared.Best.{Best}
 use Rattle.detect_best.specs.Beats.{Betters}
 use Rattle.detect.proofs.BestLaws.{Walking, walk_first, walk_step, walk-out, walk_end}
@@ -27,7 +28,7 @@ module _ (f : After-first_spot-spot) where
 -- one that can pay: its text is found, and then it is scored and passed
 module _ (f : After-next_on-text) where
   some_left : 0 < f.loop-spot.left.count
-  some_left = f.spent.ensures.some_left f.if-spent.false
+  some_left = f.is_spent.ensures.some_left f.if-is_spent.false
 
 module _ (p : After-after_on-spot) where
   abbrev first_spot_of_p : After-first_spot-spot
@@ -39,7 +40,7 @@ module _ (p : After-after_on-spot) where
   less : p.args.texts.all - p.after_on-spot.result.number < p.args.texts.all - p.loop-spot.spot.number
   less = omega (arith, p.next_on-text.ensures.1, p.loop-spot-test.true, ap (λ (x : Spot). x.number) p.after_on-spot.ensures)
 
-  step : (after : Best) → Betters p.loop-spot.best (record { text = p.next_on-text.result; value = p.charge-c.result.value }) after →
+  step : (after : Option Best) → Betters p.loop-spot.best (record { text = p.next_on-text.result; value = p.charge-c.result.value }) after →
       Walking (books first_spot_of_p) (viewed first_spot_of_p) p.args.floor p.args.budget.count after
       p.charge-c.result.left.count p.after_on-spot.result
   step after b =
@@ -51,10 +52,10 @@ module _ (p : After-after_on-spot) where
       p.charge-c.ensures.left p.after_on-spot.ensures
 
 pub loop-spot-init : goal.loop-spot-init
-loop-spot-init c = walk_first (books (goal.at.loop-spot-init c).After-first_spot-spot) _ _ _ _ _ _ c.requires.counts_of c.no_best-best.ensures c.first_spot-spot.ensures
+loop-spot-init c = walk_first (books (goal.at.loop-spot-init c).After-first_spot-spot) _ _ _ _ _ c.requires.counts_of c.first_spot-spot.ensures
 
-pub returns-then-spent : goal.returns-then-spent
-returns-then-spent c = walk-out c.loop-spot.invariant c.args.texts.all c.requires.counts_of.all c.loop-spot-test.true (c.spent.ensures.none_left c.if-spent.true)
+pub returns-then-is_spent : goal.returns-then-is_spent
+returns-then-is_spent c = walk-out c.loop-spot.invariant c.args.texts.all c.requires.counts_of.all c.loop-spot-test.true (c.is_spent.ensures.none_left c.if-is_spent.true)
 
 pub next_on-text-requires : goal.next_on-text-requires
 next_on-text-requires c = record { counts_of = c.requires.counts_of; before_on = (c.loop-spot.invariant.before, c.loop-spot-test.true) }

@@ -5,8 +5,8 @@ use lib.ListN.{length}
 use Prim.Native.Nat.{◌-◌}
 use Rattle.detection_bodies.proofs.walk_table.Given as goal
 
-abbrev pub invariant-loop-count : goal.invariant-loop-count
-invariant-loop-count l = EntryRun l.wide l.body l.at l.last l.sum l.entries
+abbrev pub invariant-loop-found : goal.invariant-loop-found
+invariant-loop-found l = EntryRun l.wide l.body l.at l.last l.sum l.entries
 
-abbrev pub decreases-loop-count : goal.decreases-loop-count
-decreases-loop-count l = length l.body - l.at
+abbrev pub decreases-loop-found : goal.decreases-loop-found
+decreases-loop-found l = length l.body - l.at

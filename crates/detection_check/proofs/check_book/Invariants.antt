@@ -5,8 +5,8 @@ use lib.ListN.{length}
 use Prim.Native.Nat.{◌-◌}
 use Rattle.detection_check.proofs.check_book.Given as goal
 
-abbrev pub invariant-loop-w : goal.invariant-loop-w
-invariant-loop-w l = CheckWalk l.book l.walk
+abbrev pub invariant-loop-next : goal.invariant-loop-next
+invariant-loop-next l = CheckWalk l.book l.walk
 
-abbrev pub decreases-loop-w : goal.decreases-loop-w
-decreases-loop-w l = length l.book - l.walk.at
+abbrev pub decreases-loop-next : goal.decreases-loop-next
+decreases-loop-next l = length l.book - l.walk.at

@@ -4,7 +4,7 @@ use mathlib.Core.Path.{◌≡◌}
 use native.Mathlib.Omega.{arith}
 use lib.ListN.{length}
 use borrow.Author.Tests.{ne_eqb}
-use Rattle.rules.specs.Book.{number, sound_edition}
+use Rattle.rules.specs.Book.{sound_edition}
 use Rattle.detection_edition.proofs.EditionLaws.{edition-within, edition-below}
 use borrow.Author.Rules.{rules}
 use Rattle.detection_edition.proofs.edition_sound.Goals as goal

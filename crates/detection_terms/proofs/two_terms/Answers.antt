@@ -4,7 +4,7 @@ use mathlib.Core.List.{List}
 use Prim.Native.Nat.{ℕ, ◌+◌, ◌<◌}
 use native.Mathlib.Omega.{arith}
 use lib.ListN.{length, get_or, drop}
-use borrow.Author.Tests.{not-true, not-false}
+use borrow.Author.Tests.{le-ltb, not-true, not-false}
 use Rattle.detection_terms.specs.Terms.{plain_term, wide_term}
 use Rattle.detection_terms.proofs.TermLaws.{two_terms_lem, on-plain, on_again, on-early, on-space, on-ascii, on_bad, on-wide, left_one, left_two, wide-within}
 use Rattle.detection_terms.proofs.two_terms.Goals as goal
@@ -80,8 +80,11 @@ loop-i-preserved c = let else_not_wide_at = (goal.at.loop-i-preserved c).Else-no
     (omega (arith, c.loop-i.invariant.0), omega (arith, within else_not_wide_at), sym e ∙ c.loop-i.invariant.2)
 
 -- at the end
-pub returns-then-start-eq0 : goal.returns-then-start-eq0
-returns-then-start-eq0 c = sym (left_one c.args.wide c.args.s.now c.loop-i.start c.loop-i.i c.loop-i-test.false c.if-start-eq0.true) ∙ c.loop-i.invariant.2
+pub returns-then-start-gt0 : goal.returns-then-start-gt0
+returns-then-start-gt0 c = let n : c.loop-i.start ≡ 0 → ⊥ = λ z. omega (arith, c.if-start-gt0.true) in
+    sym (left_two c.args.wide c.args.s.now c.loop-i.start c.loop-i.i c.loop-i-test.false c.loop-i.invariant.1 n) ∙ c.loop-i.invariant.2
 
-pub returns : goal.returns
-returns c = sym (left_two c.args.wide c.args.s.now c.loop-i.start c.loop-i.i c.loop-i-test.false c.loop-i.invariant.1 c.if-start-eq0.false) ∙ c.loop-i.invariant.2
+pub returns-else-start-gt0 : goal.returns-else-start-gt0
+returns-else-start-gt0 c = let k = c.loop-i.start in
+    le-ltb 0 k (omega (arith, c.if-start-gt0.false)) ∙
+    sym (left_one c.args.wide c.args.s.now k c.loop-i.i c.loop-i-test.false (omega (arith, c.if-start-gt0.false))) ∙ c.loop-i.invariant.2

@@ -1,17 +1,15 @@
-use mathlib.Core.Bool.{not}
-use mathlib.Core.Path.{sym, ◌∙◌, ap}
-use borrow.Author.Tests.{not-true, not-false}
-use Rattle.slices.proofs.LeadLaws.{led_start, led_more, led_stop, led_end}
+-- `ids`: how many bytes the walk takes is what `lead` counts.
+-- Assumes nothing.
+use Rattle.std.proofs.Common.{List, ℕ, drop, sym, ◌∙◌, rules, tests}
+use Rattle.std.proofs.lemmas.Iterator.{YieldsList-from_slice}
+use Rattle.std.proofs.lemmas.Iterator.Consumers.{count_from_yields_List}
+use Rattle.std.proofs.lemmas.Iterator.Search.{YieldsList-from_take_while}
+use Rattle.std.proofs.lemmas.List.Folds.{length-prefix_len}
+use Rattle.expression.specs.Reading.{id_byte}
+use Rattle.expression_bytes.proofs.FrontLaws.{lead_prefix}
 use Rattle.expression_bytes.proofs.ids.Goals as goal
 
-pub loop-i-init : goal.loop-i-init
-loop-i-init c = led_start _ _ _
-
-pub returns-then-not-id_byte : goal.returns-then-not-id_byte
-returns-then-not-id_byte c = led_stop c.loop-i-test.true (sym c.id_byte.ensures ∙ not-true _ (ap not c.if-not-id_byte.true)) c.loop-i.invariant
-
-pub loop-i-preserved : goal.loop-i-preserved
-loop-i-preserved c = led_more c.loop-i-test.true (sym c.id_byte.ensures ∙ not-false _ (ap not c.if-not-id_byte.false)) c.loop-i.invariant
-
 pub returns : goal.returns
-returns c = led_end c.loop-i-test.false c.loop-i.invariant
+returns c =
+    let s : List ℕ = drop c.args.at c.args.text.now in
+    count_from_yields_List c.take_while.result _ c.count.ensures.ran (YieldsList-from_take_while _ id_byte (YieldsList-from_slice s (cc)) c.take_while.ensures.closure c.take_while.ensures.done (λ x b q k. search (rules, tests))) ∙ length-prefix_len id_byte s ∙ sym (lead_prefix id_byte s)

@@ -1,28 +1,14 @@
-use mathlib.Core.Path.{◌≡◌, refl, sym, ap, ◌∙◌}
-use mathlib.Core.Bool.{Bool, ◌&&◌, not}
-use Prim.Native.Nat.{◌+◌}
-use native.Mathlib.Omega.{arith}
-use lib.ListN.{drop}
-use borrow.Author.Tests.{not-true, not-false}
-use Rattle.expression_spelling.specs.Flat.{spaced_out}
-use Rattle.expression_job.proofs.SpacedLaws.{spaced-next, spaced-end}
+-- `spaced_out`: each byte with the next.
+-- Assumes nothing.
+use Rattle.std.proofs.Common.{List, ℕ, sym, ◌∙◌, rules, tests}
+use Rattle.std.proofs.lemmas.Iterator.{YieldsList-from_slice, YieldsList-from_zip}
+use Rattle.std.proofs.lemmas.Iterator.Adapters.{YieldsList-from_skip}
+use Rattle.std.proofs.lemmas.Iterator.Search.{all_from_yields_List}
+use Rattle.expression_job.proofs.SpacedLaws.{pair_apart, spaced_pairs}
 use Rattle.expression_job.proofs.spaced_out.Goals as goal
-use Rattle.expression_job.proofs.spaced_out.Goals.{After-apart}
-
-pub loop-i-init : goal.loop-i-init
-unfolding drop
-loop-i-init c = (omega arith, refl)
-
--- the pair at i
-module _ (d : After-apart) where
-  step : {b : Bool} → d.apart.result ≡ b → spaced_out d.args.text.now ≡ (b && spaced_out (drop (d.loop-i.i + 1) d.args.text.now))
-  step e = d.loop-i.invariant.1 ∙ spaced-next d.args.text.now d.loop-i.i d.loop-i-test.true ∙ ap (λ (x : Bool). x && spaced_out (drop (d.loop-i.i + 1) d.args.text.now)) (sym d.apart.ensures ∙ e)
-
-pub returns-then-not-apart : goal.returns-then-not-apart
-returns-then-not-apart c = sym (step (goal.at.returns-then-not-apart c).After-apart (not-true _ (ap not c.if-not-apart.true)))
-
-pub loop-i-preserved : goal.loop-i-preserved
-loop-i-preserved c = (let h = c.loop-i-test.true in omega arith, step (goal.at.loop-i-preserved c).After-apart (not-false _ (ap not c.if-not-apart.false)))
 
 pub returns : goal.returns
-returns c = sym (c.loop-i.invariant.1 ∙ spaced-end c.args.text.now c.loop-i.i c.loop-i-test.false)
+returns c =
+    let s : List ℕ = c.args.text.now in
+    all_from_yields_List pair_apart c.all.new.self _ _ c.all.ensures.ran (YieldsList-from_zip (YieldsList-from_slice s (cc)) (YieldsList-from_skip 1 (YieldsList-from_slice s (cc)) (cc))) (λ x b q k. search (rules, tests))
+    ∙ sym (spaced_pairs s)

@@ -13,7 +13,7 @@ use Rattle.expression_joints.proofs.and_word.Goals as goal
 use Rattle.expression_joints.proofs.and_word.Goals.{Else-not-stands}
 
 pub returns-then-not-stands : goal.returns-then-not-stands
-returns-then-not-stands c = laws.letter_bad c.args.text.now c.args.at 78 (68 ∷ []) (sym c.stands.ensures ∙ not-true _ (ap not c.if-not-stands.true))
+returns-then-not-stands c = laws.letter_bad c.args.text.now c.args.at 78 (68 ∷ []) (sym c.stands.ensures ∙ c.if-not-stands.true)
 
 -- the N stands
 module _ (e : Else-not-stands) where
@@ -24,13 +24,13 @@ module _ (e : Else-not-stands) where
   at = e.args.at
 
   n-here : head_is 78 (drop at text) ≡ true
-  n-here = sym e.stands.ensures ∙ not-false _ (ap not e.if-not-stands.false)
+  n-here = sym e.stands.ensures ∙ e.if-not-stands.false
 
 pub returns-then-not-stands-2 : goal.returns-then-not-stands-2
 returns-then-not-stands-2 c = let else_not_stands = (goal.at.returns-then-not-stands-2 c).Else-not-stands in
-    laws.letter_on (text else_not_stands) (at else_not_stands) 78 (68 ∷ []) (n-here else_not_stands) (laws.letter_bad (text else_not_stands) (at else_not_stands + 1) 68 [] (sym c.stands-2.ensures ∙ not-true _ (ap not c.if-not-stands-2.true)))
+    laws.letter_on (text else_not_stands) (at else_not_stands) 78 (68 ∷ []) (n-here else_not_stands) (laws.letter_bad (text else_not_stands) (at else_not_stands + 1) 68 [] (sym c.stands-2.ensures ∙ c.if-not-stands-2.true))
 
 pub returns : goal.returns
 returns c = let else_not_stands = (goal.at.returns c).Else-not-stands in
     laws.letter_on (text else_not_stands) (at else_not_stands) 78 (68 ∷ []) (n-here else_not_stands)
-    (laws.letter_on (text else_not_stands) (at else_not_stands + 1) 68 [] (sym c.stands-2.ensures ∙ not-false _ (ap not c.if-not-stands-2.false)) (laws.at_place [] (omega arith) c.after_word.ensures))
+    (laws.letter_on (text else_not_stands) (at else_not_stands + 1) 68 [] (sym c.stands-2.ensures ∙ c.if-not-stands-2.false) (laws.at_place [] (omega arith) c.after_word.ensures))

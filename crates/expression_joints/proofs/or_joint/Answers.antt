@@ -7,6 +7,7 @@ use lib.ListN.{length}
 use Rattle.expression_bytes.proofs.FrontLaws.{head-within}
 use Rattle.expression_joints.specs.Joints.{or_text}
 use borrow.Author.Rules.{rules}
+use Rattle.std.proofs.lemmas.Result.{err_from_is_err_and}
 use Rattle.expression_joints.proofs.JointLaws as laws
 use Rattle.expression_joints.proofs.or_joint.Goals as goal
 
@@ -16,11 +17,13 @@ overflow_add-at c = let h = head-within c.args.text.now c.args.at 79 c.requires 
 pub or_word-requires : goal.or_word-requires
 or_word-requires c = omega (arith, head-within c.args.text.now c.args.at 79 c.requires)
 
-pub returns-in-Bad : goal.returns-in-Bad
-returns-in-Bad c = laws.joint_off (λ t l fs. laws.or_begins c.args.text.now c.args.at t l fs c.requires) c.in-Bad.is c.or_word.ensures refl
+pub returns-in_err-next : goal.returns-in_err-next
+returns-in_err-next c =
+    let p = err_from_is_err_and c.from_residual.result c.from_residual.ensures.1 in
+    rw (p.1, p.2) (laws.joint_off (λ t l fs. laws.or_begins c.args.text.now c.args.at t l fs c.requires) c.in_err-next.was c.or_word.ensures refl)
 
-pub returns-in-At : goal.returns-in-At
-returns-in-At c = let a = c.args in
-    let l : length a.out.now < 18446744073709551616 = omega (arith, c.well_formed.1.1.0.0) in
-    laws.joint_on (λ t l fs. laws.or_begins a.text.now a.at t l fs c.requires) c.in-At.is c.or_word.ensures
-    (laws.lays_more a.from a.to a.out.now (λ bs. bs) or_text l (laws.lays_same a.from a.to a.out.now) c.put_word.ensures)
+pub returns : goal.returns
+returns c = let a = c.args in
+    let l : length a.out.now < 18446744073709551616 = omega arith in
+    laws.joint_on (λ t l fs. laws.or_begins a.text.now a.at t l fs c.requires) c.in_ok-next.was c.or_word.ensures
+    (laws.lays_more a.from a.to a.out.now (λ bs. bs) or_text l (laws.lays_same a.from a.to a.out.now) c.put-end.ensures)

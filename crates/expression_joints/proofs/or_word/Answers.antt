@@ -8,7 +8,7 @@ use Rattle.expression_joints.proofs.JointLaws as laws
 use Rattle.expression_joints.proofs.or_word.Goals as goal
 
 pub returns-then-not-stands : goal.returns-then-not-stands
-returns-then-not-stands c = laws.letter_bad c.args.text.now c.args.at 82 [] (sym c.stands.ensures ∙ not-true _ (ap not c.if-not-stands.true))
+returns-then-not-stands c = laws.letter_bad c.args.text.now c.args.at 82 [] (sym c.stands.ensures ∙ c.if-not-stands.true)
 
 pub returns : goal.returns
-returns c = laws.letter_on c.args.text.now c.args.at 82 [] (sym c.stands.ensures ∙ not-false _ (ap not c.if-not-stands.false)) c.after_word.ensures
+returns c = laws.letter_on c.args.text.now c.args.at 82 [] (sym c.stands.ensures ∙ c.if-not-stands.false) c.after_word.ensures

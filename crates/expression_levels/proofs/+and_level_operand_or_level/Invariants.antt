@@ -15,14 +15,14 @@ decreases-operand l = 3 * (length l.text.now - l.at)
 abbrev pub decreases-or_level : goal.decreases-or_level
 decreases-or_level l = 3 * (length l.text.now - l.at) + 2
 
-abbrev pub invariant-and_level-loop-k : goal.invariant-and_level-loop-k
-invariant-and_level-loop-k l = Anding l.list l.text l.fn.out l.at l.depth l.o l.from l.all l.alone l.end l.out
+abbrev pub invariant-and_level-loop-v : goal.invariant-and_level-loop-v
+invariant-and_level-loop-v l = Anding l.list l.text l.fn.out l.at l.depth l.o l.from l.all l.alone l.end l.out
 
-abbrev pub decreases-and_level-loop-k : goal.decreases-and_level-loop-k
-decreases-and_level-loop-k l = length l.text - l.from
+abbrev pub decreases-and_level-loop-v : goal.decreases-and_level-loop-v
+decreases-and_level-loop-v l = length l.text - l.from
 
-abbrev pub invariant-or_level-loop-k : goal.invariant-or_level-loop-k
-invariant-or_level-loop-k l = Oring l.list l.text l.fn.out l.at l.depth l.o l.from l.any l.several l.end l.out
+abbrev pub invariant-or_level-loop-v : goal.invariant-or_level-loop-v
+invariant-or_level-loop-v l = Oring l.list l.text l.fn.out l.at l.depth l.o l.from l.any l.several l.end l.out
 
-abbrev pub decreases-or_level-loop-k : goal.decreases-or_level-loop-k
-decreases-or_level-loop-k l = length l.text - l.from
+abbrev pub decreases-or_level-loop-v : goal.decreases-or_level-loop-v
+decreases-or_level-loop-v l = length l.text - l.from

@@ -4,16 +4,17 @@ use mathlib.Core.Path.{refl}
 use mathlib.Core.List.{List}
 use Prim.Native.Nat.{ℕ, ◌+◌}
 use lib.ListN.{drop}
+use Rattle.std.proofs.lemmas.Result.{err_from_is_err_and}
 use Rattle.expression.specs.Reading.{Ctl, run}
 use Rattle.expression_parts.specs.declared.parts.PartAt.{PartAt}
 use Rattle.expression_parts.specs.Parts.{part_of}
 use Rattle.expression_levels.specs.Levels.{no}
 use Rattle.expression_levels.proofs.OperandLaws.{Part-read, part-read, part_none, part-told}
 use Rattle.expression_levels.proofs.leaf.Goals as goal
-use Rattle.expression_levels.proofs.leaf.Goals.{In-Part}
+use Rattle.expression_levels.proofs.leaf.Goals.{In_ok-part}
 
 -- the part that stands there
-module _ (a : In-Part) where
+module _ (a : In_ok-part) where
   abbrev text : List ℕ
   text = a.args.text.now
 
@@ -21,23 +22,25 @@ module _ (a : In-Part) where
   at = a.args.at
 
   abbrev it : PartAt
-  it = a.in-Part.p
+  it = a.in_ok-part.part
 
   found : Part-read text (at + 1) (λ l fs. run (drop at text) Ctl.want l fs at) it
-  found = part-read text (at + 1) (λ l fs. run (drop at text) Ctl.want l fs at) a.in-Part.is a.read_part.ensures
+  found = part-read text (at + 1) (λ l fs. run (drop at text) Ctl.want l fs at) a.in_ok-part.was a.read_part.ensures
 
 pub put_part-end-requires : goal.put_part-end-requires
-put_part-end-requires c = let in_part = (goal.at.put_part-end-requires c).In-Part in
-    ((found in_part).in_text.name, (found in_part).in_text.exc)
+put_part-end-requires c = let in_ok_part = (goal.at.put_part-end-requires c).In_ok-part in
+    ((found in_ok_part).in_text.name, (found in_ok_part).in_text.exc)
 
 pub part_in-requires : goal.part_in-requires
-part_in-requires c = let in_part = (goal.at.part_in-requires c).In-Part in
-    ((found in_part).in_text.name, (found in_part).in_text.exc)
+part_in-requires c = let in_ok_part = (goal.at.part_in-requires c).In_ok-part in
+    ((found in_ok_part).in_text.name, (found in_ok_part).in_text.exc)
 
-pub returns-in-Bad : goal.returns-in-Bad
-returns-in-Bad c = λ depth. no (λ l fs h. part_none c.args.text.now (c.args.at + 1) (λ l fs. run (drop c.args.at c.args.text.now) Ctl.want l fs c.args.at) c.in-Bad.is c.read_part.ensures l fs) refl
+pub returns-in_err-part : goal.returns-in_err-part
+returns-in_err-part c =
+    let p = err_from_is_err_and c.from_residual.result c.from_residual.ensures.1 in
+    rw (p.1, p.2) (λ depth. no (λ l fs h. part_none c.args.text.now (c.args.at + 1) (λ l fs. run (drop c.args.at c.args.text.now) Ctl.want l fs c.args.at) c.in_err-part.was c.read_part.ensures l fs) refl)
 
-pub returns-in-Part : goal.returns-in-Part
+pub returns : goal.returns
 unfolding part_of
-returns-in-Part c = let in_part = (goal.at.returns-in-Part c).In-Part in
-    λ depth. part-told c.args.list.now (text in_part) (at in_part) depth _ c.args.o (found in_part) refl c.part_in.ensures refl c.put_part-end.ensures
+returns c = let in_ok_part = (goal.at.returns c).In_ok-part in
+    λ depth. part-told c.args.list.now (text in_ok_part) (at in_ok_part) depth _ c.args.o (found in_ok_part) refl c.part_in.ensures refl c.put_part-end.ensures

@@ -1,4 +1,4 @@
-use mathlib.Core.Path.{◌≡◌, sym, ap, ◌∙◌}
+use mathlib.Core.Path.{◌≡◌, sym, ap, ap₂, ◌∙◌}
 use mathlib.Core.Bool.{Bool, true, false, not, ◌||◌}
 use mathlib.Core.List.{List}
 use Prim.Native.Nat.{ℕ, ◌+◌, ◌≤◌}
@@ -6,9 +6,10 @@ use native.Mathlib.Omega.{arith}
 use lib.ListN.{length, drop, length-drop}
 use Rattle.rules.specs.Bytes.{newline, line_len, split}
 use Rattle.rules.proofs.PlaceLaws.{lead-most}
-use Rattle.expression.specs.Reading.{Part}
+use Rattle.expression.specs.Reading.{Part, part}
 use Rattle.expression.specs.Writing.{met_in}
 use Rattle.expression_parts.specs.Parts.{part_of}
+use Rattle.expression_place.specs.Line.{line_at, met_by}
 use Rattle.expression_list.proofs.MeetLaws.{met_from, from_start, from-line, from_end}
 use Rattle.expression_list.proofs.part_in.Goals as goal
 use Rattle.expression_list.proofs.part_in.Goals.{After-line_meets}
@@ -27,11 +28,15 @@ module _ (d : After-line_meets) where
   abbrev it : Part
   it = part_of d.args.text.now d.args.part
 
+  same : met_by (part d.of-name.result.now d.args.part.plus d.of-exception.result.now) (line_at (drop i list)) ≡ met_by it (line_at (drop i list))
+  unfolding part_of
+  same = ap₂ (λ v x. met_by (part v d.args.part.plus x) (line_at (drop i list))) d.of-name.ensures d.of-exception.ensures
+
   step : (t : Bool) → d.line_meets.result ≡ t → met_in it (split 10 list) ≡ (t || met_from it list (i + (line_len (drop i list) + 1)))
   unfolding part_of
   step t e =
       d.loop-i.invariant ∙ from-line it list i d.loop-i-test.true
-      ∙ ap (λ (u : Bool). u || met_from it list (i + (line_len (drop i list) + 1))) (sym d.line_meets.ensures ∙ e)
+      ∙ ap (λ (u : Bool). u || met_from it list (i + (line_len (drop i list) + 1))) (sym (d.line_meets.ensures ∙ same) ∙ e)
 
   short : i + line_len (drop i list) ≤ length list
   unfolding line_len

@@ -12,15 +12,15 @@ pub loop-i-init : goal.loop-i-init
 loop-i-init c = shifting_start _ _ _ _
 
 pub bounds-out-i : goal.bounds-out-i
-bounds-out-i c = omega (arith, shifting_long c.loop-i.invariant, c.least-end.ensures)
+bounds-out-i c = omega (arith, shifting_long c.loop-i.invariant, c.min-end.ensures)
 
 pub bounds-out-i-in-loop-i : goal.bounds-out-i-in-loop-i
-bounds-out-i-in-loop-i c = omega (arith, shifting_long c.loop-i.invariant, c.least-end.ensures)
+bounds-out-i-in-loop-i c = omega (arith, shifting_long c.loop-i.invariant, c.min-end.ensures)
 
 pub loop-i-preserved : goal.loop-i-preserved
-loop-i-preserved c = shifting_next c.loop-i.invariant c.loop-i-test.true (omega (arith, c.least-end.ensures))
+loop-i-preserved c = shifting_next c.loop-i.invariant c.loop-i-test.true (omega (arith, c.min-end.ensures))
 
 pub returns : goal.returns
 returns c = let a = c.args in
     rw (not-false a.or (ap not c.if-not-or.false))
-    (wrapped a.to c.loop-i.invariant c.loop-i-test.false c.least-end.ensures (omega arith) c.put_byte-o.ensures c.put_byte.ensures)
+    (wrapped a.to c.loop-i.invariant c.loop-i-test.false c.min-end.ensures (omega arith) c.put.ensures)

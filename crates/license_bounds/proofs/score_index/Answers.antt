@@ -1,10 +1,15 @@
--- `license_bounds::score_index` meets its contract: the index's view lies in the note, and its table is scored.
+-- `license_bounds::score_index` meets its contract: the index's view lies in the note, and its table is scored, where a scoring is left.
 -- Assumes nothing.
-use Rattle.license_bounds.proofs.IndexLaws.{index_inside, index_scored, index_kept}
+use Rattle.license_bounds.proofs.IndexLaws.{index_inside, index_scored, index_unpaid}
 use Rattle.license_bounds.proofs.score_index.Goals as goal
 
-pub view_table-t-requires : goal.view_table-t-requires
-view_table-t-requires c = record { classes = (c.requires.working.classes, c.requires.working.laid); start_le_end = index_inside _ _ _ _ _ c.view_of-v.ensures c.requires.spans }
+pub returns-then-is_spent-clause-found : goal.returns-then-is_spent-clause-found
+returns-then-is_spent-clause-found c = λ s e. index_unpaid _ c.args.task.moving c.args.i c.args.body.now _ (c.is_spent.ensures.none_left c.if-is_spent.true) s e
 
-pub returns : goal.returns
-returns c = record { value = λ u e. index_scored _ _ _ _ _ _ _ _ c.view_of-v.ensures c.view_table-t.ensures.table c.charge_exact.ensures.value u e; left = c.charge_exact.ensures.left; kept = index_kept _ _ _ _ _ _ _ _ c.requires.working c.view_table-t.ensures.held }
+pub view_table-t-requires-clause-start_le_end : goal.view_table-t-requires-clause-start_le_end
+view_table-t-requires-clause-start_le_end c = index_inside _ c.args.i c.args.task.moving _ c.view_at-v.ensures c.requires.spans
+
+pub returns-clause-found : goal.returns-clause-found
+returns-clause-found c = λ s e.
+    index_scored _ c.args.task.moving c.args.i _ _ c.args.body.now _ c.charge_exact.result c.view_at-v.ensures c.view_table-t.ensures.table c.charge_exact.ensures.value
+    (c.is_spent.ensures.some_left c.if-is_spent.false) c.charge_exact.ensures.left s e

@@ -12,8 +12,8 @@ use Rattle.license_bounds.proofs.search_bound.Given as goal
 abbrev pub invariant-loop-r : goal.invariant-loop-r
 invariant-loop-r l = Kept l.task.n l.task.lines l.class l.initial.area l.initial.words l.area l.words l.body × (l.from ≤ l.l) × (l.l ≤ l.r) × (l.r ≤ l.to)
     × OfBody l.body
-    (λ s. pay (rules.search (score_at (lines_at l.initial.area l.initial.words l.task.lines) s l.task.ends l.task.fixed) l.l l.r) l.left.count ≡
-    pay (rules.search (score_at (lines_at l.initial.area l.initial.words l.task.lines) s l.task.ends l.task.fixed) l.from l.to) l.initial.left.count)
+    (λ s. pay (rules.search (score_at (lines_at l.initial.area l.initial.words l.task.lines) s l.task.moving) l.l l.r) l.left.count ≡
+    pay (rules.search (score_at (lines_at l.initial.area l.initial.words l.task.lines) s l.task.moving) l.from l.to) l.initial.left.count)
 
 abbrev pub decreases-loop-r : goal.decreases-loop-r
 decreases-loop-r l = l.r - l.l

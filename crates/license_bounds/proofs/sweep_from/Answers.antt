@@ -1,47 +1,60 @@
-use mathlib.Core.Path.{refl, ◌∙◌}
+use mathlib.Core.Path.{◌≡◌, ◌∙◌}
+use Prim.Native.Nat.{ℕ, ◌+◌, ◌-◌, ◌<◌}
 use native.Mathlib.Omega.{arith}
-use borrow.Author.Rules.{rules}
-use Rattle.license_bounds.proofs.ReadyLaws.{once, spans_in, kept-none, kept_more}
-use Rattle.license_bounds.proofs.RoundLaws.{score-same, sweep-stops, sweep-ends, sweep_round}
+use Rattle.license_bounds.proofs.ReadyLaws.{once, spans_in, kept_more}
+use Rattle.license_bounds.proofs.RoundLaws.{found-same, sweep-stops, sweep-ends, sweep_round}
 use Rattle.license_bounds.proofs.sweep_from.Goals as goal
+use Rattle.license_bounds.proofs.sweep_from.Goals.{After-higher_of-best}
+use Rattle.rules.specs.declared.Value.{Value}
+use Rattle.rules.specs.Search.{Made, Stored, sweep_from}
+use Rattle.license_charge.specs.Pay.{pay}
+use Rattle.preproc_table.specs.Entries.{lines_at}
+use Rattle.license_bounds.specs.Ready.{Kept, OfBody, score_at}
 
-pub loop-i-init : goal.loop-i-init
-loop-i-init c = (kept-none c.requires.sought.working, omega arith, c.requires.from_bound, λ s e. refl)
+-- an index more is swept
+module _ (o : After-higher_of-best) where
+  kept_so_far : Kept o.args.task.n o.args.task.lines o.args.class.now o.args.area.now o.args.words.now o.score_index.new.area o.score_index.new.words o.args.body.now
+  kept_so_far = kept_more o.loop-i.invariant.0 o.in_ok-next.ensures.kept
 
-pub returns-then-spent : goal.returns-then-spent
-returns-then-spent c = let task = c.args.task in
-    let none_left = c.spent.ensures.none_left c.if-spent.true in
+  abbrev scores : Stored → ℕ → Made Value
+  scores s = score_at (lines_at o.args.area.now o.args.words.now o.args.task.lines) s o.args.task.moving
+
+  round : OfBody o.args.body.now
+      (λ s. pay (sweep_from (scores s) (o.args.to + 1 - (o.loop-i.i + 1)) (o.loop-i.i + 1) o.higher_of-best.result) o.in_ok-next.next.left.count ≡
+      pay (sweep_from (scores s) (o.args.to + 1 - o.args.from) o.args.from o.args.highest) o.args.budget.count)
+  round s e =
+      let one = found-same o.loop-i.invariant.0.same s o.args.task.moving (λ f. f o.loop-i.i) o.loop-i.left.count (o.in_ok-next.ensures.found s e) in
+      sweep_round _ (once _ s o.args.task.moving) _ o.loop-i.i o.loop-i.left.count o.loop-i.best _ o.in_ok-next.next o.loop-i-test.true one o.higher_of-best.ensures ∙
+      o.loop-i.invariant.3 s e
+
+pub score_index-requires-clause-spans : goal.score_index-requires-clause-spans
+score_index-requires-clause-spans c = spans_in _ c.args.task.moving _ _ c.loop-i.i c.loop-i.i c.requires.sought.spans (omega arith) c.loop-i-test.true
+
+pub returns-in_err-next : goal.returns-in_err-next
+returns-in_err-next c = let task = c.args.task in
     record {
       found = λ s e.
-          sweep-stops _ (once _ s task.ends task.fixed) _ c.loop-i.i c.loop-i.left.count c.loop-i.best c.loop-i-test.true none_left (c.loop-i.invariant.3 s e);
-      kept = c.loop-i.invariant.0;
+          let none = found-same c.loop-i.invariant.0.same s task.moving (λ f. f c.loop-i.i) c.loop-i.left.count (c.in_err-next.ensures.found s e) in
+          c.from_residual.ensures ∙ sweep-stops _ (once _ s task.moving) _ c.loop-i.i c.loop-i.left.count c.loop-i.best c.loop-i-test.true none (c.loop-i.invariant.3 s e);
+      kept = kept_more c.loop-i.invariant.0 c.in_err-next.ensures.kept;
     }
 
-pub score_index-next-requires : goal.score_index-next-requires
-score_index-next-requires c = record { working = c.loop-i.invariant.0.working; spans = spans_in _ c.args.task.ends _ _ _ c.loop-i.i c.loop-i.i c.requires.sought.spans c.loop-i.invariant.1 c.loop-i-test.true; count_nonzero = c.spent.ensures.some_left c.if-spent.false }
-
-pub overflow_add-i : goal.overflow_add-i
-overflow_add-i c = let small = c.requires.sought.small in
-    let more = c.loop-i-test.true in
-    search rules
-
 pub loop-i-preserved : goal.loop-i-preserved
-loop-i-preserved c = let some_left = c.spent.ensures.some_left c.if-spent.false in
-    let more = c.loop-i-test.true in
-    let task = c.args.task in (
-      kept_more c.loop-i.invariant.0 c.score_index-next.ensures.kept,
-      omega arith,
-      omega arith,
-      λ s e.
-          let value = score-same c.loop-i.invariant.0.same s task.ends task.fixed c.loop-i.i (c.score_index-next.ensures.value s e) in
-          sweep_round _ (once _ s task.ends task.fixed) _ c.loop-i.i c.loop-i.left.count _ c.loop-i.best _ _ more some_left value c.score_index-next.ensures.left
-          c.higher_of-best.ensures ∙
-          c.loop-i.invariant.3 s e,
-    )
+loop-i-preserved c = let o = (goal.at.loop-i-preserved c).After-higher_of-best in
+    let more = c.loop-i-test.true in (kept_so_far o, omega arith, omega arith, round o)
 
 pub returns : goal.returns
 returns c = let task = c.args.task in
     record {
-      found = λ s e. sweep-ends _ (once _ s task.ends task.fixed) _ c.loop-i.i c.loop-i.left c.loop-i.best c.loop-i-test.false (c.loop-i.invariant.3 s e);
+      found = λ s e. sweep-ends _ (once _ s task.moving) _ c.loop-i.i c.loop-i.left c.loop-i.best c.loop-i-test.false (c.loop-i.invariant.3 s e);
       kept = c.loop-i.invariant.0;
+    }
+
+pub returns-in_ok-next : goal.returns-in_ok-next
+returns-in_ok-next c = let task = c.args.task in
+    let o = (goal.at.returns-in_ok-next c).After-higher_of-best in
+    let last : c.args.to < c.loop-i.i + 1 = omega arith in
+    record {
+      found = λ s e. sweep-ends _ (once _ s task.moving) _ (c.loop-i.i + 1) c.in_ok-next.next.left c.higher_of-best.result last (round o s e);
+      kept = kept_so_far o;
     }

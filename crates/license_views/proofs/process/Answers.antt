@@ -10,7 +10,7 @@ use Rattle.slices.specs.declared.ends.ByteSpan.{ByteSpan}
 use Rattle.preproc_view.specs.Whole as view
 use Rattle.license_notes.specs.Laid.{Held}
 use Rattle.license_views.specs.Tabled.{Processed}
-use Rattle.license_views.proofs.ProcessLaws.{held_below, view-ready, strips_none, strips_span, chose_none, chose_span, process_done}
+use Rattle.license_views.proofs.ProcessLaws.{held_below, view-ready, chose, process_done}
 use Rattle.license_views.proofs.process.Goals as goal
 use Rattle.license_views.proofs.process.Goals.{After-common_prefix-common}
 
@@ -48,22 +48,11 @@ module _ (k : After-common_prefix-common) where
       Processed n lines v area₀ words₀ r area words₁
   done area r long p = process_done n lines v area₀ words₀ area₁ words₁ area r k.requires.start_le_end.0 k.requires.start_le_end.1 held long p
 
-pub process_plain-requires : goal.process_plain-requires
-process_plain-requires c = let common_prefix = (goal.at.process_plain-requires c).After-common_prefix-common in
-    let e = strips_none (n common_prefix) _ (area₁ common_prefix) c.common_prefix-common.result c.common_prefix-common.ensures.strips c.in-Nothing.is in
-    (ready common_prefix, chose_none (n common_prefix) (lines common_prefix) (v common_prefix) (area₀ common_prefix) (words₀ common_prefix) (area₁ common_prefix) (words₁ common_prefix) c.requires.start_le_end.0 c.requires.start_le_end.1 (held common_prefix) e)
+pub process_with-requires : goal.process_with-requires
+process_with-requires c = let k = (goal.at.process_with-requires c).After-common_prefix-common in (
+  ready k,
+  chose (n k) (lines k) (v k) (area₀ k) (words₀ k) (area₁ k) (words₁ k) c.requires.start_le_end.0 c.requires.start_le_end.1 (held k) c.common_prefix-common.result c.common_prefix-common.ensures.strips,
+)
 
-pub process_stripped-requires : goal.process_stripped-requires
-process_stripped-requires c = let common_prefix = (goal.at.process_stripped-requires c).After-common_prefix-common in
-    let e = strips_span (n common_prefix) _ (area₁ common_prefix) c.common_prefix-common.result c.in-Prefix.s c.in-Prefix.e c.common_prefix-common.ensures.strips c.in-Prefix.is in (
-      ready common_prefix,
-      e.2,
-      e.3,
-      chose_span (n common_prefix) (lines common_prefix) (v common_prefix) (area₀ common_prefix) (words₀ common_prefix) (area₁ common_prefix) (words₁ common_prefix) c.requires.start_le_end.0 c.requires.start_le_end.1 (held common_prefix) _ e.0,
-    )
-
-pub returns-in-Nothing : goal.returns-in-Nothing
-returns-in-Nothing c = done (goal.at.returns-in-Nothing c).After-common_prefix-common _ _ (search rules) c.process_plain.ensures
-
-pub returns-in-Prefix : goal.returns-in-Prefix
-returns-in-Prefix c = done (goal.at.returns-in-Prefix c).After-common_prefix-common _ _ (search rules) c.process_stripped.ensures
+pub returns : goal.returns
+returns c = done (goal.at.returns c).After-common_prefix-common _ _ (search rules) c.process_with.ensures

@@ -20,10 +20,10 @@ returns-then-body-j c = meeting_over c.loop-i.invariant _ c.if-body-j.true
 
 pub overflow_add-m : goal.overflow_add-m
 overflow_add-m c = let i = c.loop-i.invariant in
-    omega (arith, i.both, i.most, i.rest-most, c.smaller.ensures)
+    omega (arith, i.both, i.most, i.rest-most, c.min.ensures)
 
-pub returns-then-m-smaller : goal.returns-then-m-smaller
-returns-then-m-smaller c = meeting_short c.loop-i.invariant _ (omega (arith, c.if-m-smaller.true, c.smaller.ensures))
+pub returns-then-m-min : goal.returns-then-m-min
+returns-then-m-min c = meeting_short c.loop-i.invariant _ (omega (arith, c.if-m-min.true, c.min.ensures))
 
 pub overflow_add-start : goal.overflow_add-start
 overflow_add-start c = let f = meeting_fits c.loop-i.invariant c.loop-i-test.true c.if-body-j.false in
@@ -46,46 +46,46 @@ compare_bigram-requires c = let f = meeting_fits c.loop-i.invariant c.loop-i-tes
 pub overflow_sub-rest : goal.overflow_sub-rest
 overflow_sub-rest c = omega (arith, meeting_rest c.loop-i.invariant c.loop-i-test.true c.if-body-j.false)
 
-pub loop-i-preserved-in-Before : goal.loop-i-preserved-in-Before
-loop-i-preserved-in-Before c = let q =
+pub loop-i-preserved-in-Less : goal.loop-i-preserved-in-Less
+loop-i-preserved-in-Less c = let q =
     rw (c.wide-in-loop-i.ensures, c.wide.ensures, c.read_u32.ensures) at c.compare_bigram.ensures in
-    meeting_before c.loop-i.invariant c.loop-i-test.true c.if-body-j.false c.compare_bigram.result q c.in-Before.is
+    meeting_before c.loop-i.invariant c.loop-i-test.true c.if-body-j.false c.compare_bigram.result q c.in-Less.is
 
 pub read_u32-other-requires : goal.read_u32-other-requires
 read_u32-other-requires c = let f = meeting_fits c.loop-i.invariant c.loop-i-test.true c.if-body-j.false in
     omega arith
 
-pub overflow_add-m-in-Same : goal.overflow_add-m-in-Same
-overflow_add-m-in-Same c = let q =
+pub overflow_add-m-in-Equal : goal.overflow_add-m-in-Equal
+overflow_add-m-in-Equal c = let q =
     rw (c.wide-in-loop-i.ensures, c.wide.ensures, c.read_u32.ensures) at c.compare_bigram.ensures in
     let g =
-    meeting_same c.loop-i.invariant c.loop-i-test.true c.if-body-j.false c.compare_bigram.result q c.in-Same.is in
-    omega (arith, g.both, g.most, rw c.read_u32-other.ensures at c.smaller-m.ensures)
+    meeting_same c.loop-i.invariant c.loop-i-test.true c.if-body-j.false c.compare_bigram.result q c.in-Equal.is in
+    omega (arith, g.both, g.most, rw c.read_u32-other.ensures at c.min-m.ensures)
 
-pub overflow_sub-rest-in-Same : goal.overflow_sub-rest-in-Same
-overflow_sub-rest-in-Same c = omega (arith, meeting_rest c.loop-i.invariant c.loop-i-test.true c.if-body-j.false)
+pub overflow_sub-rest-in-Equal : goal.overflow_sub-rest-in-Equal
+overflow_sub-rest-in-Equal c = omega (arith, meeting_rest c.loop-i.invariant c.loop-i-test.true c.if-body-j.false)
 
 pub overflow_sub-stored : goal.overflow_sub-stored
 overflow_sub-stored c = omega (arith, meeting_left c.loop-i.invariant c.loop-i-test.true c.if-body-j.false, c.read_u32-other.ensures)
 
-pub loop-i-preserved-in-Same : goal.loop-i-preserved-in-Same
-loop-i-preserved-in-Same c = let q =
+pub loop-i-preserved-in-Equal : goal.loop-i-preserved-in-Equal
+loop-i-preserved-in-Equal c = let q =
     rw (c.wide-in-loop-i.ensures, c.wide.ensures, c.read_u32.ensures) at c.compare_bigram.ensures in
-    rw (c.smaller-m.ensures, c.read_u32-other.ensures, c.wide.ensures, c.read_u32.ensures)
-    (meeting_same c.loop-i.invariant c.loop-i-test.true c.if-body-j.false c.compare_bigram.result q c.in-Same.is)
+    rw (c.min-m.ensures, c.read_u32-other.ensures, c.wide.ensures, c.read_u32.ensures)
+    (meeting_same c.loop-i.invariant c.loop-i-test.true c.if-body-j.false c.compare_bigram.result q c.in-Equal.is)
 
-pub read_u32-stored-requires-in-After : goal.read_u32-stored-requires-in-After
-read_u32-stored-requires-in-After c = let f = meeting_fits c.loop-i.invariant c.loop-i-test.true c.if-body-j.false in
+pub read_u32-stored-requires-in-Greater : goal.read_u32-stored-requires-in-Greater
+read_u32-stored-requires-in-Greater c = let f = meeting_fits c.loop-i.invariant c.loop-i-test.true c.if-body-j.false in
     omega arith
 
-pub overflow_sub-stored-in-After : goal.overflow_sub-stored-in-After
-overflow_sub-stored-in-After c = omega (arith, meeting_left c.loop-i.invariant c.loop-i-test.true c.if-body-j.false, c.read_u32-stored-in-After.ensures)
+pub overflow_sub-stored-in-Greater : goal.overflow_sub-stored-in-Greater
+overflow_sub-stored-in-Greater c = omega (arith, meeting_left c.loop-i.invariant c.loop-i-test.true c.if-body-j.false, c.read_u32-stored-in-Greater.ensures)
 
 pub loop-i-preserved : goal.loop-i-preserved
 loop-i-preserved c = let q =
     rw (c.wide-in-loop-i.ensures, c.wide.ensures, c.read_u32.ensures) at c.compare_bigram.ensures in
-    rw (c.read_u32-stored-in-After.ensures, c.wide.ensures, c.read_u32.ensures)
-    (meeting_after c.loop-i.invariant c.loop-i-test.true c.if-body-j.false c.compare_bigram.result q c.in-After.is)
+    rw (c.read_u32-stored-in-Greater.ensures, c.wide.ensures, c.read_u32.ensures)
+    (meeting_after c.loop-i.invariant c.loop-i-test.true c.if-body-j.false c.compare_bigram.result q c.in-Greater.is)
 
 pub returns : goal.returns
 returns c = meeting_none c.loop-i.invariant _ c.loop-i-test.false

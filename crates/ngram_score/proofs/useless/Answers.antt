@@ -7,41 +7,23 @@ use borrow.Author.Tests.{not-true}
 use Rattle.ngram_score.proofs.FloorLaws.{useless_to, useless_none}
 use Rattle.ngram_score.proofs.useless.Goals as goal
 
-pub shares_beat-requires : goal.shares_beat-requires
-shares_beat-requires c = let pre = c.requires in
-    (omega (arith, c.smaller-most.ensures), omega (arith, c.smaller-most.ensures), pre.0, pre.1)
-
-pub overflow_add-result : goal.overflow_add-result
-overflow_add-result c = omega (arith, c.smaller-most.ensures, c.requires.0)
-
 pub returns-then-not-shares_beat : goal.returns-then-not-shares_beat
 returns-then-not-shares_beat c = let a = c.args in
-    useless_to a.floor a.a a.b c.requires.0 c.requires.1 c.smaller-most.result _ (omega (arith, c.smaller-most.ensures)) (omega (arith, c.smaller-most.ensures)) refl
+    useless_to a.floor a.a a.b c.requires.0 c.requires.1 _ _ (omega arith) (omega arith) refl
     (sym c.shares_beat.ensures ∙ not-true _ (ap not c.if-not-shares_beat.true))
-
-pub shares_beat-requires-2 : goal.shares_beat-requires-2
-shares_beat-requires-2 c = let pre = c.requires in
-    (omega (arith, c.about-near.ensures, c.smaller-most.ensures), omega (arith, c.about-near.ensures, c.smaller-most.ensures), pre.0, pre.1)
-
-pub overflow_add-result-then-not-shares_beat-2 : goal.overflow_add-result-then-not-shares_beat-2
-overflow_add-result-then-not-shares_beat-2 c = omega (arith, c.about-near.ensures, c.smaller-most.ensures, c.requires.0)
 
 pub returns-then-not-shares_beat-2 : goal.returns-then-not-shares_beat-2
 returns-then-not-shares_beat-2 c = let a = c.args in
-    useless_to a.floor a.a a.b c.requires.0 c.requires.1 c.about-near.result _ (omega (arith, c.about-near.ensures, c.smaller-most.ensures)) (omega (arith, c.about-near.ensures, c.smaller-most.ensures)) refl
+    useless_to a.floor a.a a.b c.requires.0 c.requires.1 c.about-near.result _ (omega arith) (omega arith) refl
     (sym c.shares_beat-2.ensures ∙ not-true _ (ap not c.if-not-shares_beat-2.true))
 
 pub returns-then-near-eq0 : goal.returns-then-near-eq0
 returns-then-near-eq0 c = let a = c.args in
     useless_none a.floor a.a a.b c.requires.0 c.requires.1
 
-pub shares_beat-requires-3 : goal.shares_beat-requires-3
-shares_beat-requires-3 c = let pre = c.requires in
-    (omega (arith, c.about-near.ensures, c.smaller-most.ensures), omega (arith, c.about-near.ensures, c.smaller-most.ensures), pre.0, pre.1)
-
 pub returns-then-not-shares_beat-3 : goal.returns-then-not-shares_beat-3
 returns-then-not-shares_beat-3 c = let a = c.args in
-    useless_to a.floor a.a a.b c.requires.0 c.requires.1 _ _ (omega (arith, c.about-near.ensures, c.smaller-most.ensures)) (omega (arith, c.about-near.ensures, c.smaller-most.ensures)) (omega (arith, c.if-near-eq0.false))
+    useless_to a.floor a.a a.b c.requires.0 c.requires.1 _ _ (omega arith) (omega arith) (omega (arith, c.if-near-eq0.false))
     (sym c.shares_beat-3.ensures ∙ not-true _ (ap not c.if-not-shares_beat-3.true))
 
 pub returns : goal.returns

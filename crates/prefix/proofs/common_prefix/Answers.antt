@@ -17,12 +17,12 @@ use Rattle.preproc_table.specs.Entries.{table_end, view_start, lines_from, lines
 use Rattle.preproc_table.proofs.EntryLaws.{lines-viewed, lines-length, apart_below}
 use Rattle.prefix_list.specs.declared.Listed.{Listed}
 use Rattle.prefix_list.specs.Listing.{plain_lines, ListStands}
-use Rattle.prefix_choice.specs.declared.Common.TheVariants.{Prefix}
+use Rattle.std.proofs.Common.{Some}
 use Rattle.prefix_choice.specs.Choice.{Decided}
 use Rattle.prefix.proofs.PlainLaws.{plain-prefixes, plain-viewed}
 use Rattle.prefix_choice.proofs.StandLaws.{stands-listed, stands_fits, stands-none, view-same}
 use Rattle.prefix.proofs.common_prefix.Goals as goal
-use Rattle.prefix.proofs.common_prefix.Goals.{After-choose-found, After-list_prefixes-x, In-Prefix}
+use Rattle.prefix.proofs.common_prefix.Goals.{After-choose, After-list_prefixes-x, In_ok-found}
 
 -- what is known once the prefixes are listed
 module _ (x : After-list_prefixes-x) where
@@ -76,22 +76,22 @@ module _ (x : After-list_prefixes-x) where
   text-long = length-take-le found.end area end-within
 
 -- and once one is chosen
-module _ (q : After-choose-found) where
+module _ (q : After-choose) where
   abbrev list_prefixes_of_q : After-list_prefixes-x
-  list_prefixes_of_q = (goal.at.After-choose-found q).After-list_prefixes-x
+  list_prefixes_of_q = (goal.at.After-choose q).After-list_prefixes-x
 
-  decided : Decided (lines list_prefixes_of_q) (take (found list_prefixes_of_q).end (area list_prefixes_of_q)) q.choose-found.result
+  decided : Decided (lines list_prefixes_of_q) (take (found list_prefixes_of_q).end (area list_prefixes_of_q)) q.choose.result
   decided =
-      (rw q.table_end-at.ensures at q.choose-found.ensures.decided) (lines list_prefixes_of_q)
+      (rw q.table_end-at.ensures at q.choose.ensures.decided) (lines list_prefixes_of_q)
       (stands-listed (n list_prefixes_of_q) (lines list_prefixes_of_q) (area₀ list_prefixes_of_q) (table₀ list_prefixes_of_q) (found list_prefixes_of_q) (area list_prefixes_of_q) (table list_prefixes_of_q) (stands list_prefixes_of_q) (smooth list_prefixes_of_q) (area_room list_prefixes_of_q) (table-room list_prefixes_of_q))
       (lines-many list_prefixes_of_q)
 
   abbrev last : List ℕ
-  last = q.choose-found.new.words
+  last = q.choose.new.words
 
   last-low : take (table_end (n list_prefixes_of_q)) last ≡ take (table_end (n list_prefixes_of_q)) (table₀ list_prefixes_of_q)
   last-low =
-      let front = rw q.table_end-at.ensures at q.choose-found.ensures.front in
+      let front = rw q.table_end-at.ensures at q.choose.ensures.front in
       front ∙ (stands list_prefixes_of_q).table-low
 
   same_lines : (lines list_prefixes_of_q) ≡ lines_from (area list_prefixes_of_q) last (v list_prefixes_of_q).start ((v list_prefixes_of_q).end - (v list_prefixes_of_q).start)
@@ -101,34 +101,34 @@ module _ (q : After-choose-found) where
       (v list_prefixes_of_q).start ((v list_prefixes_of_q).end - (v list_prefixes_of_q).start) (omega (arith, q.requires.classes.2, q.requires.classes.3)))
 
 -- and it is a prefix
-module _ (f : In-Prefix) where
+module _ (f : In_ok-found) where
   abbrev list_prefixes_of_f : After-list_prefixes-x
-  list_prefixes_of_f = (goal.at.In-Prefix f).After-list_prefixes-x
+  list_prefixes_of_f = (goal.at.In_ok-found f).After-list_prefixes-x
 
-  abbrev choose_of_f : After-choose-found
-  choose_of_f = (goal.at.In-Prefix f).After-choose-found
+  abbrev choose_of_f : After-choose
+  choose_of_f = (goal.at.In_ok-found f).After-choose
 
   abbrev from : ℕ
-  from = f.in-Prefix.start
+  from = f.in_ok-found.found.start
 
   abbrev to : ℕ
-  to = f.in-Prefix.stop
+  to = f.in_ok-found.found.end
 
-  taken : Decided (lines list_prefixes_of_f) (take (found list_prefixes_of_f).end (area list_prefixes_of_f)) (Prefix from to)
-  taken = subst (Decided (lines list_prefixes_of_f) (take (found list_prefixes_of_f).end (area list_prefixes_of_f))) f.in-Prefix.is (decided choose_of_f)
+  taken : Decided (lines list_prefixes_of_f) (take (found list_prefixes_of_f).end (area list_prefixes_of_f)) (Some f.in_ok-found.found)
+  taken = subst (Decided (lines list_prefixes_of_f) (take (found list_prefixes_of_f).end (area list_prefixes_of_f))) f.in_ok-found.was (decided choose_of_f)
 
   bytes-there : slice from to (take (found list_prefixes_of_f).end (area list_prefixes_of_f)) ≡ slice from to (area list_prefixes_of_f)
   bytes-there = slice_first from to (found list_prefixes_of_f).end (area list_prefixes_of_f) (omega (arith, taken.1, (text-long list_prefixes_of_f)))
 
-pub returns-then-k-eq0 : goal.returns-then-k-eq0
-returns-then-k-eq0 c = let list_prefixes = (goal.at.returns-then-k-eq0 c).After-list_prefixes-x in
-    record { strips = without-none (lines list_prefixes) (stands-none (n list_prefixes) (lines list_prefixes) (area₀ list_prefixes) (table₀ list_prefixes) (found list_prefixes) (area list_prefixes) (table list_prefixes) (stands list_prefixes) (smooth list_prefixes) (area_room list_prefixes) (table-room list_prefixes) c.if-k-eq0.true); area = (stands list_prefixes).area_low; words = (stands list_prefixes).table-low }
+pub returns-then-x-eq0 : goal.returns-then-x-eq0
+returns-then-x-eq0 c = let list_prefixes = (goal.at.returns-then-x-eq0 c).After-list_prefixes-x in
+    record { strips = without-none (lines list_prefixes) (stands-none (n list_prefixes) (lines list_prefixes) (area₀ list_prefixes) (table₀ list_prefixes) (found list_prefixes) (area list_prefixes) (table list_prefixes) (stands list_prefixes) (smooth list_prefixes) (area_room list_prefixes) (table-room list_prefixes) c.if-x-eq0.true); area = (stands list_prefixes).area_low; words = (stands list_prefixes).table-low }
 
 pub slice_bounds-choose-end-2 : goal.slice_bounds-choose-end-2
 slice_bounds-choose-end-2 c = sym (length-take-le _ _ (end-within (goal.at.slice_bounds-choose-end-2 c).After-list_prefixes-x))
 
-pub choose-found-requires : goal.choose-found-requires
-choose-found-requires c = let list_prefixes = (goal.at.choose-found-requires c).After-list_prefixes-x in
+pub choose-requires : goal.choose-requires
+choose-requires c = let list_prefixes = (goal.at.choose-requires c).After-list_prefixes-x in
     let few = (stands list_prefixes).few in
     record {
       k_nonzero = (omega arith, omega (arith, c.table_end-at.ensures, table-room list_prefixes), omega (arith, c.requires.n_le_text_most.0), omega (arith, c.requires.classes.3, c.requires.classes.4, c.requires.n_le_text_most.0));
@@ -136,22 +136,22 @@ choose-found-requires c = let list_prefixes = (goal.at.choose-found-requires c).
           (stands_fits (n list_prefixes) (lines list_prefixes) (area₀ list_prefixes) (table₀ list_prefixes) (found list_prefixes) (area list_prefixes) (table list_prefixes) (stands list_prefixes) (smooth list_prefixes) (area_room list_prefixes) (table-room list_prefixes));
     }
 
-pub returns-in_default : goal.returns-in_default
-returns-in_default c = let list_prefixes = (goal.at.returns-in_default c).After-list_prefixes-x in
-    let choose = (goal.at.returns-in_default c).After-choose-found in
-    record { strips = subst (Decided (lines list_prefixes) (take (found list_prefixes).end (area list_prefixes))) c.in_default.is (decided choose); area = (stands list_prefixes).area_low; words = last-low choose }
+pub returns-in_err-found : goal.returns-in_err-found
+returns-in_err-found c = let list_prefixes = (goal.at.returns-in_err-found c).After-list_prefixes-x in
+    let choose = (goal.at.returns-in_err-found c).After-choose in
+    record { strips = rw c.from_residual.ensures (subst (Decided (lines list_prefixes) (take (found list_prefixes).end (area list_prefixes))) c.in_err-found.was (decided choose)); area = (stands list_prefixes).area_low; words = last-low choose }
 
-pub home-s-requires : goal.home-s-requires
-home-s-requires c = let in_prefix = (goal.at.home-s-requires c).In-Prefix in
-    let list_prefixes = (goal.at.home-s-requires c).After-list_prefixes-x in
-    let choose = (goal.at.home-s-requires c).After-choose-found in
+pub home-requires : goal.home-requires
+home-requires c = let in_prefix = (goal.at.home-requires c).In_ok-found in
+    let list_prefixes = (goal.at.home-requires c).After-list_prefixes-x in
+    let choose = (goal.at.home-requires c).After-choose in
     let d = taken in_prefix in record {
       classes = (
         c.requires.classes.0,
         apart_below c.args.count (table_end (n list_prefixes)) (omega (arith, c.requires.classes.4)) (table₀ list_prefixes) (last choose) (sym (last-low choose)) (n list_prefixes) (view_start (n list_prefixes)) c.requires.classes.1,
         c.requires.classes.2,
         c.requires.classes.3,
-        omega (arith, c.choose-found.auto.words, table-room list_prefixes, c.requires.classes.4),
+        omega (arith, c.choose.auto.words, table-room list_prefixes, c.requires.classes.4),
         omega (arith, area_room list_prefixes),
       );
       a_le_b = (
@@ -163,8 +163,8 @@ home-s-requires c = let in_prefix = (goal.at.home-s-requires c).In-Prefix in
 
 pub returns : goal.returns
 returns c = let list_prefixes = (goal.at.returns c).After-list_prefixes-x in
-    let in_prefix = (goal.at.returns c).In-Prefix in
-    let h = c.home-s.ensures in record {
+    let in_prefix = (goal.at.returns c).In_ok-found in
+    let h = c.home.ensures in record {
       strips = (
         subst (λ (w : List ℕ). without_prefix (lines list_prefixes) ≡ map (strip w) (lines list_prefixes)) (bytes-there in_prefix ∙ sym h.bytes) (taken in_prefix).2,
         h.low,
@@ -172,5 +172,5 @@ returns c = let list_prefixes = (goal.at.returns c).After-list_prefixes-x in
         h.high,
       );
       area = (stands list_prefixes).area_low;
-      words = last-low (goal.at.returns c).After-choose-found;
+      words = last-low (goal.at.returns c).After-choose;
     }

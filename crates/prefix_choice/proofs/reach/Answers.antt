@@ -7,7 +7,7 @@ use native.Mathlib.Omega.{arith}
 use Rattle.lists.proofs.SliceLaws.{part_slice}
 use Rattle.prefix_choice.proofs.ReachLaws.{reaching_start, reaching_hit, reaching_miss, reaching_end}
 use Rattle.prefix_choice.proofs.reach.Goals as goal
-use Rattle.prefix_choice.proofs.reach.Goals.{After-starts_with}
+use Rattle.prefix_choice.proofs.reach.Goals.{After-starts_with, then-starts_with, else-starts_with}
 
 -- what is known once the test is made
 module _ (t : After-starts_with) where
@@ -26,14 +26,16 @@ overflow_add-sum c = omega (arith, small (goal.at.overflow_add-sum c).After-star
 pub overflow_add-sum-then-starts_with : goal.overflow_add-sum-then-starts_with
 overflow_add-sum-then-starts_with c = omega (arith, small (goal.at.overflow_add-sum-then-starts_with c).After-starts_with, c.loop-j.invariant.small, c.loop-j.invariant.within)
 
-pub loop-j-preserved-then-starts_with : goal.loop-j-preserved-then-starts_with
-loop-j-preserved-then-starts_with c = let starts_with = (goal.at.loop-j-preserved-then-starts_with c).After-starts_with in
-    reaching_hit c.loop-j.invariant c.loop-j-test.true c.requires.3 c.requires.4 (smooth starts_with) c.wide-start.result c.wide-count.result
-    c.wide-start.ensures c.wide-count.ensures (sym c.starts_with.ensures ∙ c.if-starts_with.true) (small starts_with)
-
 pub loop-j-preserved : goal.loop-j-preserved
-loop-j-preserved c = reaching_miss c.loop-j.invariant c.loop-j-test.true c.requires.3 c.requires.4 (smooth (goal.at.loop-j-preserved c).After-starts_with) c.wide-start.result c.wide-count.result
-    c.wide-start.ensures c.wide-count.ensures (sym c.starts_with.ensures ∙ c.if-starts_with.false)
+loop-j-preserved c = let t = (goal.at.loop-j-preserved c).After-starts_with in
+    elim c.if-starts_with.branch [
+      | then-starts_with w ↦ rw w.sum-is
+          (reaching_hit c.loop-j.invariant c.loop-j-test.true c.requires.3 c.requires.4 (smooth t) c.wide-start.result c.wide-count.result
+          c.wide-start.ensures c.wide-count.ensures (sym c.starts_with.ensures ∙ w.if-starts_with.true) (small t))
+      | else-starts_with w ↦ rw w.sum-is
+          (reaching_miss c.loop-j.invariant c.loop-j-test.true c.requires.3 c.requires.4 (smooth t) c.wide-start.result c.wide-count.result
+          c.wide-start.ensures c.wide-count.ensures (sym c.starts_with.ensures ∙ w.if-starts_with.false))
+    ]
 
 pub returns : goal.returns
 returns c = let a = c.args in

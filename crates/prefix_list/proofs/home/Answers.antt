@@ -21,7 +21,7 @@ module _ (s : After-shared-s) where
   span = s.shared-s.result
 
   next : s.loop-i.i + 1 < s.args.count
-  next = omega (arith, s.loop-i-test.true, s.requires.classes.3)
+  next = omega (arith, s.loop-i-test.true, s.saturating_sub-last.ensures, s.requires.classes.3)
 
   home : (w : List ℕ) → slice span.start span.end area ≡ w → Home s.args.n area w span
   home w = home_there s.loop-i.i w span s.requires.classes.1 next s.shared-s.ensures
@@ -31,10 +31,10 @@ module _ (s : After-shared-s) where
 
 pub loop-i-init : goal.loop-i-init
 loop-i-init c = let a = c.args in
-    (c.requires.classes.2, rw (part_slice a.a a.b a.area.now) c.requires.a_le_b.2)
+    rw (part_slice a.a a.b a.area.now) c.requires.a_le_b.2
 
 pub shared-s-requires : goal.shared-s-requires
-shared-s-requires c = let h = c.loop-i-test.true in
+shared-s-requires c = let h : c.loop-i.i + 1 < c.args.v.end = omega (arith, c.saturating_sub-last.ensures) in
     (c.requires.classes.0, omega (arith, h, c.requires.classes.3, c.requires.classes.4), lies-of c.args.area.now c.loop-i.i c.requires.classes.1 (omega (arith, h, c.requires.classes.3)) c.requires.classes.5)
 
 pub slice_bounds-equal-count : goal.slice_bounds-equal-count
@@ -53,11 +53,9 @@ returns-then-equal c = let shared = (goal.at.returns-then-equal c).After-shared-
     home shared (slice a.a a.b (area shared)) (sym (part_slice (span shared).start (span shared).end (area shared)) ∙ e ∙ part_slice a.a a.b (area shared))
 
 pub loop-i-preserved : goal.loop-i-preserved
-loop-i-preserved c = let shared = (goal.at.loop-i-preserved c).After-shared-s in (
-  omega (arith, c.loop-i-test.true),
-  home_next (area shared) c.args.table.now c.loop-i.i c.args.v.end _ (span shared) c.loop-i-test.true c.shared-s.ensures
-      (sym c.equal.ensures ∙ c.if-equal.false) c.loop-i.invariant.1,
-)
+loop-i-preserved c = let shared = (goal.at.loop-i-preserved c).After-shared-s in
+    home_next (area shared) c.args.table.now c.loop-i.i c.args.v.end _ (span shared) (omega (arith, c.saturating_sub-last.ensures)) c.shared-s.ensures
+    (sym c.equal.ensures ∙ c.if-equal.false) c.loop-i.invariant
 
 pub returns : goal.returns
-returns c = absurd (home_none c.args.area.now c.args.table.now c.loop-i.i c.args.v.end _ c.loop-i-test.false c.loop-i.invariant.1)
+returns c = absurd (home_none c.args.area.now c.args.table.now c.loop-i.i c.args.v.end _ (omega (arith, c.saturating_sub-last.ensures)) c.loop-i.invariant)

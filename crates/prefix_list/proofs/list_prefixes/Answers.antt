@@ -11,7 +11,7 @@ use Rattle.slices.specs.declared.ends.ByteSpan.{ByteSpan}
 use Rattle.preproc_table.specs.Entries.{start_at}
 use Rattle.prefix_list.proofs.ListLaws.{listing_start, listing_lies, listing_room, listing_skip, listing_put, listing_end}
 use Rattle.prefix_list.proofs.list_prefixes.Goals as goal
-use Rattle.prefix_list.proofs.list_prefixes.Goals.{After-longer_than, After-shared-s, In-loop-i}
+use Rattle.prefix_list.proofs.list_prefixes.Goals.{After-longer_than, After-shared-s, In-loop-i, then-longer_than, else-longer_than}
 
 -- what is known where the loop goes on
 module _ (c : In-loop-i) where
@@ -37,7 +37,7 @@ module _ (s : After-shared-s) where
       × (s.loop-i.w + (span.end - span.start) < 7 * s.args.n)
   room =
       listing_room s.args.n s.args.count (stop in_loop_i_of_s) (area₀ in_loop_i_of_s) (table₀ in_loop_i_of_s) s.requires.classes.1 s.requires.classes.3 s.requires.classes.4 s.requires.n_le_text_most.1 s.requires.n_le_text_most.2
-      s.args.v.start s.loop-i.area s.loop-i.words s.loop-i.k s.loop-i.w s.loop-i.i s.loop-i.invariant s.loop-i-test.true span s.shared-s.ensures
+      s.args.v.start s.loop-i.area s.loop-i.words s.loop-i.k s.loop-i.w s.loop-i.i s.loop-i.invariant (omega (arith, s.saturating_sub-last.ensures)) span s.shared-s.ensures
 
 pub loop-i-init : goal.loop-i-init
 loop-i-init c = rw c.view_start-w.ensures
@@ -48,9 +48,9 @@ pub shared-s-requires : goal.shared-s-requires
 shared-s-requires c = let in_loop_i = (goal.at.shared-s-requires c).In-loop-i in
     let l = c.loop-i.invariant in (
       c.requires.classes.0,
-      omega (arith, c.loop-i-test.true, c.requires.classes.3, c.requires.classes.4, c.requires.n_le_text_most.2, l.table-long),
+      omega (arith, c.saturating_sub-last.ensures, c.requires.classes.3, c.requires.classes.4, c.requires.n_le_text_most.2, l.table-long),
       listing_lies c.args.n c.args.count (stop in_loop_i) (area₀ in_loop_i) (table₀ in_loop_i) c.requires.classes.1 c.requires.classes.3 c.requires.classes.4 c.requires.n_le_text_most.1 c.requires.n_le_text_most.2
-          c.args.v.start c.loop-i.area c.loop-i.words c.loop-i.k c.loop-i.w c.loop-i.i c.loop-i.invariant c.loop-i-test.true,
+          c.args.v.start c.loop-i.area c.loop-i.words c.loop-i.k c.loop-i.w c.loop-i.i c.loop-i.invariant (omega (arith, c.saturating_sub-last.ensures)),
     )
 
 pub overflow_sub-len : goal.overflow_sub-len
@@ -92,18 +92,19 @@ overflow_add-w c = omega (arith, room (goal.at.overflow_add-w c).After-shared-s,
 pub overflow_add-w-then-longer_than : goal.overflow_add-w-then-longer_than
 overflow_add-w-then-longer_than c = omega (arith, room (goal.at.overflow_add-w-then-longer_than c).After-shared-s, c.requires.n_le_text_most.0)
 
-pub loop-i-preserved-then-longer_than : goal.loop-i-preserved-then-longer_than
-loop-i-preserved-then-longer_than c = let in_loop_i = (goal.at.loop-i-preserved-then-longer_than c).In-loop-i in
-    let shared = (goal.at.loop-i-preserved-then-longer_than c).After-shared-s in
-    rw c.table_end-at.ensures
-    (listing_put c.args.n c.args.count (stop in_loop_i) (area₀ in_loop_i) (table₀ in_loop_i) c.requires.classes.1 c.requires.classes.3 c.requires.classes.4 c.requires.n_le_text_most.1 c.requires.n_le_text_most.2
-    c.args.v.start c.loop-i.area c.loop-i.words c.loop-i.k c.loop-i.w c.loop-i.i c.loop-i.invariant c.loop-i-test.true (span shared) c.shared-s.ensures
-    ((span shared).end - (span shared).start) refl (long_as (goal.at.loop-i-preserved-then-longer_than c).After-longer_than ∙ c.if-longer_than.true) _ c.put_prefix.auto.area c.put_prefix.ensures)
-
 pub loop-i-preserved : goal.loop-i-preserved
 loop-i-preserved c = let in_loop_i = (goal.at.loop-i-preserved c).In-loop-i in
-    listing_skip c.args.n c.args.count (stop in_loop_i) (area₀ in_loop_i) (table₀ in_loop_i) c.requires.classes.1 c.requires.classes.3 c.requires.classes.4 c.requires.n_le_text_most.1 c.requires.n_le_text_most.2
-    c.args.v.start c.loop-i.area c.loop-i.words c.loop-i.k c.loop-i.w c.loop-i.i c.loop-i.invariant c.loop-i-test.true (span (goal.at.loop-i-preserved c).After-shared-s) c.shared-s.ensures (long_as (goal.at.loop-i-preserved c).After-longer_than ∙ c.if-longer_than.false)
+    let shared = (goal.at.loop-i-preserved c).After-shared-s in
+    let told = long_as (goal.at.loop-i-preserved c).After-longer_than in
+    elim c.if-longer_than.branch [
+      | then-longer_than w ↦ rw (w.area-is, w.words-is, w.k-is, w.w-is, c.table_end-at.ensures)
+          (listing_put c.args.n c.args.count (stop in_loop_i) (area₀ in_loop_i) (table₀ in_loop_i) c.requires.classes.1 c.requires.classes.3 c.requires.classes.4 c.requires.n_le_text_most.1 c.requires.n_le_text_most.2
+          c.args.v.start c.loop-i.area c.loop-i.words c.loop-i.k c.loop-i.w c.loop-i.i c.loop-i.invariant (omega (arith, c.saturating_sub-last.ensures)) (span shared) c.shared-s.ensures
+          ((span shared).end - (span shared).start) refl (told ∙ w.if-longer_than.true) _ w.put_prefix.auto.area w.put_prefix.ensures)
+      | else-longer_than w ↦ rw (w.area-is, w.words-is, w.k-is, w.w-is)
+          (listing_skip c.args.n c.args.count (stop in_loop_i) (area₀ in_loop_i) (table₀ in_loop_i) c.requires.classes.1 c.requires.classes.3 c.requires.classes.4 c.requires.n_le_text_most.1 c.requires.n_le_text_most.2
+          c.args.v.start c.loop-i.area c.loop-i.words c.loop-i.k c.loop-i.w c.loop-i.i c.loop-i.invariant (omega (arith, c.saturating_sub-last.ensures)) (span shared) c.shared-s.ensures (told ∙ w.if-longer_than.false))
+    ]
 
 pub returns : goal.returns
-returns c = listing_end c.loop-i.invariant c.loop-i-test.false (omega (arith, c.requires.classes.3, c.requires.classes.4))
+returns c = listing_end c.loop-i.invariant (omega (arith, c.saturating_sub-last.ensures)) (omega (arith, c.requires.classes.3, c.requires.classes.4))

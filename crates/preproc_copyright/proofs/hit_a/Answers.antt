@@ -9,7 +9,7 @@ use lib.ListN.{drop}
 use Rattle.rules.specs.Bytes.{text}
 use Rattle.rules.specs.Passes.{paragraph, hit_a}
 use Rattle.slices.proofs.LeafLaws.{word-within, run-within}
-use Rattle.preproc_copyright.proofs.HitCaseLaws.{newlines_of, A-start, A-two, A-none}
+use Rattle.preproc_copyright.proofs.HitCaseLaws.{takes_as, newlines_of, A-start, A-two, A-none}
 use Rattle.preproc_copyright.proofs.hit_a.Goals as goal
 
 pub paragraph_len-requires : goal.paragraph_len-requires
@@ -18,7 +18,7 @@ paragraph_len-requires c = omega (arith, c.byte_run-k.ensures, run-within (eqb 1
 pub returns-then-start : goal.returns-then-start
 returns-then-start c = let l = drop c.args.at c.args.s.now in
     let k = c.byte_run-k.ensures ∙ newlines_of l in
-    c.paragraph_len.ensures ∙ ap (λ (n : ℕ). paragraph n l) k ∙ sym (A-start l) ∙ ap (λ (b : Bool). hit_a b l) (sym c.if-start.true)
+    takes_as _ (ap (λ (n : ℕ). paragraph n l) k ∙ sym (A-start l) ∙ ap (λ (b : Bool). hit_a b l) (sym c.if-start.true)) c.paragraph_len.ensures
 
 pub paragraph_len-requires-then-starts_with : goal.paragraph_len-requires-then-starts_with
 unfolding text
@@ -27,9 +27,9 @@ paragraph_len-requires-then-starts_with c = word-within (text "\n\n") c.args.s.n
 pub returns-then-starts_with : goal.returns-then-starts_with
 unfolding text
 returns-then-starts_with c = let l = drop c.args.at c.args.s.now in
-    c.paragraph_len-then-starts_with.ensures ∙ sym (A-two l (sym c.starts_with.ensures ∙ c.if-starts_with.true)) ∙ ap (λ (b : Bool). hit_a b l) (sym c.if-start.false)
+    takes_as _ (sym (A-two l (sym c.starts_with.ensures ∙ c.if-starts_with.true)) ∙ ap (λ (b : Bool). hit_a b l) (sym c.if-start.false)) c.paragraph_len-then-starts_with.ensures
 
 pub returns : goal.returns
 unfolding text
 returns c = let l = drop c.args.at c.args.s.now in
-    sym (A-none l (sym c.starts_with.ensures ∙ c.if-starts_with.false)) ∙ ap (λ (b : Bool). hit_a b l) (sym c.if-start.false)
+    ap (λ (b : Bool). hit_a b l) c.if-start.false ∙ A-none l (sym c.starts_with.ensures ∙ c.if-starts_with.false)

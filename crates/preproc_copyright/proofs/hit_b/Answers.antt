@@ -10,7 +10,7 @@ use lib.Seq.{length-take-le}
 use Rattle.rules.specs.Bytes.{text, newline, line_len}
 use Rattle.rules.specs.Passes.{hit_b}
 use Rattle.slices.proofs.LeafLaws.{run-within}
-use Rattle.preproc_copyright.proofs.HitCaseLaws.{B-there, B-other, B-none}
+use Rattle.preproc_copyright.proofs.HitCaseLaws.{takes_as, B-there, B-other, B-none}
 use Rattle.preproc_copyright.proofs.hit_b.Goals as goal
 use Rattle.preproc_copyright.proofs.hit_b.Goals.{After-line_len-n}
 
@@ -34,13 +34,13 @@ slice_bounds-holds_word-end c = sym (length-take-le _ _ (ends (goal.at.slice_bou
 pub returns-then-holds_word : goal.returns-then-holds_word
 unfolding text
 returns-then-holds_word c = let at_line_len = (goal.at.returns-then-holds_word c).After-line_len-n in
-    sym (starting at_line_len ∙ B-there (S at_line_len) c.args.at _ c.line_len-n.ensures (sym c.holds_word.ensures ∙ c.if-holds_word.true))
+    takes_as _ (sym (starting at_line_len ∙ B-there (S at_line_len) c.args.at _ c.line_len-n.ensures (sym c.holds_word.ensures ∙ c.if-holds_word.true))) c.some_run.ensures
 
-pub returns-then-start : goal.returns-then-start
+pub returns-else-holds_word : goal.returns-else-holds_word
 unfolding text
-returns-then-start c = let at_line_len = (goal.at.returns-then-start c).After-line_len-n in
-    sym (starting at_line_len ∙ B-other (S at_line_len) c.args.at _ c.line_len-n.ensures (sym c.holds_word.ensures ∙ c.if-holds_word.false))
+returns-else-holds_word c = let at_line_len = (goal.at.returns-else-holds_word c).After-line_len-n in
+    starting at_line_len ∙ B-other (S at_line_len) c.args.at _ c.line_len-n.ensures (sym c.holds_word.ensures ∙ c.if-holds_word.false)
 
-pub returns : goal.returns
-returns c = let s = drop c.args.at c.args.s.now in
-    sym (ap (λ (b : Bool). hit_b b s) c.if-start.false ∙ B-none s)
+pub returns-else-start : goal.returns-else-start
+returns-else-start c = let s = drop c.args.at c.args.s.now in
+    ap (λ (b : Bool). hit_b b s) c.if-start.false ∙ B-none s

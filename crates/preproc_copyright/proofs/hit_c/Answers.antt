@@ -1,6 +1,6 @@
 -- `hit_c`: case by case.
 -- Assumes nothing.
-use mathlib.Core.Path.{◌≡◌, sym, ap, ◌∙◌}
+use mathlib.Core.Path.{◌≡◌, refl, sym, ap, ◌∙◌}
 use mathlib.Core.Bool.{Bool, true, not}
 use mathlib.Core.List.{List}
 use Prim.Native.Nat.{ℕ, ◌+◌, ◌≤◌}
@@ -12,80 +12,68 @@ use Rattle.rules.specs.Passes.{hit_c}
 use Rattle.slices.proofs.LeafLaws.{word-within, run-within}
 use Rattle.preproc_copyright.proofs.HitCaseLaws.{items-within, C-other, C-bare, C-there, C-none}
 use Rattle.preproc_copyright.proofs.hit_c.Goals as goal
-use Rattle.preproc_copyright.proofs.hit_c.Goals.{After-items_len-n, Then-fresh, Then-starts_with}
+use Rattle.preproc_copyright.proofs.hit_c.Goals.{In_ok-n, Then-starts_with, else-fresh-via-then-fresh+else-starts_with, else-fresh-via-else-fresh}
 
--- a line's start
-module _ (c : Then-fresh) where
+-- at a line's start, with the word
+module _ (c : Then-starts_with) where
   abbrev S : List ℕ
   S = c.args.s.now
 
-  abbrev place : ℕ
-  place = c.args.at
+  starting : hit_c c.args.fresh (drop c.args.at S) ≡ hit_c true (drop c.args.at S)
+  starting = ap (λ (b : Bool). hit_c b (drop c.args.at S)) c.if-fresh.true
 
-  starting : hit_c c.args.fresh (drop place S) ≡ hit_c true (drop place S)
-  starting = ap (λ (b : Bool). hit_c b (drop place S)) c.if-fresh.true
-
--- with the word
-module _ (c : Then-starts_with) where
-  abbrev then_fresh_of_c : Then-fresh
-  then_fresh_of_c = (goal.at.Then-starts_with c).Then-fresh
-
-  word : starts (text "copyright") (drop (place then_fresh_of_c) (S then_fresh_of_c)) ≡ true
+  word : starts (text "copyright") (drop c.args.at S) ≡ true
   unfolding text
   word = sym c.starts_with.ensures ∙ c.if-starts_with.true
 
-  room : (place then_fresh_of_c) + 9 ≤ length (S then_fresh_of_c)
+  room : c.args.at + 9 ≤ length S
   unfolding text
-  room = word-within (text "copyright") (S then_fresh_of_c) (place then_fresh_of_c) word (lit< tt)
+  room = word-within (text "copyright") S c.args.at word (lit< tt)
 
 -- and its items
-module _ (c : After-items_len-n) where
-  abbrev then_fresh_of_c' : Then-fresh
-  then_fresh_of_c' = (goal.at.After-items_len-n c).Then-fresh
-
-  abbrev then_starts_with_of_c : Then-starts_with
-  then_starts_with_of_c = (goal.at.After-items_len-n c).Then-starts_with
-
-  ends : (place then_fresh_of_c') + 9 + c.items_len-n.result ≤ length (S then_fresh_of_c')
-  ends = omega (arith, c.items_len-n.ensures, items-within (S then_fresh_of_c') ((place then_fresh_of_c') + 9) (room then_starts_with_of_c))
+module _ (c : In_ok-n) where
+  ends : c.args.at + 9 + c.in_ok-n.n ≤ length c.args.s.now
+  ends = omega (arith, c.in_ok-n.ensures, items-within c.args.s.now (c.args.at + 9) (room (goal.at.In_ok-n c).Then-starts_with))
 
 pub overflow_add-p : goal.overflow_add-p
 overflow_add-p c = omega (arith, room (goal.at.overflow_add-p c).Then-starts_with)
 
-pub items_len-n-requires : goal.items_len-n-requires
-items_len-n-requires c = (c.requires, room (goal.at.items_len-n-requires c).Then-starts_with)
+pub items_len-requires : goal.items_len-requires
+items_len-requires c = (c.requires, room (goal.at.items_len-requires c).Then-starts_with)
 
-pub returns-then-n-eq0 : goal.returns-then-n-eq0
-returns-then-n-eq0 c = let then_fresh = (goal.at.returns-then-n-eq0 c).Then-fresh in
-    sym (starting then_fresh ∙ C-bare (S then_fresh) (place then_fresh) _ (word (goal.at.returns-then-n-eq0 c).Then-starts_with) c.items_len-n.ensures c.if-n-eq0.true)
+pub returns-in_err-n : goal.returns-in_err-n
+returns-in_err-n c = let then_starts_with = (goal.at.returns-in_err-n c).Then-starts_with in
+    rw c.from_residual.ensures
+    (starting then_starts_with ∙ C-bare (S then_starts_with) c.args.at 0 (word then_starts_with) (sym c.in_err-n.ensures) refl)
 
 pub overflow_add-result : goal.overflow_add-result
-overflow_add-result c = omega (arith, ends (goal.at.overflow_add-result c).After-items_len-n)
+overflow_add-result c = omega (arith, ends (goal.at.overflow_add-result c).In_ok-n)
 
 pub overflow_add-p-then-starts_with : goal.overflow_add-p-then-starts_with
-overflow_add-p-then-starts_with c = omega (arith, ends (goal.at.overflow_add-p-then-starts_with c).After-items_len-n)
+overflow_add-p-then-starts_with c = omega (arith, ends (goal.at.overflow_add-p-then-starts_with c).In_ok-n)
 
 pub overflow_add-result-then-starts_with : goal.overflow_add-result-then-starts_with
 unfolding line_len
-overflow_add-result-then-starts_with c = let items_len = (goal.at.overflow_add-result-then-starts_with c).After-items_len-n in
-    let then_fresh = (goal.at.overflow_add-result-then-starts_with c).Then-fresh in
+overflow_add-result-then-starts_with c = let n = (goal.at.overflow_add-result-then-starts_with c).In_ok-n in
     omega (
       arith,
       c.line_len.ensures,
-      ends items_len,
-      run-within (λ x. not (newline x)) (S then_fresh) (place then_fresh + 9 + c.items_len-n.result) (ends items_len),
+      ends n,
+      run-within (λ x. not (newline x)) c.args.s.now (c.args.at + 9 + c.in_ok-n.n) (ends n),
     )
 
 pub returns-then-starts_with : goal.returns-then-starts_with
-returns-then-starts_with c = let then_fresh = (goal.at.returns-then-starts_with c).Then-fresh in
-    sym (starting then_fresh ∙
-    C-there (S then_fresh) (place then_fresh) _ (word (goal.at.returns-then-starts_with c).Then-starts_with) c.items_len-n.ensures _ c.if-n-eq0.false c.line_len.ensures)
-
-pub returns-then-fresh : goal.returns-then-fresh
-unfolding text
-returns-then-fresh c = let then_fresh = (goal.at.returns-then-fresh c).Then-fresh in
-    sym (starting then_fresh ∙ C-other (S then_fresh) (place then_fresh) (sym c.starts_with.ensures ∙ c.if-starts_with.false))
+returns-then-starts_with c = let then_starts_with = (goal.at.returns-then-starts_with c).Then-starts_with in (
+  sym (starting then_starts_with ∙
+      C-there (S then_starts_with) c.args.at _ (word then_starts_with) c.in_ok-n.ensures.0 _ (λ z. omega (arith, z, c.in_ok-n.ensures)) c.line_len.ensures),
+  omega arith,
+)
 
 pub returns : goal.returns
+unfolding text
 returns c = let s = drop c.args.at c.args.s.now in
-    sym (ap (λ (b : Bool). hit_c b s) c.if-fresh.false ∙ C-none s)
+    elim c.else-fresh.branch [
+      | else-fresh-via-then-fresh+else-starts_with w ↦
+          ap (λ (b : Bool). hit_c b s) w.if-fresh.true ∙ C-other c.args.s.now c.args.at (sym w.starts_with.ensures ∙ w.if-starts_with.false)
+      | else-fresh-via-else-fresh w ↦ ap (λ (b : Bool). hit_c b s) w.if-fresh.false ∙ C-none s
+    ]

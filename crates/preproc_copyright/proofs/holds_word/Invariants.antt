@@ -1,13 +1,9 @@
 -- `holds_word`: from i on the rest decides as the whole does.
 -- Assumes nothing.
 use mathlib.Core.Path.{◌≡◌}
-use Prim.Native.Nat.{◌-◌}
-use lib.ListN.{length, drop}
+use lib.ListN.{drop}
 use Rattle.rules.specs.Bytes.{holds}
 use Rattle.preproc_copyright.proofs.holds_word.Given as goal
 
 abbrev pub invariant-loop-i : goal.invariant-loop-i
 invariant-loop-i l = holds l.w (drop l.i l.s) ≡ holds l.w (drop l.at l.s)
-
-abbrev pub decreases-loop-i : goal.decreases-loop-i
-decreases-loop-i l = length l.s - l.i

@@ -1,33 +1,19 @@
-use Prim.Native.Nat.{◌+◌, ◌≤◌}
+use mathlib.Core.Path.{refl, sym}
 use native.Mathlib.Omega.{arith}
-use lib.ListN.{length}
-use Rattle.preproc_copyright.proofs.HitCaseLaws.{listed_start, listed-end, listed_more, spaced-within}
+use Rattle.preproc_copyright.proofs.HitCaseLaws.{takes_as, listed_start, listed-end, listed_more, spaced-within}
 use Rattle.preproc_copyright.proofs.items_len.Goals as goal
-use Rattle.preproc_copyright.proofs.items_len.Goals.{Else-n-eq0}
 
-module _ (c : Else-n-eq0) where
-  room : c.loop-at.i + c.spaced_len-n.result ≤ length c.args.s.now
-  room =
-      omega (
-        arith,
-        c.spaced_len-n.ensures,
-        spaced-within c.args.s.now c.loop-at.i c.loop-at.invariant.within,
-      )
-
-pub loop-at-init : goal.loop-at-init
-loop-at-init c = listed_start _ _ c.requires.1
-
-pub spaced_len-n-requires : goal.spaced_len-n-requires
-spaced_len-n-requires c = (c.requires.0, c.loop-at.invariant.within)
-
-pub returns-then-n-eq0 : goal.returns-then-n-eq0
-returns-then-n-eq0 c = listed-end c.spaced_len-n.ensures c.if-n-eq0.true c.loop-at.invariant
+pub loop-n-init : goal.loop-n-init
+loop-n-init c = listed_start _ _ c.requires.1
 
 pub overflow_add-i : goal.overflow_add-i
-overflow_add-i c = omega (arith, room (goal.at.overflow_add-i c).Else-n-eq0)
+overflow_add-i c = omega (arith, c.in-Some.ensures, spaced-within c.args.s.now c.loop-n.i c.loop-n.invariant.within)
 
-pub loop-at-smaller : goal.loop-at-smaller
-loop-at-smaller c = omega (arith, room (goal.at.loop-at-smaller c).Else-n-eq0, c.if-n-eq0.false)
+pub loop-n-smaller : goal.loop-n-smaller
+loop-n-smaller c = omega (arith, c.in-Some.ensures, spaced-within c.args.s.now c.loop-n.i c.loop-n.invariant.within)
 
-pub loop-at-preserved : goal.loop-at-preserved
-loop-at-preserved c = listed_more c.spaced_len-n.ensures c.if-n-eq0.false c.loop-at.invariant
+pub loop-n-preserved : goal.loop-n-preserved
+loop-n-preserved c = listed_more c.in-Some.ensures.0 (λ z. omega (arith, z, c.in-Some.ensures)) c.loop-n.invariant
+
+pub returns : goal.returns
+returns c = takes_as _ (listed-end (sym c.in_default.ensures) refl c.loop-n.invariant) c.some_run.ensures

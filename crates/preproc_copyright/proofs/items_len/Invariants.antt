@@ -5,8 +5,8 @@ use lib.ListN.{length}
 use Rattle.preproc_copyright.proofs.HitCaseLaws.{ItemWalk}
 use Rattle.preproc_copyright.proofs.items_len.Given as goal
 
-abbrev pub invariant-loop-at : goal.invariant-loop-at
-invariant-loop-at l = ItemWalk l.s l.at l.i
+abbrev pub invariant-loop-n : goal.invariant-loop-n
+invariant-loop-n l = ItemWalk l.s l.at l.i
 
-abbrev pub decreases-loop-at : goal.decreases-loop-at
-decreases-loop-at l = length l.s - l.i
+abbrev pub decreases-loop-n : goal.decreases-loop-n
+decreases-loop-n l = length l.s - l.i

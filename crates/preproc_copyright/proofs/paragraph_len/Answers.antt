@@ -65,14 +65,13 @@ overflow_add-result-then-starts_with-2 c = omega (arith, room (goal.at.overflow_
 
 pub returns-then-starts_with-2 : goal.returns-then-starts_with-2
 returns-then-starts_with-2 c = let b = c.byte_run-blank.ensures in
-    sym (paragraph-there _ _ _ _ _ b c.line_len-n.ensures (word (goal.at.returns-then-starts_with-2 c).Then-starts_with) (two (goal.at.returns-then-starts_with-2 c).Then-starts_with-2))
+    (sym (paragraph-there _ _ _ _ _ b c.line_len-n.ensures (word (goal.at.returns-then-starts_with-2 c).Then-starts_with) (two (goal.at.returns-then-starts_with-2 c).Then-starts_with-2)), omega arith)
 
-pub returns-then-starts_with : goal.returns-then-starts_with
+pub returns-else-starts_with-2 : goal.returns-else-starts_with-2
 unfolding text
-returns-then-starts_with c = let b = c.byte_run-blank.ensures in
-    sym (paragraph_open _ _ _ _ _ b c.line_len-n.ensures (word (goal.at.returns-then-starts_with c).Then-starts_with) (sym c.starts_with-then-starts_with.ensures ∙ c.if-starts_with-2.false))
+returns-else-starts_with-2 c = let b = c.byte_run-blank.ensures in
+    paragraph_open _ _ _ _ _ b c.line_len-n.ensures (word (goal.at.returns-else-starts_with-2 c).Then-starts_with) (sym c.starts_with-then-starts_with.ensures ∙ c.if-starts_with-2.false)
 
-pub returns : goal.returns
+pub returns-else-starts_with : goal.returns-else-starts_with
 unfolding text
-returns c = let b = c.byte_run-blank.ensures in
-    sym (paragraph-other _ _ _ _ 0 b (sym c.starts_with.ensures ∙ c.if-starts_with.false))
+returns-else-starts_with c = paragraph-other _ _ _ _ 0 c.byte_run-blank.ensures (sym c.starts_with.ensures ∙ c.if-starts_with.false)

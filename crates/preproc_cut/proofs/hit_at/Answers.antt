@@ -8,6 +8,7 @@ use lib.Dec.{eqb}
 use lib.ListN.{drop}
 use borrow.Author.Tests.{eq-eqb, ne_eqb}
 use Rattle.rules.specs.Passes.{hit}
+use Rattle.preproc_copyright.proofs.HitCaseLaws.{takes_as}
 use Rattle.preproc_cut.proofs.CutLaws.{hit-inside, inside-none}
 use Rattle.preproc_cut.proofs.hit_at.Goals as goal
 use Rattle.preproc_cut.proofs.hit_at.Goals.{Else-fresh, Start}
@@ -21,10 +22,10 @@ module _ (c : Start) where
   rest = drop c.args.at c.args.s.now
 
 pub returns-then-at-eq0 : goal.returns-then-at-eq0
-returns-then-at-eq0 c = c.hit_len.ensures ∙ sym (flags (rest (goal.at.returns-then-at-eq0 c).Start) (eq-eqb c.args.at 0 c.if-at-eq0.true) refl)
+returns-then-at-eq0 c = takes_as _ (sym (flags (rest (goal.at.returns-then-at-eq0 c).Start) (eq-eqb c.args.at 0 c.if-at-eq0.true) refl)) c.hit_len.ensures
 
 pub returns-then-fresh : goal.returns-then-fresh
-returns-then-fresh c = c.hit_len-then-fresh.ensures ∙ sym (flags (rest (goal.at.returns-then-fresh c).Start) (ne_eqb c.args.at 0 c.if-at-eq0.false) c.if-fresh.true)
+returns-then-fresh c = takes_as _ (sym (flags (rest (goal.at.returns-then-fresh c).Start) (ne_eqb c.args.at 0 c.if-at-eq0.false) c.if-fresh.true)) c.hit_len-then-fresh.ensures
 
 module _ (c : Else-fresh) where
   abbrev start_of_c : Start
@@ -34,7 +35,7 @@ module _ (c : Else-fresh) where
   mid = flags (rest start_of_c) (ne_eqb c.args.at 0 c.if-at-eq0.false) c.if-fresh.false
 
 pub returns-then-s-at-eq10 : goal.returns-then-s-at-eq10
-returns-then-s-at-eq10 c = c.hit_a.ensures ∙ sym (mid (goal.at.returns-then-s-at-eq10 c).Else-fresh ∙ hit-inside (rest (goal.at.returns-then-s-at-eq10 c).Start))
+returns-then-s-at-eq10 c = takes_as _ (sym (mid (goal.at.returns-then-s-at-eq10 c).Else-fresh ∙ hit-inside (rest (goal.at.returns-then-s-at-eq10 c).Start))) c.hit_a.ensures
 
 pub returns : goal.returns
-returns c = sym (mid (goal.at.returns c).Else-fresh ∙ inside-none c.args.s.now c.args.at c.requires.1 c.if-s-at-eq10.false)
+returns c = mid (goal.at.returns c).Else-fresh ∙ inside-none c.args.s.now c.args.at c.requires.1 c.if-s-at-eq10.false

@@ -10,13 +10,13 @@ returns-then-end-first c = joined-none c.args.area.now c.args.first c.requires.0
 pub put_part-w-requires : goal.put_part-w-requires
 put_part-w-requires c = first_puts c.args.area.now c.args.first c.requires.0 c.requires.1 c.if-end-first.false
 
-pub put_rest-e-requires : goal.put_rest-e-requires
-put_rest-e-requires c = let b = rest_below c.args.area.now c.args.first c.requires.0 c.requires.1 c.if-end-first.false c.put_part-w.ensures in
+pub put_rest-requires : goal.put_rest-requires
+put_rest-requires c = let b = rest_below c.args.area.now c.args.first c.requires.0 c.requires.1 c.if-end-first.false c.put_part-w.ensures in
     let r = rest-room c.args.area.now c.args.first c.requires.0 c.requires.1 c.if-end-first.false c.put_part-w.ensures in
     (b, omega (arith, c.if-end-first.false), r)
 
 pub overflow_sub-result : goal.overflow_sub-result
-overflow_sub-result c = (joined-all c.args.area.now c.args.first c.requires.0 c.requires.1 c.if-end-first.false c.put_part-w.ensures c.put_rest-e.ensures).0
+overflow_sub-result c = (joined-all c.args.area.now c.args.first c.requires.0 c.requires.1 c.if-end-first.false c.put_part-w.ensures c.put_rest.ensures).0
 
 pub returns : goal.returns
-returns c = (joined-all c.args.area.now c.args.first c.requires.0 c.requires.1 c.if-end-first.false c.put_part-w.ensures c.put_rest-e.ensures).1
+returns c = (joined-all c.args.area.now c.args.first c.requires.0 c.requires.1 c.if-end-first.false c.put_part-w.ensures c.put_rest.ensures).1

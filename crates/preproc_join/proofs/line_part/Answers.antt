@@ -17,21 +17,23 @@ module _ (c : After-bare-s) where
 
   fits : (c.bare-s.result.start ≤ c.bare-s.result.end) × (c.past_prefix-k.result + c.bare-s.result.end ≤ c.line_end-e.result)
   fits =
-      left-within c.args.area.now c.args.table.now c.args.i c.args.p _ _ c.line_start-a.ensures
-      c.line_end-e.ensures (ends line_end_of_c) c.args.class.now c.past_prefix-k.result c.bare-s.result c.past_prefix-k.ensures
+      left-within c.args.area.now c.args.table.now c.args.i _ _ c.line_start-a.ensures
+      c.line_end-e.ensures (ends line_end_of_c) c.in-Some.prefix c.args.class.now c.past_prefix-k.result c.bare-s.result c.past_prefix-k.ensures
       c.bare-s.ensures
 
 pub overflow_add-result : goal.overflow_add-result
 overflow_add-result c = omega (arith, fits (goal.at.overflow_add-result c).After-bare-s, ends (goal.at.overflow_add-result c).After-line_end-e)
 
-pub overflow_add-result-then-p : goal.overflow_add-result-then-p
-overflow_add-result-then-p c = omega (arith, fits (goal.at.overflow_add-result-then-p c).After-bare-s, ends (goal.at.overflow_add-result-then-p c).After-line_end-e)
+pub overflow_add-result-in-Some : goal.overflow_add-result-in-Some
+overflow_add-result-in-Some c = omega (arith, fits (goal.at.overflow_add-result-in-Some c).After-bare-s, ends (goal.at.overflow_add-result-in-Some c).After-line_end-e)
 
-pub returns-then-p : goal.returns-then-p
-returns-then-p c = left-strip c.args.area.now c.args.table.now c.args.i c.args.p _ _ c.line_start-a.ensures
-    c.line_end-e.ensures (ends (goal.at.returns-then-p c).After-line_end-e) c.args.class.now c.past_prefix-k.result c.bare-s.result c.past_prefix-k.ensures
-    c.bare-s.ensures c.requires.0 c.if-p.true
+pub returns-in-Some : goal.returns-in-Some
+returns-in-Some c = rw c.in-Some.is
+    (left-strip c.args.area.now c.args.table.now c.args.i _ _ c.line_start-a.ensures
+    c.line_end-e.ensures (ends (goal.at.returns-in-Some c).After-line_end-e) c.in-Some.prefix c.args.class.now c.past_prefix-k.result c.bare-s.result c.past_prefix-k.ensures
+    c.bare-s.ensures c.requires.0)
 
-pub returns : goal.returns
-returns c = left-plain c.args.area.now c.args.table.now c.args.i c.args.p _ _ c.line_start-a.ensures
-    c.line_end-e.ensures (ends (goal.at.returns c).After-line_end-e) c.if-p.false c.requires.2
+pub returns-in-None : goal.returns-in-None
+returns-in-None c = rw c.in-None.is
+    (left-plain c.args.area.now c.args.table.now c.args.i _ _ c.line_start-a.ensures
+    c.line_end-e.ensures (ends (goal.at.returns-in-None c).After-line_end-e) c.requires.2)

@@ -1,11 +1,7 @@
 -- `put_rest`: the walk of JoinLaws.
 -- Assumes nothing.
-use Prim.Native.Nat.{◌-◌}
 use Rattle.preproc_join.proofs.JoinLaws.{Joining}
 use Rattle.preproc_join.proofs.put_rest.Given as goal
 
 abbrev pub invariant-loop-i : goal.invariant-loop-i
 invariant-loop-i l = Joining l.initial.area l.area l.table l.first l.end l.p l.to l.i l.w
-
-abbrev pub decreases-loop-i : goal.decreases-loop-i
-decreases-loop-i l = l.end - l.i

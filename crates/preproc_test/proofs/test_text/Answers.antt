@@ -1,37 +1,23 @@
 -- `test_text`: each answer by the test that led to it.
 -- Assumes nothing.
-use mathlib.Core.Path.{sym, ◌∙◌}
-use native.Mathlib.Omega.{arith}
+use Rattle.std.proofs.Common.{refl, arith}
+use Rattle.std.proofs.lemmas.Result.{err_from_is_err_and}
 use Rattle.rules.specs.Points.{wide}
-use Rattle.preproc_test.proofs.CountLaws.{taken_zero, taken-some, refused-long, refused-bytes, refused-lines, passed}
+use Rattle.preproc_test.proofs.CountLaws.{tested-long, tested-bytes, tested-lines, tested-passed}
 use Rattle.preproc_test.proofs.test_text.Goals as goal
 
 pub returns-then-text-gt-TEXT_MOST : goal.returns-then-text-gt-TEXT_MOST
-returns-then-text-gt-TEXT_MOST c = let a = c.args in
-    let e = refused-long a.edition a.text.now c.if-text-gt-TEXT_MOST.true in
-    record { number = sym e; lines = rw e }
+returns-then-text-gt-TEXT_MOST c = tested-long _ _ c.if-text-gt-TEXT_MOST.true
 
-pub returns-then-lines-eq0 : goal.returns-then-lines-eq0
+pub returns-in_err-lines : goal.returns-in_err-lines
 unfolding wide
-returns-then-lines-eq0 c = let a = c.args in
-    let s = a.text.now in
-    let e = refused-bytes a.edition s c.if-text-gt-TEXT_MOST.false (taken_zero a.edition s (sym c.taken_lines-lines.ensures ∙ c.if-lines-eq0.true)) in
-    record { number = sym e; lines = rw e }
+returns-in_err-lines c = let p = err_from_is_err_and c.from_residual.result c.from_residual.ensures.1 in
+    tested-bytes c.args.edition c.args.text.now c.if-text-gt-TEXT_MOST.false _ refl (grind arith) _ (grind arith)
 
 pub returns-then-lines-gt-LINES_MOST : goal.returns-then-lines-gt-LINES_MOST
 unfolding wide
-returns-then-lines-gt-LINES_MOST c = let a = c.args in
-    let s = a.text.now in
-    let k = c.taken_lines-lines.ensures in
-    let t = taken-some a.edition s (omega arith) in
-    let e = refused-lines a.edition s c.if-text-gt-TEXT_MOST.false t.0 (omega (arith, t.1)) in
-    record { number = sym e; lines = rw e }
+returns-then-lines-gt-LINES_MOST c = tested-lines c.args.edition c.args.text.now c.if-text-gt-TEXT_MOST.false _ refl _ (grind arith) c.if-lines-gt-LINES_MOST.true
 
 pub returns : goal.returns
 unfolding wide
-returns c = let a = c.args in
-    let s = a.text.now in
-    let k = c.taken_lines-lines.ensures in
-    let t = taken-some a.edition s (omega arith) in
-    let e = passed a.edition s c.if-text-gt-TEXT_MOST.false t.0 (omega (arith, t.1)) in
-    record { number = sym e; lines = rw e (k ∙ t.1) }
+returns c = tested-passed c.args.edition c.args.text.now c.if-text-gt-TEXT_MOST.false _ refl _ (grind arith) c.if-lines-gt-LINES_MOST.false

@@ -1,7 +1,7 @@
 -- `title_at`: the word, and then its rest.
 -- Assumes nothing.
 use mathlib.Core.Path.{◌≡◌, sym, ◌∙◌}
-use mathlib.Core.Bool.{true}
+use mathlib.Core.Bool.{true, false}
 use native.Mathlib.Omega.{arith}
 use lib.Dec.{lit<}
 use lib.ListN.{drop}
@@ -22,6 +22,8 @@ returns-then-starts_with c = let o = c.args in
     let e : starts (text "license") (drop o.at o.s.now) ≡ true = sym c.starts_with.ensures ∙ c.if-starts_with.true in
     rw (e, drop-drop 7 o.at o.s.now) c.title_rest.ensures
 
-pub returns : goal.returns
+pub returns-else-starts_with : goal.returns-else-starts_with
 unfolding text title_here
-returns c = rw (sym c.starts_with.ensures ∙ c.if-starts_with.false)
+returns-else-starts_with c =
+    let no : false ≡ title_here (drop c.args.at c.args.s.now) = rw (sym c.starts_with.ensures ∙ c.if-starts_with.false) in
+    c.if-starts_with.false ∙ no

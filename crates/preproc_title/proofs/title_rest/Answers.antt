@@ -8,6 +8,7 @@ use native.Mathlib.Omega.{arith}
 use lib.Dec.{lit<}
 use lib.ListN.{length, drop}
 use lib.Seq.{drop-drop}
+use borrow.Author.Tests.{le-ltb}
 use Rattle.rules.specs.Bytes.{text, lead, starts}
 use Rattle.rules.specs.Passes.{title_end}
 use Rattle.slices.proofs.LeafLaws.{dark, others-of, word-within, run-within}
@@ -55,21 +56,23 @@ returns-then-title_end c = sym (rest_end _ (sym c.title_end.ensures ∙ c.if-tit
 pub overflow_add-v : goal.overflow_add-v
 overflow_add-v c = omega (arith, room (goal.at.overflow_add-v c).Then-starts_with)
 
-pub returns-then-named-eq0 : goal.returns-then-named-eq0
-returns-then-named-eq0 c = sym (rest_unnamed _ (goes_on (goal.at.returns-then-named-eq0 c).Else-title_end) (version (goal.at.returns-then-named-eq0 c).Then-starts_with) (sym (names (goal.at.returns-then-named-eq0 c).After-other_len-named) ∙ c.if-named-eq0.true))
+pub returns-else-named-gt0 : goal.returns-else-named-gt0
+returns-else-named-gt0 c = let n = names (goal.at.returns-else-named-gt0 c).After-other_len-named in
+    le-ltb _ _ c.if-named-gt0.false
+    ∙ sym (rest_unnamed _ (goes_on (goal.at.returns-else-named-gt0 c).Else-title_end) (version (goal.at.returns-else-named-gt0 c).Then-starts_with) (omega (arith, n, c.if-named-gt0.false)))
 
-pub overflow_add-v-then-starts_with : goal.overflow_add-v-then-starts_with
-overflow_add-v-then-starts_with c = let then_starts_with = (goal.at.overflow_add-v-then-starts_with c).Then-starts_with in
-    let else_title_end = (goal.at.overflow_add-v-then-starts_with c).Else-title_end in
-    omega (arith, room then_starts_with, count (goal.at.overflow_add-v-then-starts_with c).After-other_len-named, run-within dark (S else_title_end) (place else_title_end + 9) (room then_starts_with))
+pub overflow_add-v-then-named-gt0 : goal.overflow_add-v-then-named-gt0
+overflow_add-v-then-named-gt0 c = let then_starts_with = (goal.at.overflow_add-v-then-named-gt0 c).Then-starts_with in
+    let else_title_end = (goal.at.overflow_add-v-then-named-gt0 c).Else-title_end in
+    omega (arith, room then_starts_with, count (goal.at.overflow_add-v-then-named-gt0 c).After-other_len-named, run-within dark (S else_title_end) (place else_title_end + 9) (room then_starts_with))
 
-pub returns-then-starts_with : goal.returns-then-starts_with
-returns-then-starts_with c = let else_title_end = (goal.at.returns-then-starts_with c).Else-title_end in
-    let other_len = (goal.at.returns-then-starts_with c).After-other_len-named in
+pub returns-then-named-gt0 : goal.returns-then-named-gt0
+returns-then-named-gt0 c = let else_title_end = (goal.at.returns-then-named-gt0 c).Else-title_end in
+    let other_len = (goal.at.returns-then-named-gt0 c).After-other_len-named in
     let a = place else_title_end in
     let d : drop (lead dark (drop 9 (drop a (S else_title_end)))) (drop 9 (drop a (S else_title_end))) ≡ drop (a + 9 + c.other_len-named.result) (S else_title_end) =
     rw (← names other_len, drop-drop 9 a (S else_title_end), drop-drop) in
-    c.title_end-then-starts_with.ensures ∙ sym (rest-named _ (goes_on else_title_end) (version (goal.at.returns-then-starts_with c).Then-starts_with) (λ z. c.if-named-eq0.false (names other_len ∙ z)) ∙ ap title_end d)
+    c.title_end-then-named-gt0.ensures ∙ sym (rest-named _ (goes_on else_title_end) (version (goal.at.returns-then-named-gt0 c).Then-starts_with) (λ z. omega (arith, names other_len, z, c.if-named-gt0.true)) ∙ ap title_end d)
 
 pub returns : goal.returns
 unfolding text

@@ -2,7 +2,7 @@
 -- Assumes nothing.
 use mathlib.Core.Bool.{false}
 use mathlib.Core.List.{◌++◌}
-use Prim.Native.Nat.{◌≤◌, ◌-◌}
+use Prim.Native.Nat.{◌≤◌}
 use lib.ListN.{take}
 use lib.Seq.{slice}
 use Rattle.lists.proofs.WriteLaws.{Part}
@@ -10,7 +10,4 @@ use Rattle.rules.specs.Lines.{urls}
 use Rattle.preproc_urls.proofs.blackbox_urls.Given as goal
 
 abbrev pub invariant-loop-i : goal.invariant-loop-i
-invariant-loop-i l = (l.i ≤ l.n) × (l.to ≤ l.w) × Part (take l.to l.initial.area ++ urls false (take l.n l.initial.area)) (urls l.inside (slice l.i l.n l.initial.area)) l.initial.area l.area l.w
-
-abbrev pub decreases-loop-i : goal.decreases-loop-i
-decreases-loop-i l = l.n - l.i
+invariant-loop-i l = (l.to ≤ l.w) × Part (take l.to l.initial.area ++ urls false (take l.n l.initial.area)) (urls l.inside (slice l.i l.n l.initial.area)) l.initial.area l.area l.w

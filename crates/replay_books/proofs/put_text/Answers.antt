@@ -1,5 +1,6 @@
 -- `put_text`: the table from the sixth byte on, then the head before it.
 -- Assumes nothing.
+use mathlib.Core.Path.{refl}
 use native.Mathlib.Omega.{arith}
 use Rattle.replay_books.specs.Shelf.{stays}
 use Rattle.replay_books.proofs.ShelfLaws.{stays_at, stayed, grown, compiled-length, compiled-front}
@@ -9,13 +10,12 @@ use Rattle.replay_books.proofs.put_text.Goals as goal
 pub returns-then-book-at-lt6 : goal.returns-then-book-at-lt6
 returns-then-book-at-lt6 c = record { within = (omega arith, omega arith); book = stays (stays_at _ _ c.requires.0) }
 
-pub returns-then-made-ne0 : goal.returns-then-made-ne0
-returns-then-made-ne0 c = record { within = (omega arith, search rules); book = stayed _ _ _ _ c.compile-made.new.out (omega arith) }
+pub returns-in_default : goal.returns-in_default
+returns-in_default c = record { within = (omega arith, search rules); book = stayed _ _ _ _ c.compile.new.out (omega arith) }
 
 pub returns-then-book-body : goal.returns-then-book-body
-returns-then-book-body c = record { within = (omega arith, search rules); book = stayed _ _ _ _ c.compile-made.new.out (omega arith) }
+returns-then-book-body c = record { within = (omega arith, search rules); book = stayed _ _ _ _ c.compile.new.out (omega arith) }
 
 pub returns : goal.returns
 returns c = let a = c.args in
-    let z = c.if-made-ne0.false in
-    record { within = (omega arith, search rules); book = grown a.at a.kind _ _ _ (omega arith) _ _ (search rules) (compiled-length _ _ _ _ _ _ _ _ _ c.compile-made.ensures z) (compiled-front _ _ _ _ _ _ _ _ _ c.compile-made.ensures z) c.put_head.ensures }
+    record { within = (omega arith, search rules); book = grown a.at a.kind _ _ _ (omega arith) _ _ (search rules) (compiled-length _ _ _ _ _ _ _ _ _ c.in-Ok.ensures refl) (compiled-front _ _ _ _ _ _ _ _ _ c.in-Ok.ensures refl) c.put_head.ensures }

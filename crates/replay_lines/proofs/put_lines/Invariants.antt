@@ -10,6 +10,3 @@ use Rattle.replay_lines.proofs.put_lines.Given as goal
 
 abbrev pub invariant-loop-i : goal.invariant-loop-i
 invariant-loop-i l = (length l.scratch ≡ length l.initial.scratch) × (l.i ≤ l.count) × Part (told (lines_at l.area l.table l.count)) (told (lines_from l.area l.table l.i (l.count - l.i))) l.initial.out l.out l.w
-
-abbrev pub decreases-loop-i : goal.decreases-loop-i
-decreases-loop-i l = l.count - l.i

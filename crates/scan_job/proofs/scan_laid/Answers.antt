@@ -27,20 +27,20 @@ scan_mode-outcome-requires c = let a = c.args in
         some-text = p.both.some;
       };
       mode_value = p.step;
-      lines_in_bounds = scan-room a.text.now (shelf a.book.now a.second.now) a.limits a.mode a.budget _ a.results.now c.requires.scan_through _ c.scorings_of.ensures _ (noted_lines _ _ _ _ _ c.edition_of.ensures c.class_table-class.ensures c.lay-lines.ensures.lines);
+      lines_in_bounds = scan-room a.text.now (shelf a.book.now a.second.now) a.limits a.mode a.budget _ a.results.now c.requires.scan_through _ c.of.ensures _ (noted_lines _ _ _ _ _ c.edition_of.ensures c.class_table-class.ensures c.lay-lines.ensures.lines);
       note_len_bound = p.both.text.short;
     }
 
 pub answer-requires : goal.answer-requires
 answer-requires c = let a = c.args in
     let e = ap (λ (ls : List (List ℕ)). events a.limits a.mode (texts (shelf a.book.now a.second.now)) ls) (sym (noted_lines _ _ _ _ _ c.edition_of.ensures c.class_table-class.ensures c.lay-lines.ensures.lines)) in
-    let h = eliminated_as e (eliminated_of c.scorings_of.ensures c.scan_mode-outcome.ensures) in
+    let h = eliminated_as e (eliminated_of c.of.ensures c.scan_mode-outcome.ensures) in
     record { name_fits = h.name; left_le_budget = answer_fits a.text.now (shelf a.book.now a.second.now) a.limits a.mode a.budget a.results.now _ _ h }
 
 pub returns : goal.returns
 returns c = let a = c.args in
     let e = ap (λ (ls : List (List ℕ)). events a.limits a.mode (texts (shelf a.book.now a.second.now)) ls) (sym (noted_lines _ _ _ _ _ c.edition_of.ensures c.class_table-class.ensures c.lay-lines.ensures.lines)) in
-    let h = eliminated_as e (eliminated_of c.scorings_of.ensures c.scan_mode-outcome.ensures) in
+    let h = eliminated_as e (eliminated_of c.of.ensures c.scan_mode-outcome.ensures) in
     let books = shelf a.book.now a.second.now in
     record {
       answer = c.answer.ensures ∙ answer-is a.text.now books a.limits a.mode a.budget a.results.now _ _ h;

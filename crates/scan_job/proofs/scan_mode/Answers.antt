@@ -26,4 +26,4 @@ returns-in-Elimination c = let a = c.args in
 pub returns-in-TopDown : goal.returns-in-TopDown
 returns-in-TopDown c = let a = c.args in
     eliminated_as (by_top_down a.scope.limits a.mode _ _ _ c.in-TopDown.is)
-    (down_ended a.scope.limits _ _ _ _ c.no_best.ensures c.top_down-run.ensures)
+    (down_ended a.scope.limits _ _ _ c.top_down-run.ensures)

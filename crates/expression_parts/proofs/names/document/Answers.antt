@@ -1,13 +1,13 @@
 -- `document`: colon, letters and idstring, one after the other.
 -- Assumes nothing.
 use mathlib.Core.Path.{◌≡◌, sym, ap, ◌∙◌}
-use mathlib.Core.Bool.{true, not}
+use mathlib.Core.Bool.{true}
 use mathlib.Core.List.{List}
 use Prim.Native.Nat.{ℕ, ◌+◌, ◌≤◌}
 use native.Mathlib.Omega.{arith}
 use lib.ListN.{length, drop}
 use lib.Seq.{drop-drop}
-use borrow.Author.Tests.{not-true, not-false, eq-eqb, ne_eqb}
+use borrow.Author.Tests.{eq-eqb, ne_eqb}
 use Rattle.expression.specs.Reading.{license_ref}
 use Rattle.expression_bytes.specs.Front.{head_is}
 use Rattle.expression_bytes.proofs.FrontLaws.{head-within, letters_in, ids_in, spelt-most, drop-one}
@@ -22,17 +22,17 @@ module _ (i : Else-not-stands) where
   text = i.args.text.now
 
   abbrev end : ℕ
-  end = i.args.at + i.args.n
+  end = i.args.at + i.args.len
 
   colon : head_is 58 (drop end text) ≡ true
-  colon = sym i.stands.ensures ∙ not-false _ (ap not i.if-not-stands.false)
+  colon = sym i.stands.ensures ∙ i.if-not-stands.false
 
   inside : end + 1 ≤ length text
   inside = let h = head-within text end 58 colon in omega arith
 
 pub returns-then-not-stands : goal.returns-then-not-stands
 unfolding after_document
-returns-then-not-stands c = rw (sym c.stands.ensures ∙ not-true _ (ap not c.if-not-stands.true))
+returns-then-not-stands c = rw (sym c.stands.ensures ∙ c.if-not-stands.true)
 
 -- the letters of LicenseRef- that stand there
 module _ (f : After-letters-k) where
@@ -64,28 +64,13 @@ module _ (e : Else-k-lt11) where
   twelve : (end else_not_stands_of_e) + 12 ≤ length (text else_not_stands_of_e)
   twelve = omega (arith, (within letters_of_e), all)
 
-pub overflow_add-end-2 : goal.overflow_add-end-2
-overflow_add-end-2 c = let h = inside (goal.at.overflow_add-end-2 c).Else-not-stands in search rules
-
 pub letters-k-requires : goal.letters-k-requires
 letters-k-requires c = inside (goal.at.letters-k-requires c).Else-not-stands
-
-pub overflow_add-result : goal.overflow_add-result
-overflow_add-result c = let h = within (goal.at.overflow_add-result c).After-letters-k in search rules
-
-pub overflow_add-result-then-k-lt11 : goal.overflow_add-result-then-k-lt11
-overflow_add-result-then-k-lt11 c = let h = within (goal.at.overflow_add-result-then-k-lt11 c).After-letters-k in search rules
 
 pub returns-then-k-lt11 : goal.returns-then-k-lt11
 unfolding after_document after_colon
 returns-then-k-lt11 c = let else_not_stands = (goal.at.returns-then-k-lt11 c).Else-not-stands in
     rw (colon else_not_stands, drop-one (end else_not_stands) (text else_not_stands), ← c.letters-k.ensures, ne_eqb (k (goal.at.returns-then-k-lt11 c).After-letters-k) 11 (λ e. omega (arith, e, c.if-k-lt11.true)))
-
-pub overflow_add-end-3 : goal.overflow_add-end-3
-overflow_add-end-3 c = let h = twelve (goal.at.overflow_add-end-3 c).Else-k-lt11 in search rules
-
-pub overflow_add-result-then-m-eq0 : goal.overflow_add-result-then-m-eq0
-overflow_add-result-then-m-eq0 c = let h = twelve (goal.at.overflow_add-result-then-m-eq0 c).Else-k-lt11 in search rules
 
 -- what stands behind the letters
 module _ (j : After-ids-m) where
@@ -98,7 +83,7 @@ module _ (j : After-ids-m) where
   abbrev else_k_lt11_of_j : Else-k-lt11
   else_k_lt11_of_j = (goal.at.After-ids-m j).Else-k-lt11
 
-  behind : after_document j.args.n (drop (end else_not_stands_of_j) (text else_not_stands_of_j)) ≡ idstring j.args.n j.ids-m.result
+  behind : after_document j.args.len (drop (end else_not_stands_of_j) (text else_not_stands_of_j)) ≡ idstring j.args.len j.ids-m.result
   unfolding after_document after_colon
   behind =
       rw ((colon else_not_stands_of_j), drop-one (end else_not_stands_of_j) (text else_not_stands_of_j), ← j.letters-k.ensures, eq-eqb (k letters_of_j) 11 (all else_k_lt11_of_j), (there else_k_lt11_of_j), ← j.ids-m.ensures)
@@ -107,9 +92,9 @@ pub returns-then-m-eq0 : goal.returns-then-m-eq0
 unfolding idstring
 returns-then-m-eq0 c = sym (behind (goal.at.returns-then-m-eq0 c).After-ids-m ∙ rw (eq-eqb c.ids-m.result 0 c.if-m-eq0.true))
 
-pub overflow_add-result-3 : goal.overflow_add-result-3
-overflow_add-result-3 c = let else_not_stands = (goal.at.overflow_add-result-3 c).Else-not-stands in
-    let h = ids_in (text else_not_stands) (end else_not_stands + 12) c.ids-m.result (twelve (goal.at.overflow_add-result-3 c).Else-k-lt11) c.ids-m.ensures in
+pub overflow_add-len-2 : goal.overflow_add-len-2
+overflow_add-len-2 c = let else_not_stands = (goal.at.overflow_add-len-2 c).Else-not-stands in
+    let h = ids_in (text else_not_stands) (end else_not_stands + 12) c.ids-m.result (twelve (goal.at.overflow_add-len-2 c).Else-k-lt11) c.ids-m.ensures in
     search rules
 
 pub returns : goal.returns

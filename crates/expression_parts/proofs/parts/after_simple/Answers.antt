@@ -13,6 +13,7 @@ use Rattle.expression_bytes.proofs.StateLaws as state
 use Rattle.expression_parts.specs.Parts.{part_of, stuck}
 use Rattle.expression_parts.proofs.AnswerLaws as laws
 use borrow.Author.Rules.{rules}
+use Rattle.std.proofs.lemmas.Result.{err_from_is_err_and}
 use Rattle.expression_parts.proofs.parts.after_simple.Goals as goal
 use Rattle.expression_parts.proofs.parts.after_simple.Goals.{After-blanks-behind, Else-stands, Then-stands, Then-stands-2}
 
@@ -25,7 +26,7 @@ module _ (i : Then-stands) where
   from = i.args.from
 
   abbrev name : List ℕ
-  name = take i.args.n (drop i.args.at text)
+  name = take i.args.name.len (drop i.args.name.at text)
 
   abbrev plus : Bool
   plus = i.args.plus
@@ -35,9 +36,6 @@ module _ (i : Then-stands) where
 
   past : from < length text
   past = head-within text from 32 blank
-
-pub overflow_add-from : goal.overflow_add-from
-overflow_add-from c = let h = past (goal.at.overflow_add-from c).Then-stands in search rules
 
 pub blanks-behind-requires : goal.blanks-behind-requires
 blanks-behind-requires c = let h = past (goal.at.blanks-behind-requires c).Then-stands in omega arith
@@ -99,12 +97,14 @@ returns-then-stands c = let then_stands = (goal.at.returns-then-stands c).Then-s
 
 -- no blank: what ends a part
 module _ (e : Else-stands) where
-  ends : (l : Level) (fs : List Level) → ending (leaf (part (take e.args.n (drop e.args.at e.args.text.now)) e.args.plus [])) (drop e.args.from e.args.text.now) l fs e.args.from ≡ run (drop e.args.from e.args.text.now) (Ctl.simple (take e.args.n (drop e.args.at e.args.text.now)) e.args.plus) l fs e.args.from
+  ends : (l : Level) (fs : List Level) → ending (leaf (part (take e.args.name.len (drop e.args.name.at e.args.text.now)) e.args.plus [])) (drop e.args.from e.args.text.now) l fs e.args.from ≡ run (drop e.args.from e.args.text.now) (Ctl.simple (take e.args.name.len (drop e.args.name.at e.args.text.now)) e.args.plus) l fs e.args.from
   ends l fs = sym (state.simple-ends _ _ _ l fs _ (sym e.stands.ensures ∙ e.if-stands.false))
 
-pub returns-in-Bad : goal.returns-in-Bad
-returns-in-Bad c = stuck (λ l fs. laws.halted c.args.text.now c.args.from c.in-Bad.is c.after_part.ensures _ l fs ∙ ends (goal.at.returns-in-Bad c).Else-stands l fs)
+pub returns-in_err-next : goal.returns-in_err-next
+returns-in_err-next c =
+    let p = err_from_is_err_and c.from_residual.result c.from_residual.ensures.1 in
+    rw (p.1, p.2) (stuck (λ l fs. laws.halted c.args.text.now c.args.from c.in_err-next.was c.after_part.ensures _ l fs ∙ ends (goal.at.returns-in_err-next c).Else-stands l fs))
 
-pub returns-in-At : goal.returns-in-At
+pub returns : goal.returns
 unfolding part_of
-returns-in-At c = laws.part-goes c.args.text.now _ _ c.args.from c.args.from (omega arith) c.requires.0 (let h = c.requires.0 in omega arith) (ends (goal.at.returns-in-At c).Else-stands) (laws.went c.args.text.now c.args.from c.in-At.is c.after_part.ensures)
+returns c = laws.part-goes c.args.text.now _ _ c.args.from c.args.from (omega arith) c.requires.0 (let h = c.requires.0 in omega arith) (ends (goal.at.returns c).Else-stands) (laws.went c.args.text.now c.args.from c.in_ok-next.was c.after_part.ensures)

@@ -5,6 +5,3 @@ use Rattle.points.proofs.encode.encode_in.Given as goal
 
 abbrev pub invariant-loop-i : goal.invariant-loop-i
 invariant-loop-i l = Back l.start l.end l.r l.initial.area l.area l.i l.w
-
-abbrev pub decreases-loop-i : goal.decreases-loop-i
-decreases-loop-i l = l.i

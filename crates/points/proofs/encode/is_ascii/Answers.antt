@@ -1,16 +1,23 @@
-use mathlib.Core.Path.{refl, sym, ◌∙◌}
-use native.Mathlib.Omega.{arith}
-use Rattle.lists.proofs.SliceLaws.{drop-next, drop-done}
-use Rattle.points.proofs.EncodeLaws.{ascii-next, ascii-end}
+-- `is_ascii`: the greatest of what was read says whether it lies below 128.
+-- Assumes nothing.
+use mathlib.Core.Path.{◌≡◌, refl}
+use mathlib.Core.Bool.{true}
+use mathlib.Core.List.{[]}
+use Prim.Native.Nat.{ℕ}
+use lib.Dec.{ltb}
+use Rattle.std.proofs.Common.{rules, Bor}
+use Rattle.std.proofs.lemmas.Iterator.{YieldsList-from_slice}
+use Rattle.std.proofs.lemmas.Fn.{fold_over}
+use Rattle.std.specs.Slice.Iter.{iter_steps}
+use Rattle.rules.specs.Bytes.{every}
+use Rattle.rules.specs.Points.{ascii}
+use Rattle.points.proofs.EncodeLaws.{ascii_more}
 use Rattle.points.proofs.encode.is_ascii.Goals as goal
 
-pub loop-i-init : goal.loop-i-init
-loop-i-init c = (omega arith, refl)
-
-pub loop-i-preserved : goal.loop-i-preserved
-loop-i-preserved c = let l = c.loop-i in
-    (omega (arith, c.loop-i-test.true), ascii-next l.top c.greater-top.result _ (drop-next c.args.s.now l.i c.loop-i-test.true) c.greater-top.ensures ∙ l.invariant.1)
+none : true ≡ ascii []
+unfolding ascii every
+none = refl
 
 pub returns : goal.returns
-returns c = let l = c.loop-i in
-    sym (ascii-end l.top (drop-done c.args.s.now l.i c.loop-i-test.false)) ∙ l.invariant.1
+returns c = let s = c.args.s.now in
+    fold_over iter_steps (λ (y : Bor ℕ). y.now) _ (λ ys top. ltb top 128 ≡ ascii ys) _ (λ ys a x b f j k. search (rules, ascii_more)) c.iter.result s 0 _ (YieldsList-from_slice s c.iter.ensures.rest).runs none c.fold-top.ensures.ran

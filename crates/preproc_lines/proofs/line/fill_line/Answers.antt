@@ -2,9 +2,8 @@
 -- Assumes nothing.
 use mathlib.Core.Bool.{not}
 use mathlib.Core.List.{List}
-use Prim.Native.Nat.{ℕ, ◌-◌}
+use Prim.Native.Nat.{ℕ}
 use native.Mathlib.Omega.{arith}
-use lib.ListN.{length, drop, length-take, length-drop}
 use Rattle.lists.specs.Wrote.{Wrote}
 use Rattle.rules.specs.Bytes.{dropped, keep}
 use Rattle.rules.specs.Points.{points}
@@ -30,14 +29,30 @@ pub blackbox_urls-end-requires : goal.blackbox_urls-end-requires
 blackbox_urls-end-requires c = let read_into = (goal.at.blackbox_urls-end-requires c).After-read_into-n2 in
     (by_table space_in c.requires.0 space-table, omega (arith, kept-short (source read_into) (to read_into) c.requires.1 (omega arith) (two read_into)), urls-room (source read_into) (to read_into) c.requires.1 (omega arith) (two read_into))
 
-pub overflow_sub-n3 : goal.overflow_sub-n3
-overflow_sub-n3 c = let read_into = (goal.at.overflow_sub-n3 c).After-read_into-n2 in
-    urls-end-low (source read_into) (to read_into) c.requires.1 (omega arith) (two read_into) c.blackbox_urls-end.ensures
+pub slice_bounds-join_signs-start : goal.slice_bounds-join_signs-start
+slice_bounds-join_signs-start c = let read_into = (goal.at.slice_bounds-join_signs-start c).After-read_into-n2 in
+    omega (
+      arith,
+      urls-end-low (source read_into) (to read_into) c.requires.1 (omega arith) (two read_into) c.blackbox_urls-end.ensures,
+      urls-end-high (source read_into) (to read_into) c.requires.1 (omega arith) (two read_into) c.blackbox_urls-end.ensures,
+    )
 
-pub join_signs-n5-requires : goal.join_signs-n5-requires
-join_signs-n5-requires c = let read_into = (goal.at.join_signs-n5-requires c).After-read_into-n2 in
-    (c.requires.0, omega (arith, urls-end-high (source read_into) (to read_into) c.requires.1 (omega arith) (two read_into) c.blackbox_urls-end.ensures, length-take (length c.blackbox_urls-end.new.area - to read_into) (drop (to read_into) c.blackbox_urls-end.new.area), length-drop (to read_into) c.blackbox_urls-end.new.area))
+pub slice_bounds-join_signs-count : goal.slice_bounds-join_signs-count
+slice_bounds-join_signs-count c = let read_into = (goal.at.slice_bounds-join_signs-count c).After-read_into-n2 in
+    omega (
+      arith,
+      urls-end-low (source read_into) (to read_into) c.requires.1 (omega arith) (two read_into) c.blackbox_urls-end.ensures,
+      urls-end-high (source read_into) (to read_into) c.requires.1 (omega arith) (two read_into) c.blackbox_urls-end.ensures,
+    )
+
+pub slice_bounds-join_signs-end : goal.slice_bounds-join_signs-end
+slice_bounds-join_signs-end c = let read_into = (goal.at.slice_bounds-join_signs-end c).After-read_into-n2 in
+    omega (
+      arith,
+      urls-end-low (source read_into) (to read_into) c.requires.1 (omega arith) (two read_into) c.blackbox_urls-end.ensures,
+      urls-end-high (source read_into) (to read_into) c.requires.1 (omega arith) (two read_into) c.blackbox_urls-end.ensures,
+    )
 
 pub returns : goal.returns
 returns c = let read_into = (goal.at.returns c).After-read_into-n2 in
-    fill_done (source read_into) (to read_into) c.requires.1 (omega arith) (two read_into) c.blackbox_urls-end.ensures _ _ _ (omega arith) c.join_signs-n5.ensures
+    fill_done (source read_into) (to read_into) c.requires.1 (omega arith) (two read_into) c.blackbox_urls-end.ensures _ _ _ (omega arith) c.join_signs.ensures

@@ -44,19 +44,19 @@ overflow_add-end c = omega (arith, within (goal.at.overflow_add-end c).After-lin
 pub slice_bounds-put_line-end : goal.slice_bounds-put_line-end
 slice_bounds-put_line-end c = omega (arith, within (goal.at.slice_bounds-put_line-end c).After-line_len)
 
-pub put_line-s-requires : goal.put_line-s-requires
-put_line-s-requires c = let line_len = (goal.at.put_line-s-requires c).After-line_len in
+pub put_line-line-requires : goal.put_line-line-requires
+put_line-line-requires c = let line_len = (goal.at.put_line-line-requires c).After-line_len in
     (c.requires.0, omega (arith, long line_len, within line_len, (going line_len).low), omega (arith, long line_len, within line_len, (going line_len).fits, c.loop-at.invariant.1, c.requires.2))
 
 pub set_line-requires : goal.set_line-requires
 set_line-requires c = let line_len = (goal.at.set_line-requires c).After-line_len in
-    let p = c.put_line-s.ensures in
+    let p = c.put_line-line.ensures in
     let v = end_top (source line_len) c.loop-at.at (len line_len) c.line_len.ensures (inside line_len) (going line_len) p (room line_len) in
     (room line_len, omega (arith, p.order, short line_len, v), omega (arith, short line_len, v))
 
 pub overflow_add-to : goal.overflow_add-to
 overflow_add-to c = let line_len = (goal.at.overflow_add-to c).After-line_len in
-    omega (arith, c.put_line-s.ensures.high, long line_len, within line_len, (going line_len).fits, short line_len)
+    omega (arith, c.put_line-line.ensures.high, long line_len, within line_len, (going line_len).fits, short line_len)
 
 pub overflow_add-at : goal.overflow_add-at
 overflow_add-at c = let line_len = (goal.at.overflow_add-at c).After-line_len in
@@ -71,7 +71,7 @@ loop-at-smaller c = omega (arith, inside (goal.at.loop-at-smaller c).After-line_
 
 pub loop-at-preserved : goal.loop-at-preserved
 loop-at-preserved c = let line_len = (goal.at.loop-at-preserved c).After-line_len in
-    (refl, c.put_line-s.auto.area ∙ c.loop-at.invariant.1, c.set_line.auto.table ∙ c.loop-at.invariant.2, rw c.set_line.ensures (going_on (source line_len) c.loop-at.at (len line_len) c.line_len.ensures (inside line_len) (going line_len) c.put_line-s.ensures (room line_len)))
+    (refl, c.put_line-line.auto.area ∙ c.loop-at.invariant.1, c.set_line.auto.table ∙ c.loop-at.invariant.2, rw c.set_line.ensures (going_on (source line_len) c.loop-at.at (len line_len) c.line_len.ensures (inside line_len) (going line_len) c.put_line-line.ensures (room line_len)))
 
 pub returns : goal.returns
 returns c = going_end (omega arith) c.loop-at.invariant.3

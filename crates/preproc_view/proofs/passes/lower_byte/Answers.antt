@@ -11,5 +11,5 @@ overflow_add-result c = omega (arith, upper-most c.args.class.now c.args.b c.req
 pub returns-then-in_class : goal.returns-then-in_class
 returns-then-in_class c = lower-yes _ _ c.requires (sym c.in_class.ensures ∙ c.if-in_class.true)
 
-pub returns : goal.returns
-returns c = lower-no _ _ c.requires (sym c.in_class.ensures ∙ c.if-in_class.false)
+pub returns-else-in_class : goal.returns-else-in_class
+returns-else-in_class c = lower-no _ _ c.requires (sym c.in_class.ensures ∙ c.if-in_class.false)

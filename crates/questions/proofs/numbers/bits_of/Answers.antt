@@ -1,14 +1,10 @@
-use mathlib.Core.Path.{refl, sym, ◌∙◌}
-use native.Mathlib.Omega.{arith}
+use mathlib.Core.Path.{sym, ◌∙◌}
 use Rattle.questions.specs.Numbers.{more_bits}
 use Rattle.questions.proofs.NumberLaws.{read_next, read_done}
 use Rattle.questions.proofs.numbers.bits_of.Goals as goal
 
-pub loop-i-init : goal.loop-i-init
-loop-i-init c = (omega arith, refl)
-
-pub loop-i-preserved : goal.loop-i-preserved
-loop-i-preserved c = (omega arith, rw c.more_bits-v.ensures (sym (read_next more_bits _ _ _ c.loop-i-test.true) ∙ c.loop-i.invariant.1))
+pub loop-b-preserved : goal.loop-b-preserved
+loop-b-preserved c = rw c.more_bits-v.ensures (sym (read_next more_bits _ _ _ c.loop-b-test.true) ∙ c.loop-b.invariant)
 
 pub returns : goal.returns
-returns c = sym (read_done more_bits _ _ _ c.loop-i-test.false) ∙ c.loop-i.invariant.1
+returns c = sym (read_done more_bits _ _ _ c.loop-b-test.false) ∙ c.loop-b.invariant

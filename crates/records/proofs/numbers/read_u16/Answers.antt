@@ -1,4 +1,4 @@
--- `records::numbers::read_u16` meets its contract: two bytes, by the definition itself.
+-- `records::numbers::read_u16` meets its contract: the bytes at the place, each by its worth.
 -- Assumes nothing.
 use Rattle.records.proofs.NumberLaws.{number_two}
 use native.Mathlib.Omega.{arith}
@@ -6,4 +6,4 @@ use Rattle.records.proofs.numbers.read_u16.Goals as goal
 
 pub returns : goal.returns
 returns c = let a = c.args in
-    omega (arith, number_two a.s.now a.at (omega arith))
+    omega (arith, c.from_le_bytes.ensures, number_two a.s.now a.at (omega arith))

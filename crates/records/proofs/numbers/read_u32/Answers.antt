@@ -1,9 +1,9 @@
--- `records::numbers::read_u32` meets its contract: two halves, by the law over the width.
+-- `records::numbers::read_u32` meets its contract: the bytes at the place, each by its worth.
 -- Assumes nothing.
-use Rattle.records.proofs.NumberLaws.{number-next}
+use Rattle.records.proofs.NumberLaws.{number_four}
 use native.Mathlib.Omega.{arith}
 use Rattle.records.proofs.numbers.read_u32.Goals as goal
 
 pub returns : goal.returns
 returns c = let a = c.args in
-    omega (arith, number-next 2 2 a.at a.s.now)
+    omega (arith, c.from_le_bytes.ensures, number_four a.s.now a.at (omega arith))

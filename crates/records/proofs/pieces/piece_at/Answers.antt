@@ -1,12 +1,12 @@
 -- `records::pieces::piece_at` meets its contract: each return is one case of the definition, by the lengths on the way.
 -- Assumes nothing.
 use mathlib.Core.Path.{sym, ap, ◌∙◌}
-use Prim.Native.Nat.{◌+◌, ◌≤◌}
+use Prim.Native.Nat.{ℕ, ◌+◌, ◌≤◌}
 use native.Mathlib.Omega.{arith}
 use lib.ListN.{length, drop}
+use Rattle.std.specs.Prelude.{Some, Ok}
 use Rattle.rules.specs.Book.{number}
 use Rattle.records.specs.Places.{form_of, framed}
-use Rattle.records.specs.declared.pieces.PieceAt.TheVariants.{Whole}
 use Rattle.records.proofs.FrontLaws.{front-end, front-broken, front-whole, cut-length}
 use Rattle.records.proofs.pieces.piece_at.Goals as goal
 
@@ -30,4 +30,4 @@ unfolding framed
 returns c = let a = c.args in
     let fits : a.at + a.head + number 4 (drop (a.at + a.place) a.s.now) ≤ length a.s.now = omega arith in
     sym (ap (framed (a.at + a.head)) (front-whole (form_of a.head a.place) a.s.now a.at (omega arith) fits) ∙
-    ap (Whole (a.at + a.head)) (cut-length (form_of a.head a.place) a.s.now a.at fits ∙ sym c.read_u32-len.ensures))
+    ap (λ (n : ℕ). Ok (Some (record { start = a.at + a.head; len = n }))) (cut-length (form_of a.head a.place) a.s.now a.at fits ∙ sym c.read_u32-len.ensures))

@@ -32,7 +32,7 @@ view_table-t-requires c = let f = fits _ _ _ _ (fit (goal.at.view_table-t-requir
     record { classes = (edition-classes _ c.requires.0, c.lay-lines.ensures.laid); start_le_end = (f.order, omega (arith, f.within, c.lay-lines.ensures.count)) }
 
 pub charge_exact-charged-requires : goal.charge_exact-charged-requires
-charge_exact-charged-requires c = record { tabled = c.view_table-t.ensures.stands; body_value = c.requires.2; count_nonzero = rw c.scorings_of.ensures (omega arith) }
+charge_exact-charged-requires c = record { tabled = c.view_table-t.ensures.stands; body_value = c.requires.2; count_nonzero = rw c.of.ensures (omega arith) }
 
 pub put_score-requires : goal.put_score-requires
 put_score-requires c = (rw c.charge_exact-charged.ensures.value (score-unit c.args.body.now c.view_table-t.ensures.stands c.requires.2), c.requires.3)

@@ -1,19 +1,15 @@
-use mathlib.Core.Path.{sym, ◌∙◌}
-use native.Mathlib.Omega.{arith}
-use lib.Seq.{take-length}
-use Rattle.slices.proofs.EndLaws.{kept_less, kept-all, kept-none}
+-- `trimmed_end`: one more than the place of the last byte of another kind.
+-- Assumes nothing.
+use mathlib.Core.Path.{ap, ◌∙◌}
+use Rattle.std.proofs.Common.{rules}
+use borrow.Author.Tests.{tests}
+use Rattle.slices.specs.Classes.{in_class}
+use Rattle.slices.specs.Ends.{kept_len}
+use Rattle.slices.proofs.EndLaws.{kept_back, one_more}
 use Rattle.slices.proofs.ends.trimmed_end.Goals as goal
 
-pub loop-e-init : goal.loop-e-init
-loop-e-init c = (omega arith, rw take-length)
-
-pub loop-e-preserved : goal.loop-e-preserved
-loop-e-preserved c = let l = c.loop-e in
-    (omega arith, sym (kept_less _ _ _ c.loop-e-test.true l.invariant.0 (sym c.in_class.ensures ∙ c.if-in_class.true)) ∙ l.invariant.1)
-
-pub returns-else-in_class : goal.returns-else-in_class
-returns-else-in_class c = let l = c.loop-e in
-    sym (kept-all _ _ _ c.loop-e-test.true l.invariant.0 (sym c.in_class.ensures ∙ c.if-in_class.false)) ∙ l.invariant.1
-
 pub returns : goal.returns
-returns c = sym (kept-none _ _ _ c.loop-e-test.false) ∙ c.loop-e.invariant.1
+returns c = let a = c.args in
+    let r = c.rposition-last.ensures.ran in
+    one_more c.rposition-last.result _ _ c.map_or.ensures (λ i q. search rules) (kept_back _ (in_class a.class.now a.lo a.hi) _ (λ x b q k. search (rules, tests)) r.0 r.1 r.2 _ _ _ _ r.3.1 r.3.2 r.4 r.5) ∙
+    ap (kept_len (in_class a.class.now a.lo a.hi)) c.iter.ensures.rest

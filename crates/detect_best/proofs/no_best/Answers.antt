@@ -1,9 +1,0 @@
--- `detect_best::no_best` meets its contract: the literal 0.0 is the definition's.
--- Assumes nothing.
-use mathlib.Core.Path.{refl}
-use lib.Ieee.{of_bits, of_fields}
-use Rattle.detect_best.proofs.no_best.Goals as goal
-
-pub returns : goal.returns
-unfolding of_bits of_fields
-returns c = refl

@@ -1,9 +1,0 @@
--- `score_answer::refused` meets its contract: the literal 0.0 is the definition's.
--- Assumes nothing.
-use mathlib.Core.Path.{refl}
-use lib.Ieee.{of_bits, of_fields}
-use Rattle.score_answer.proofs.refused.Goals as goal
-
-pub returns : goal.returns
-unfolding of_bits of_fields
-returns c = refl
