@@ -97,9 +97,8 @@ def point_4():
 def point_5():
     seen = collections.defaultdict(list)
     for path, line, name, params, ret, clauses, body in functions():
-        pairs = {re.sub(r"^mut ", "", p) for p in params}
+        have = {p.split(":")[0].removeprefix("mut ") for p in params}
         for a, b in [("area", "words"), ("n", "lines"), ("book", "second"), ("limits", "mode"), ("bytes", "words"), ("mark", "c"), ("lo", "hi"), ("class", "class")]:
-            have = [p.split(":")[0] for p in pairs]
             if a in have and b in have:
                 seen[f"parameters {a}, {b}" if a != b else f"parameter {a}"].append(name)
         for clause in clauses:
