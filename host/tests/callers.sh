@@ -18,9 +18,11 @@ callers() {
 callers ngram_meet scoring 'license_charge'
 callers license_charge charge 'detect'
 callers license_charge charge_exact 'license_bounds replay_scores score_work'
-# the type's name is known where it is handed on; who makes one writes Scorings::of, and nobody gives the type another name
-made=$(grep -rlE 'Scorings::of\(' crates --include='*.rt' --exclude-dir=out | sed 's|crates/\([^/]*\)/.*|\1|' | sort -u | tr '\n' ' ')
-renamed=$(grep -rlE 'Scorings as |[^a-z_]of as |= *Scorings;' crates --include='*.rt' --exclude-dir=out | tr '\n' ' ')
+# the type's name is known where it is handed on; who makes one writes Scorings::of, called, handed on or behind <Scorings>, and nobody gives the type
+# or `of` another name; the crate itself does not count
+made=$(grep -rlzE 'Scorings[[:space:]]*>?[[:space:]]*::[[:space:]]*of([^a-z_]|$)' crates --include='*.rt' --exclude-dir=out | sed 's|crates/\([^/]*\)/.*|\1|' | grep -vx license_charge |
+    sort -u | tr '\n' ' ')
+renamed=$(grep -rlE 'Scorings as |[^a-z_]of as |= *(license_charge::)?Scorings;' crates --include='*.rt' --exclude-dir=out | tr '\n' ' ')
 if [ "$made" = 'bounds_work replay_scores scan_job score_work ' ] && [ -z "$renamed" ]; then
     passed=$((passed + 1))
 else

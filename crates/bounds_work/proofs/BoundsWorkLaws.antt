@@ -3,22 +3,20 @@
 --     body_read                       the table that a stored text's body gives
 --     answer_fits, answer-is          what the search found fits the answer, and says what the definition says
 -- Assumes nothing.
-use mathlib.Core.Path.{◌≡◌, refl, sym, ap, subst, ◌∙◌}
+use mathlib.Core.Path.{◌≡◌, sym, ap, ◌∙◌}
 use mathlib.Core.List.{List}
 use Prim.Native.Nat.{ℕ, ◌-◌, ◌≤◌}
 use native.Mathlib.Omega.{arith}
 use lib.ListN.{length, get_or}
 use borrow.Author.Tests.{le-leb}
-use Rattle.std.proofs.Common.{Option, None, Some, Ok, IsSome}
+use Rattle.std.proofs.Common.{Option, Some}
 use Rattle.rules.specs.declared.View.{View}
 use Rattle.rules.specs.declared.Bounded.{Bounded}
 use Rattle.rules.specs.declared.Bounds.{Bounds}
-use Rattle.rules.specs.declared.Located.{Located}
 use Rattle.rules.specs.Sizes.{lines_most}
 use Rattle.rules.specs.Search.{Stored, no_text, bounds}
 use Rattle.rules.specs.Count.{most_for}
-use Rattle.rules.specs.Jobs.{bounded_as, no_bounds, bounds_found}
-use Rattle.rules.specs.Told.{bounded_told}
+use Rattle.rules.specs.Jobs.{bounded_as, bounds_found}
 use Rattle.rules.proofs.CountLaws.{rounds_least, bounds-count}
 use Rattle.rules.proofs.DownLaws.{bounds_in}
 use Rattle.license_charge.specs.declared.Scorings.{Scorings}
@@ -53,9 +51,6 @@ module _ (ls : List (List ℕ)) (v : View) (s : Stored) (order : v.start ≤ v.e
   abbrev answer : Bounded
   answer = bounded_as 0 (bounds ls v s).value count
 
-  abbrev located : Located
-  located = let b = (bounds ls v s).value in record { first = b.first; after = b.after; value = b.value; count = count }
-
   module _ (x : Option (Charged Bounds)) (left : Scorings) (made : left ≡ record { count = bounds_most }) (found : x ≡ charged_of (pay (bounds ls v s) left.count)) where
     is_found : x ≡ Some (record { value = (bounds ls v s).value; left = record { count = bounds_most - count } })
     unfolding pay charged_of
@@ -65,27 +60,12 @@ module _ (ls : List (List ℕ)) (v : View) (s : Stored) (order : v.start ≤ v.e
     unfolding FitsAnswer
     answer_fits = let i = bounds_in ls v s order in rw is_found (omega arith, omega arith, omega arith)
 
-    pub answer-is : answer_for x bounds_most ≡ Some located
+    pub answer-is : answer_for x bounds_most ≡ answer
     unfolding answer_for
-    answer-is = ap (λ (y : Option (Charged Bounds)). answer_for y bounds_most) is_found ∙ ap found_with (paid bounds-most)
+    answer-is = ap (λ (y : Option (Charged Bounds)). answer_for y bounds_most) is_found ∙ ap (bounded_as 0 (bounds ls v s).value) (paid bounds-most)
       where
-        found_with : ℕ → Option Located
-        found_with n = let b = (bounds ls v s).value in Some (record { first = b.first; after = b.after; value = b.value; count = n })
-
         paid : count ≤ bounds_most → bounds_most - (bounds_most - count) ≡ count
         paid h = omega arith
-
--- an answer that is found, as the job tells it
-told : Option Located → Bounded
-told (Some x) = bounded_told (Ok x)
-told None = bounded_as 0 no_bounds 0
-
-pub found_some : {r : Option Located} {x : Located} → r ≡ Some x → IsSome r
-found_some p = subst IsSome (sym p) refl
-
-pub found_told : {r : Option Located} {x y : Located} → r ≡ Some x → r ≡ Some y → bounded_told (Ok y) ≡ bounded_told (Ok x)
-unfolding told
-found_told p q = ap told (sym q ∙ p)
 
 pub bounds-found : (ms : List (List ℕ)) (ss : List Stored) (ls : List (List ℕ)) (v : View) (k : ℕ) (x : Bounded) (order : v.start ≤ v.end) (inside : v.end ≤ lines_most) → ls ≡ ms →
     x ≡ answer ls v (get_or ss k no_text) order inside → x ≡ bounds_found ms ss v k

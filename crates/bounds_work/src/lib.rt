@@ -54,7 +54,5 @@ pub fn bounds_laid<'a>(
         body,
         Scorings::of(BOUNDS_MOST),
     );
-    let located = answer(ranged, BOUNDS_MOST);
-    // The budget pays: `bounds-most`.
-    located.unwrap()
+    answer(ranged, BOUNDS_MOST)
 }

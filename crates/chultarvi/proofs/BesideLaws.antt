@@ -2,8 +2,8 @@
 -- And what a refused score promises, of any number.
 -- Assumes nothing.
 use Rattle.std.proofs.Common.{Option, None, Some}
-use mathlib.Core.Path.{◌≡◌, refl, sym, ap, subst}
-use mathlib.Core.Bool.{Bool, true, false, cond}
+use mathlib.Core.Path.{◌≡◌, refl, sym, ap, subst, ◌∙◌}
+use mathlib.Core.Bool.{Bool, true, false, cond, false≢true}
 use mathlib.Core.List.{List}
 use Prim.Native.Nat.{ℕ}
 use borrow.Author.Tests.{ne_eqb}
@@ -34,6 +34,15 @@ books_as_lent b false = refl
 pub shelf_as_lent : (b : Shelf) (two : Bool) → Lends b two → shelf_lent b.first (second_of b two) ≡ b
 shelf_as_lent b true l = refl
 shelf_as_lent b false l = ap (shelf b.first) (sym (l refl))
+
+-- what C lends: the second book's bytes, looked at only where two are lent
+module _ (book second : List ℕ) (lent : Option (List ℕ)) where
+  pub lent_lends : (two : Bool) → lent ≡ cond two (Some second) None → Lends (shelf_lent book lent) two
+  lent_lends true e = λ h. absurd (false≢true (sym h))
+  lent_lends false e = λ h. ap (λ (x : Option (List ℕ)). (shelf_lent book x).second) e
+
+  pub lent_books : (two : Bool) → lent ≡ cond two (Some second) None → books_lent book lent ≡ books_of (shelf book second) two
+  lent_books two e = ap (books_lent book) e ∙ sym (books_as_lent (shelf book second) two)
 
 -- the edition that a text is read by beside lent books: what the first says
 pub first_said : (books : Shelf) (two : Bool) → Book.edition_of (books_of books two) ≡ Book.edition books.first

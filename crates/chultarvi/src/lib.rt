@@ -223,6 +223,7 @@ fn lent_second<'a>(second: &'a [u8], two: bool) -> Option<&'a [u8]>
 }
 
 // One scan for both modes and for one book or two, charged to the allowance in place.
+#[tactic(auto, using(crate::proofs::BesideLaws::lent_books))]
 pub fn chultarvi_scan_allowed<'a>(
     text: &[u8],
     book: &'a [u8],

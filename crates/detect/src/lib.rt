@@ -43,7 +43,8 @@ pub fn best_of<'a>(
         }
         let text = next_on(book, second, texts, spot);
         let body = body_of(book, second, text);
-        let least = to_beat(floor, best, text.text.kind);
+        let kind = u32::from(text.text.kind);
+        let least = to_beat(floor, best, kind);
         let c = charge(area, words, n, t, body, least, left);
         left = c.left;
         let value = c.value;

@@ -4,12 +4,11 @@
 #![tactic(auto)]
 
 ghost use Rattle.std.specs.Prelude.{◌≡◌};
-ghost use Rattle.rules.specs.Told.{kind_number};
 ghost use Rattle.detect_best.specs.Beats.{Wins, kind_of, score_of, to_beat};
 
 use detection_shelf::Shelved;
 use floors::Floor;
-use rules::{Kind, Value};
+use rules::Value;
 
 // A stored text and what it scores. Of no text yet there is none of it, and any text beats that.
 #[derive(Clone, Copy)]
@@ -39,17 +38,17 @@ pub fn wins(best: Option<Best>, next: Best) -> bool
 }
 
 // What the next text, of this kind, has to beat: the floor, where ties with it do, as long as no text reaches it; then the best so far, where
-// ties do if its kind goes before.
+// ties do if its kind goes before. The kind is its number, so that any is answered.
 #[tactic(auto, unfolding(crate::specs::Beats::to_beat))]
-pub fn to_beat(floor: f32, best: Option<Best>, kind: Kind) -> Floor
-    ensures { result ≡ to_beat floor (kind_of best) (score_of best) (kind_number kind) }
+pub fn to_beat(floor: f32, best: Option<Best>, kind: u32) -> Floor
+    ensures { result ≡ to_beat floor (kind_of best) (score_of best) kind }
 {
     if let Some(best) = best {
         let score = best.value.score;
         if !(score < floor) {
             return Floor {
                 score,
-                ties: kind < best.text.text.kind,
+                ties: kind < u32::from(best.text.text.kind),
             };
         }
     }

@@ -47,8 +47,11 @@ fn is_above(a: &[u8], b: &[u8]) -> bool
         if b.len() <= i {
             return false;
         }
-        if a[i] != b[i] {
-            return a[i] < b[i];
+        if a[i] < b[i] {
+            return true;
+        }
+        if b[i] < a[i] {
+            return false;
         }
     }
     a.len() < b.len()

@@ -10,12 +10,15 @@ ghost use Rattle.detection_terms.specs.Terms.{term_point, plain_term, wide_term}
 
 use points::read::{is_lead, is_second, point_of};
 
-// a-z, 0-9 or `_`.
+// a-z, 0-9 or `_`. The letters first, by themselves: they are most of what a book holds.
 #[tactic(auto, unfolding(rules::specs::Bytes::within, rules::specs::Bytes::among, rules::specs::Bytes::lower, rules::specs::Bytes::digit, crate::specs::Terms::term_point, crate::specs::Terms::plain_term))]
 fn is_plain(x: u8) -> bool
     ensures { result ≡ plain_term x }
 {
-    matches!(x, b'a'..=b'z') || matches!(x, b'0'..=b'9') || x == b'_'
+    if matches!(x, b'a'..=b'z') {
+        return true;
+    }
+    matches!(x, b'0'..=b'9') || x == b'_'
 }
 
 // A letter above 127 that lower case leaves.

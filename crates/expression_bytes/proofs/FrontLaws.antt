@@ -9,7 +9,7 @@ use borrow.Author.Tests.{eqb-true, eq-eqb, ne_eqb}
 use lib.Dec.{eqb}
 use lib.ListN.{length, drop, get_or, length-drop}
 use lib.Seq.{drop-drop}
-use Rattle.std.specs.List.{prefix_len, zip, starts_with}
+use Rattle.std.specs.List.{starts_with}
 use Rattle.rules.specs.Bytes.{lead, starts}
 use Rattle.lists.proofs.SliceLaws.{drop-next, drop-done}
 use Rattle.rules.proofs.PlaceLaws.{lead-most}
@@ -65,12 +65,6 @@ blank-stop (x ∷ s) = one (eqb 32 x) refl (blank-stop s)
     one true e h = h
     one false e h = eqb-turn x 32 ∙ e
 
--- ---- as std counts them
-pub lead_prefix : (p : ℕ → Bool) (s : List ℕ) → lead p s ≡ prefix_len p s
-unfolding lead
-lead_prefix p [] = refl
-lead_prefix p (x ∷ s) = let e : suc (lead p s) ≡ 1 + prefix_len p s = omega (arith, lead_prefix p s) in ap (λ (n : ℕ). cond (p x) n 0) e
-
 -- ---- words
 count_most : (t : Bool) (k n : ℕ) → k ≤ n → cond t (suc k) 0 ≤ suc n
 count_most true k n h = omega arith
@@ -88,15 +82,39 @@ spelt-inside [] s = omega arith
 spelt-inside (w ∷ ws) [] = omega arith
 spelt-inside (w ∷ ws) (x ∷ s) = count_most (eqb x w) (spelt ws s) (length s) (spelt-inside ws s)
 
-abbrev pub same_byte : ℕ × ℕ → Bool
-same_byte p = eqb p.0 p.1
+pub spelt-more : (word s : List ℕ) (n : ℕ) → n < length word → head_is (get_or word n 0) s ≡ true → spelt (drop n word) s ≡ suc (spelt (drop (n + 1) word) (drop 1 s))
+unfolding spelt head_is
+spelt-more word [] n h e = false_true e
+spelt-more word (x ∷ s) n h e = ap (λ (w : List ℕ). spelt w (x ∷ s)) (drop-next word n h) ∙ rw e
 
-pub spelt_prefix : (ws s : List ℕ) → spelt ws s ≡ prefix_len same_byte (zip s ws)
+pub spelt_less : (word s : List ℕ) (n : ℕ) → n < length word → head_is (get_or word n 0) s ≡ false → spelt (drop n word) s ≡ 0
+unfolding spelt head_is
+spelt_less word [] n h e = ap (λ (w : List ℕ). spelt w []) (drop-next word n h)
+spelt_less word (x ∷ s) n h e = ap (λ (w : List ℕ). spelt w (x ∷ s)) (drop-next word n h) ∙ rw e
+
+pub spelt-end : (word s : List ℕ) (n : ℕ) → length word ≤ n → spelt (drop n word) s ≡ 0
 unfolding spelt
-spelt_prefix [] [] = refl
-spelt_prefix [] (x ∷ s) = refl
-spelt_prefix (w ∷ ws) [] = refl
-spelt_prefix (w ∷ ws) (x ∷ s) = let e : suc (spelt ws s) ≡ 1 + prefix_len same_byte (zip s ws) = omega (arith, spelt_prefix ws s) in ap (λ (n : ℕ). cond (eqb x w) n 0) e
+spelt-end word s n h = rw (drop-done word n h)
+
+-- n letters stand in s, and what follows is counted from there on
+pub record Spelt (word s : List ℕ) (n : ℕ) : Type 0 where
+  pub count : spelt word s ≡ n + spelt (drop n word) (drop n s)
+
+pub spelt_start : (word s : List ℕ) → Spelt word s 0
+spelt_start word s = record { count = omega arith }
+
+module _ {word s : List ℕ} {n : ℕ} where
+  pub spelt_next : n < length word → head_is (get_or word n 0) (drop n s) ≡ true → Spelt word s n → Spelt word s (n + 1)
+  spelt_next h e l =
+      let m : spelt (drop n word) (drop n s) ≡ suc (spelt (drop (n + 1) word) (drop (n + 1) s)) =
+      spelt-more word (drop n s) n h e ∙ ap (λ (t : List ℕ). suc (spelt (drop (n + 1) word) t)) (drop-one n s) in
+      record { count = omega (arith, l.count, m) }
+
+  pub spelt_stop : n < length word → head_is (get_or word n 0) (drop n s) ≡ false → Spelt word s n → n ≡ spelt word s
+  spelt_stop h e l = omega (arith, l.count, spelt_less word (drop n s) n h e)
+
+  pub spelt_all : n ≤ length word → length word ≤ n → Spelt word s n → length word ≡ spelt word s
+  spelt_all m h l = omega (arith, l.count, spelt-end word (drop n s) n h)
 
 -- and as std asks whether one stands there
 pub starts_as : (w s : List ℕ) → starts_with eqb s w ≡ starts w s

@@ -234,6 +234,12 @@ pub both-numbered : (t : List ℕ) (bs : List (List ℕ)) → Numbered (both_row
 unfolding of_text of_books all_early early
 both-numbered t bs = refl
 
+-- a text beside lent books that is refused by the first row of either that applies
+pub text-refused : (t book : List ℕ) (second : Option (List ℕ)) (e : Refusal) → refusal_number e ≡ refusal (both_rows t (books_lent book second)) →
+    AdmitsBooks t book second (Err e)
+unfolding number_told
+text-refused t book second e h = record { number = h; lines = tt; texts = tt }
+
 -- of a text, tested under the first book's edition
 module _ (t book : List ℕ) (second : Option (List ℕ)) (m : ℕ) (w : m ≡ Book.edition book) where
   abbrev said : ℕ
@@ -245,9 +251,9 @@ module _ (t book : List ℕ) (second : Option (List ℕ)) (m : ℕ) (w : m ≡ B
   tested : {r : Result ℕ Refusal} → AsTested m t r → number_told r ≡ refusal (of_text said t)
   tested h = h.number ∙ ap (λ (e : ℕ). refusal (of_text e t)) (w ∙ sym (first_said book second))
 
-  pub text-refused : (e : Refusal) → AsTested m t (Err e) → AdmitsBooks t book second (Err e)
+  pub text_untaken : (e : Refusal) → AsTested m t (Err e) → AdmitsBooks t book second (Err e)
   unfolding number_told
-  text-refused e h = record { number = tested h ∙ sym (refusal-first (of_text said t) rest (λ z. numbered e (tested h ∙ z))); lines = tt; texts = tt }
+  text_untaken e h = text-refused t book second e (tested h ∙ sym (refusal-first (of_text said t) rest (λ z. numbered e (tested h ∙ z))))
 
   module _ (n : ℕ) (h : AsTested m t (Ok n)) where
     books_decide : refusal (both_rows t (books_lent book second)) ≡ refusal rest

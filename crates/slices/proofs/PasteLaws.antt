@@ -1,27 +1,37 @@
--- A part of one list over a part of another, as `paste` has it: of k, and of none.
+-- A walk that copies k elements of any type within a list, upwards to a place past them: `Moved p₀ p from to i` says that i are copied.
+--     moved_start    none copied
+--     moved_more     one more
 -- Assumes nothing.
-use mathlib.Core.Path.{◌≡◌, refl, sym, ap, ◌∙◌}
-use mathlib.Core.List.{List, ◌++◌, append-nil}
-use Prim.Native.Nat.{ℕ, ◌+◌, ◌-◌, ◌≤◌}
+use mathlib.Core.Path.{◌≡◌, sym, ap, ◌∙◌}
+use mathlib.Core.List.{List, ◌++◌, append_assoc}
+use Prim.Native.Nat.{ℕ, suc, ◌+◌, ◌≤◌, ◌<◌}
+use native.Mathlib.Numerals.{add-one}
 use native.Mathlib.Omega.{arith}
-use borrow.Rule.Slice.PartMut.{put_mid}
-use lib.ListN.{length, take, drop, length-drop, take-append-drop}
-use lib.Seq.{paste, take-take, length-take-le}
-use Rattle.std.proofs.lemmas.Slice.{put_mid-paste}
+use lib.ListN.{length, take, drop, set, get_or, length-drop}
+use lib.Seq.{paste, paste-zero, paste-suc, take_at, length-take-le, get_or-take, get_or-drop}
 
-module _ (d s ys : List ℕ) (to from k : ℕ) where
-  -- what was written to `d[to..to + k]` is `s[from..from + k]`
-  pub part_pasted : from + k ≤ length s → ys ≡ take (from + k - from) (drop from s) → put_mid to (to + k - to) d ys ≡ paste d to (drop from s) k
-  part_pasted h e =
-      let f : from + k - from ≡ k = omega arith in
-      let g : to + k - to ≡ k = omega arith in
-      let n : length (take k (drop from s)) ≡ k = length-take-le k (drop from s) (omega (arith, length-drop from s)) in
-      ap (λ (m : ℕ). put_mid to m d ys) g ∙ put_mid-paste to k d ys (take k (drop from s)) k (e ∙ ap (λ (m : ℕ). take m (drop from s)) f) refl (sym n) ∙
-      ap (λ (l : List ℕ). take to d ++ l ++ drop (to + k) d) (take-take k k (drop from s) (omega arith))
+pub record Moved {A : Type 0} (p₀ p : List A) (from to i : ℕ) : Type 0 where
+  pub now : p ≡ paste p₀ to (drop from p₀) i
 
-  -- of no numbers
-  pub none_pasted : k ≤ 0 → d ≡ paste d to (drop from s) k
-  none_pasted h =
-      let e : k ≡ 0 = omega arith in
-      let f : to + 0 ≡ to = omega arith in
-      rw (e, f, append-nil (take to d)) (sym (take-append-drop to d))
+module _ {A : Type 0} where
+  pub moved_start : (p₀ : List A) (from to : ℕ) → Moved p₀ p₀ from to 0
+  moved_start p₀ from to = record { now = paste-zero p₀ to (drop from p₀) }
+
+  -- what lies before the place is as it was
+  paste_front : (d s : List A) (to n : ℕ) → to ≤ length d → take to (paste d to s n) ≡ take to d
+  paste_front d s to n h = rw append_assoc (take_at (take to d) (take n s ++ drop (to + n) d) to (length-take-le to d h))
+
+  -- the element that was read is what stood there at first
+  module _ {p₀ p : List A} {from k to i : ℕ} (apart : from + k ≤ to) (room : to + k ≤ length p₀) (h : i < k) (m : Moved p₀ p from to i) where
+    read : (d : A) → get_or p (from + i) d ≡ get_or p₀ (from + i) d
+    read d =
+        let l : from + i < to = omega arith in
+        let e : take to p ≡ take to p₀ = ap (take to) m.now ∙ paste_front p₀ (drop from p₀) to i (omega arith) in
+        sym (get_or-take to p (from + i) d l) ∙ rw e (get_or-take to p₀ (from + i) d l)
+
+    pub moved_more : (x : A) → x ≡ get_or p (from + i) x → Moved p₀ (set p (to + i) x) from to (i + 1)
+    moved_more x q =
+        let l : i < length (drop from p₀) = simp length-drop (omega arith) in
+        let f : get_or (drop from p₀) i x ≡ x = get_or-drop from p₀ i x ∙ sym (q ∙ read x) in
+        let s : set (paste p₀ to (drop from p₀) i) (to + i) (get_or (drop from p₀) i x) ≡ paste p₀ to (drop from p₀) (suc i) = paste-suc p₀ to (drop from p₀) i x (omega arith) l in
+        record { now = ap (λ (y : List A). set y (to + i) x) m.now ∙ ap (λ (y : A). set (paste p₀ to (drop from p₀) i) (to + i) y) (sym f) ∙ rw add-one s }

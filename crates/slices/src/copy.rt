@@ -7,7 +7,10 @@ pub fn copy_up<T: Copy>(area: &mut [T], from: usize, k: usize, to: usize) -> usi
     requires { (from + k ≤ to) × (to + k ≤ length area.old) }
     ensures { (result ≡ to + k) × (area.new ≡ paste area.old to (drop from area.old) k) }
 {
-    area.copy_within(from..from + k, to);
+    // An index walk, as in `copy_to`.
+    for i in 0..k {
+        area[to + i] = area[from + i];
+    }
     to + k
 }
 
@@ -17,8 +20,9 @@ pub fn copy_to(src: &[u8], from: usize, k: usize, dst: &mut [u8], to: usize) -> 
     requires k_in_bounds_2 { to + k ≤ length dst.old }
     ensures { (result ≡ to + k) × (dst.new ≡ paste dst.old to (drop from src.now) k) }
 {
-    if 0 < k {
-        dst[to..to + k].copy_from_slice(&src[from..from + k]);
+    // An index walk: `copy_from_slice` would make an archive need `memmove`, which the header doesn't name.
+    for i in 0..k {
+        dst[to + i] = src[from + i];
     }
     to + k
 }

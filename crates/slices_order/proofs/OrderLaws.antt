@@ -1,12 +1,13 @@
--- `starts`, `order`, `same` and `rises` are the library's words for slices.
+-- `starts` and `common` from a place on, by the bytes there; `order`, `same` and `rises` are the library's words for slices.
 -- Assumes nothing.
 use mathlib.Core.Path.{◌≡◌, refl, ap, ◌∙◌}
 use mathlib.Core.Bool.{Bool, true, false, ◌&&◌, cond}
 use mathlib.Core.List.{List, [], ◌∷◌}
-use Prim.Native.Nat.{ℕ, suc, ◌+◌, ◌<◌, compare, Ordering as Told}
+use Prim.Native.Nat.{ℕ, suc, ◌+◌, ◌≤◌, ◌<◌, compare, Ordering as Told}
 use native.Mathlib.Omega.{arith}
 use lib.Dec.{eqb, compare_is_eq}
-use lib.ListN.{length, take}
+use lib.ListN.{length, drop, get_or}
+use borrow.Author.Tests.{eq-eqb, ne_eqb}
 use lib.Pointwise.{pointwise}
 use Rattle.std.proofs.lemmas.Cmp.{ranked}
 use Rattle.std.specs.Prelude.{nat_eq}
@@ -14,18 +15,34 @@ use Rattle.std.specs.declared.cmp.Ordering.{Ordering}
 use Rattle.std.specs.declared.cmp.Ordering.TheVariants.{Less, Equal, Greater}
 use Rattle.std.specs.Ordering.{nat_cmp, ordering_then, is_lt, MatchOrdering}
 use Rattle.std.specs.Cmp.Lexicographic.{slice_cmp}
-use Rattle.std.specs.List.{prefix_len, zip}
 use Rattle.rules.specs.Prefix.{common}
+use Rattle.lists.proofs.SliceLaws.{drop-next, drop-done}
 use Rattle.rules.specs.Bytes.{starts, order, same, rises}
 use Rattle.rules.proofs.OrderLaws.{compare_is}
+use Rattle.rules.proofs.HitLaws.{starts-length}
 use Rattle.slices_order.specs.Order.{ordering_of}
 
--- ---- one starts with the other
-pub starts_is : (w s : List ℕ) → pointwise nat_eq w (take (length w) s) ≡ starts w s
-unfolding starts
-starts_is [] s = refl
-starts_is (x ∷ w) [] = refl
-starts_is (x ∷ w) (y ∷ s) = ap (λ (b : Bool). eqb x y && b) (starts_is w s)
+-- ---- one starts with the other: a shorter one never does; and from a place on
+pub starts-short : (w s : List ℕ) → length s < length w → starts w s ≡ false
+starts-short w s h = at (starts w s) refl
+  where
+    at : (t : Bool) → starts w s ≡ t → starts w s ≡ false
+    at true e = absurd (omega (arith, starts-length w s e))
+    at false e = e
+
+module _ (w s : List ℕ) (i : ℕ) where
+  pub starts-done : length w ≤ i → starts (drop i w) (drop i s) ≡ true
+  unfolding starts
+  starts-done h = rw (drop-done w i h)
+
+  pub starts_other : i < length w → i < length s → (get_or w i 0 ≡ get_or s i 0 → ⊥) → starts (drop i w) (drop i s) ≡ false
+  unfolding starts
+  starts_other h l e = rw (drop-next w i h, drop-next s i l, ne_eqb _ _ e)
+
+  pub starts_more : i < length w → i < length s → get_or w i 0 ≡ get_or s i 0 →
+      starts (drop i w) (drop i s) ≡ starts (drop (i + 1) w) (drop (i + 1) s)
+  unfolding starts
+  starts_more h l e = rw (drop-next w i h, drop-next s i l, eq-eqb _ _ e)
 
 -- ---- the order
 told : (x y : ℕ) (r : Ordering) → MatchOrdering r (x < y) (x ≡ y) (y < x) → r ≡ ordering_of (compare x y)
@@ -70,20 +87,24 @@ rises_is a b = at (order a b)
     at Told.eq = refl
     at Told.gt = refl
 
--- ---- what they have in common: the pairs at the front whose two are equal
-abbrev pub pair_same : ℕ × ℕ → Bool
-pair_same p = eqb p.0 p.1
-
-one_more : (n : ℕ) → 1 + n ≡ suc n
-one_more n = omega arith
-
-pub common_is : (a b : List ℕ) → length (take (prefix_len pair_same (zip a b)) (zip a b)) ≡ length (common a b)
+-- ---- what they have in common: it is no longer than either; and from a place on
+pub common-most : (a b : List ℕ) → (length (common a b) ≤ length a) × (length (common a b) ≤ length b)
 unfolding common
-common_is [] b = refl
-common_is (x ∷ a) [] = refl
-common_is (x ∷ a) (y ∷ b) = at (eqb x y) (common_is a b)
+common-most [] b = (omega arith, omega arith)
+common-most (x ∷ a) [] = (omega arith, omega arith)
+common-most (x ∷ a) (y ∷ b) = at (eqb x y) (common-most a b)
   where
-    at : (t : Bool) → length (take (prefix_len pair_same (zip a b)) (zip a b)) ≡ length (common a b) →
-        length (take (cond t (1 + prefix_len pair_same (zip a b)) 0) ((x, y) ∷ zip a b)) ≡ length (cond t (x ∷ common a b) [])
-    at true e = ap (λ (n : ℕ). length (take n ((x, y) ∷ zip a b))) (one_more (prefix_len pair_same (zip a b))) ∙ ap suc e
-    at false e = refl
+    at : (t : Bool) → (length (common a b) ≤ length a) × (length (common a b) ≤ length b) →
+        (length (cond t (x ∷ common a b) []) ≤ suc (length a)) × (length (cond t (x ∷ common a b) []) ≤ suc (length b))
+    at true h = (omega (arith, h.0), omega (arith, h.1))
+    at false h = (omega arith, omega arith)
+
+module _ (a b : List ℕ) (i : ℕ) where
+  pub common-other : i < length a → i < length b → (get_or a i 0 ≡ get_or b i 0 → ⊥) → length (common (drop i a) (drop i b)) ≡ 0
+  unfolding common
+  common-other h l e = rw (drop-next a i h, drop-next b i l, ne_eqb _ _ e)
+
+  pub common-more : i < length a → i < length b → get_or a i 0 ≡ get_or b i 0 →
+      length (common (drop i a) (drop i b)) ≡ suc (length (common (drop (i + 1) a) (drop (i + 1) b)))
+  unfolding common
+  common-more h l e = rw (drop-next a i h, drop-next b i l, eq-eqb _ _ e)

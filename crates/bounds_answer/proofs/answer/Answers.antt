@@ -3,6 +3,7 @@
 use mathlib.Core.Path.{◌≡◌, sym, ap, subst}
 use Prim.Native.Nat.{ℕ, ◌≤◌}
 use native.Mathlib.Omega.{arith}
+use lib.Ieee.{of_bits, of_fields}
 use Rattle.std.proofs.Common.{Option, Some}
 use Rattle.rules.specs.declared.Bounds.{Bounds}
 use Rattle.rules.specs.Sizes.{lines_most}
@@ -16,21 +17,21 @@ unfolding FitsAnswer
 fits x budget y h e = subst (λ (z : Option (Charged Bounds)). FitsAnswer z budget) e h
 
 pub overflow_cast-result : goal.overflow_cast-result
-overflow_cast-result c = let f = fits _ _ _ c.requires c.in_ok-charged.was in
+overflow_cast-result c = let f = fits _ _ _ c.requires c.in-Some.is in
     omega (arith, f.0, f.1)
 
 pub overflow_cast-result-2 : goal.overflow_cast-result-2
-overflow_cast-result-2 c = let f = fits _ _ _ c.requires c.in_ok-charged.was in
+overflow_cast-result-2 c = let f = fits _ _ _ c.requires c.in-Some.is in
     omega (arith, f.0, f.1)
 
 pub overflow_sub-result : goal.overflow_sub-result
-overflow_sub-result c = let f = fits _ _ _ c.requires c.in_ok-charged.was in
+overflow_sub-result c = let f = fits _ _ _ c.requires c.in-Some.is in
     omega (arith, f.2, c.count.ensures)
 
-pub returns-in_err-charged : goal.returns-in_err-charged
-unfolding answer_for
-returns-in_err-charged c = rw c.from_residual.ensures (sym (ap (λ (x : Option (Charged Bounds)). answer_for x c.args.budget) c.in_err-charged.was))
+pub returns-in_default : goal.returns-in_default
+unfolding answer_for of_bits of_fields
+returns-in_default c = sym (ap (λ (x : Option (Charged Bounds)). answer_for x c.args.budget) c.in_default.is)
 
 pub returns : goal.returns
 unfolding answer_for
-returns c = rw c.count.ensures (sym (ap (λ (x : Option (Charged Bounds)). answer_for x c.args.budget) c.in_ok-charged.was))
+returns c = rw c.count.ensures (sym (ap (λ (x : Option (Charged Bounds)). answer_for x c.args.budget) c.in-Some.is))

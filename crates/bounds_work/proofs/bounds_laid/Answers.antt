@@ -9,7 +9,7 @@ use Rattle.rules.specs.Lines.{lines}
 use Rattle.rules.specs.Search.{no_text}
 use Rattle.rules.specs.Book.{edition}
 use Rattle.detection_shelf.specs.Shelves.{shelf, texts}
-use Rattle.bounds_work.proofs.BoundsWorkLaws.{body_read, found_some, answer_fits, answer-is, found_told, bounds-found}
+use Rattle.bounds_work.proofs.BoundsWorkLaws.{body_read, answer_fits, answer-is, bounds-found}
 use Rattle.bounds_work.proofs.bounds_laid.Goals as goal
 
 pub lay-lines-requires : goal.lay-lines-requires
@@ -25,22 +25,14 @@ body_of-body-requires c = c.stored_on-found.ensures.0
 pub find_bounds-ranged-requires : goal.find_bounds-ranged-requires
 find_bounds-ranged-requires c = let p = c.requires.view_through in record { working = record { laid = c.lay-lines.ensures.laid; classes = edition-classes _ c.class_table-class.ensures; sound = rw c.body_of-body.ensures c.stored_on-found.ensures.0.found.is.sound }; start_le_end = (omega (arith, p.start), omega (arith, p.end, c.lay-lines.ensures.count), omega (arith, p.both.few, c.lay-lines.ensures.count)) }
 
-pub answer-located-requires : goal.answer-located-requires
-answer-located-requires c = let p = c.requires.view_through in
+pub answer-requires : goal.answer-requires
+answer-requires c = let p = c.requires.view_through in
     answer_fits _ _ _ p.start (omega (arith, p.end, p.both.few)) _ _ c.of.ensures (c.find_bounds-ranged.ensures.found (get_or (texts (shelf c.args.book.now c.args.second.now)) c.args.k no_text) (body_read c.stored_on-found.ensures.0 c.stored_on-found.ensures.1 c.body_of-body.ensures))
-
-pub unwrap-requires : goal.unwrap-requires
-unwrap-requires c = let p = c.requires.view_through in
-    found_some
-    (c.answer-located.ensures ∙
-    answer-is _ _ _ p.start (omega (arith, p.end, p.both.few)) _ _ c.of.ensures (c.find_bounds-ranged.ensures.found (get_or (texts (shelf c.args.book.now c.args.second.now)) c.args.k no_text) (body_read c.stored_on-found.ensures.0 c.stored_on-found.ensures.1 c.body_of-body.ensures)))
 
 pub returns : goal.returns
 returns c = let a = c.args in
     let p = c.requires.view_through in
     bounds-found (lines (edition a.book.now) a.text.now) (texts (shelf a.book.now a.second.now)) _ a.v a.k _ p.start (omega (arith, p.end, p.both.few))
     (noted_lines _ _ _ _ _ c.edition_of.ensures c.class_table-class.ensures c.lay-lines.ensures.lines)
-    (found_told
-    (c.answer-located.ensures ∙
+    (c.answer.ensures ∙
     answer-is _ _ _ p.start (omega (arith, p.end, p.both.few)) _ _ c.of.ensures (c.find_bounds-ranged.ensures.found (get_or (texts (shelf c.args.book.now c.args.second.now)) c.args.k no_text) (body_read c.stored_on-found.ensures.0 c.stored_on-found.ensures.1 c.body_of-body.ensures)))
-    c.unwrap.ensures)

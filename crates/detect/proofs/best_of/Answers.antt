@@ -1,4 +1,4 @@
-use mathlib.Core.Path.{ap, subst}
+use mathlib.Core.Path.{ap, subst, ◌∙◌}
 use mathlib.Core.List.{List}
 use Prim.Native.Nat.{ℕ, ◌-◌, ◌<◌}
 use native.Mathlib.Omega.{arith}
@@ -11,7 +11,7 @@ use Rattle.detection_shelf.specs.Bodies.{table_of_body}
 use Rattle.license_views.specs.Tabled.{table_over}
 use Rattle.std.specs.Prelude.{Option}
 use Rattle.detect_best.specs.declared.Best.{Best}
-use Rattle.detect_best.specs.Beats.{Betters}
+use Rattle.detect_best.specs.Beats.{Betters, kind_of, score_of, to_beat}
 use Rattle.detect.proofs.BestLaws.{Walking, walk_first, walk_step, walk-out, walk_end}
 use Rattle.detect.proofs.best_of.Goals as goal
 use Rattle.detect.proofs.best_of.Goals.{After-after_on-spot, After-first_spot-spot, After-next_on-text}
@@ -44,11 +44,14 @@ module _ (p : After-after_on-spot) where
       Walking (books first_spot_of_p) (viewed first_spot_of_p) p.args.floor p.args.budget.count after
       p.charge-c.result.left.count p.after_on-spot.result
   step after b =
+      let asked =
+      p.to_beat-least.ensures ∙
+      ap (to_beat p.args.floor (kind_of p.loop-spot.best) (score_of p.loop-spot.best)) p.from-kind.ensures in
       let judged =
       subst (λ (k : List ℕ). Judged p.to_beat-least.result (value_of (viewed first_spot_of_p) (table_of_body k)) p.charge-c.result.value)
       p.body_of-body.ensures p.charge-c.ensures.value in
       walk_step p.loop-spot.invariant p.args.texts.all p.requires.counts_of.all _ _ _ _ _ _ p.loop-spot-test.true
-      (some_left next_on_of_p) p.next_on-text.ensures p.to_beat-least.ensures judged b
+      (some_left next_on_of_p) p.next_on-text.ensures asked judged b
       p.charge-c.ensures.left p.after_on-spot.ensures
 
 pub loop-spot-init : goal.loop-spot-init

@@ -1,18 +1,17 @@
--- `common_len`: the pairs at the front that are equal.
--- Assumes nothing.
-use mathlib.Core.Path.{sym, ap, ◌∙◌}
-use lib.ListN.{length}
-use Rattle.std.proofs.Common.{rules}
-use borrow.Author.Tests.{tests}
-use Rattle.std.proofs.lemmas.List.{length-map}
-use Rattle.std.proofs.lemmas.Iterator.{YieldsList-from_slice, YieldsList-from_zip, items_from_drains}
-use Rattle.std.proofs.lemmas.Iterator.Search.{YieldsList-from_take_while}
-use Rattle.slices_order.proofs.OrderLaws.{pair_same, common_is}
+use native.Mathlib.Omega.{arith}
+use borrow.Author.Rules.{rules}
+use Rattle.slices_order.proofs.OrderLaws.{common-most, common-other, common-more}
 use Rattle.slices_order.proofs.common_len.Goals as goal
 
+pub returns-then-a-i : goal.returns-then-a-i
+returns-then-a-i c = let a = c.args in
+    omega (arith, c.loop-i.invariant, common-other a.a.now a.b.now c.loop-i.i (search rules) (search rules) c.if-a-i.true)
+
+pub loop-i-preserved : goal.loop-i-preserved
+loop-i-preserved c = let a = c.args in
+    omega (arith, c.loop-i.invariant, common-more a.a.now a.b.now c.loop-i.i (search rules) (search rules) c.if-a-i.false)
+
 pub returns : goal.returns
-returns c = let a = c.args.a.now in
-    let b = c.args.b.now in
-    let r = c.count.ensures.ran in
-    let e = items_from_drains r.0 (r.1.1.0, r.1.1.1, λ _. (r.1.0, r.1.1.2)) (YieldsList-from_take_while _ pair_same (YieldsList-from_zip (YieldsList-from_slice a (search rules)) (YieldsList-from_slice b (search rules))) c.take_while.ensures.closure c.take_while.ensures.done (λ x t q k. search (rules, tests))) in
-    r.2 ∙ sym (length-map r.0 _) ∙ ap length e ∙ common_is a b
+returns c = let a = c.args in
+    let h = common-most a.a.now a.b.now in
+    omega (arith, c.loop-i.invariant, c.loop-i.auto.i-end, c.loop-i-test.false, c.min-n.ensures, h.0, h.1)

@@ -1,13 +1,22 @@
--- `copy::copy_to`: the part that is written, or no bytes at all.
--- Assumes nothing.
-use mathlib.Core.Path.{refl, ◌∙◌}
-use mathlib.Core.List.{[]}
-use Rattle.slices.proofs.PasteLaws.{part_pasted, none_pasted}
+use native.Mathlib.Omega.{arith}
+use Rattle.lists.proofs.CopyLaws.{copying_start, copying_from, copying_room, copying_next, copying_end}
+use borrow.Author.Rules.{rules}
 use Rattle.slices.proofs.copy.copy_to.Goals as goal
-use Rattle.slices.proofs.copy.copy_to.Goals.{then-k-gt0, else-k-gt0}
+
+pub loop-i-init : goal.loop-i-init
+loop-i-init c = copying_start _ _ _ _ _ c.requires.k_in_bounds c.requires.k_in_bounds_2
+
+pub overflow_add-dst : goal.overflow_add-dst
+overflow_add-dst c = omega (arith, copying_from c.loop-i.invariant c.loop-i-test.true)
+
+pub bounds-src-from : goal.bounds-src-from
+bounds-src-from c = copying_from c.loop-i.invariant c.loop-i-test.true
+
+pub bounds-dst-to : goal.bounds-dst-to
+bounds-dst-to c = copying_room c.loop-i.invariant c.loop-i-test.true
+
+pub loop-i-preserved : goal.loop-i-preserved
+loop-i-preserved c = copying_next c.loop-i.invariant c.loop-i-test.true
 
 pub returns : goal.returns
-returns c = elim c.if-k-gt0.branch [
-  | then-k-gt0 w ↦ (refl, w.dst-is ∙ part_pasted _ _ _ _ _ _ (c.requires.k_in_bounds w.if-k-gt0.true) w.copy_from_slice.ensures.after)
-  | else-k-gt0 w ↦ (refl, w.dst-is ∙ none_pasted c.args.dst.now c.args.src.now [] c.args.to c.args.from c.args.k w.if-k-gt0.false)
-]
+returns c = (search rules, copying_end c.loop-i.invariant c.loop-i-test.false)

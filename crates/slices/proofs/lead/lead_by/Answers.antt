@@ -1,15 +1,15 @@
--- `lead_by`: the first byte that fails the test, or none.
--- Assumes nothing.
-use mathlib.Core.Path.{ap, ◌∙◌}
-use mathlib.Core.Bool.{not}
-use Rattle.std.proofs.Common.{rules}
-use borrow.Author.Tests.{tests}
-use Rattle.std.proofs.lemmas.Iterator.{YieldsList-from_slice}
-use Rattle.std.proofs.lemmas.Iterator.Search.{position_from_yields_List}
-use Rattle.rules.specs.Bytes.{lead}
-use Rattle.slices.proofs.LeadLaws.{lead_found}
+use mathlib.Core.Path.{sym, ◌∙◌}
+use Rattle.slices.proofs.LeadLaws.{led_start, led_more, led_stop, led_all}
 use Rattle.slices.proofs.lead.lead_by.Goals as goal
 
+pub loop-i-init : goal.loop-i-init
+loop-i-init g c p h = led_start _ _ _
+
+pub returns-then-not-passes : goal.returns-then-not-passes
+returns-then-not-passes g c p h = led_stop c.loop-i-test.true (sym (h _ _ c.test-passes.ensures) ∙ c.if-not-passes.true) (c.loop-i.invariant p h)
+
+pub loop-i-preserved : goal.loop-i-preserved
+loop-i-preserved g c p h = led_more c.loop-i-test.true (sym (h _ _ c.test-passes.ensures) ∙ c.if-not-passes.false) (c.loop-i.invariant p h)
+
 pub returns : goal.returns
-returns g c p h = let l = c.rest-left.result.now in
-    c.unwrap_or.ensures ∙ lead_found p l c.position.result (position_from_yields_List (λ x. not (p x)) _ _ _ c.position.ensures.ran (YieldsList-from_slice l c.iter.ensures.rest) (λ x b q k. search (rules, tests))) ∙ ap (lead p) c.rest-left.ensures
+returns g c p h = c.saturating_sub.ensures ∙ led_all c.loop-i-test.false (c.loop-i.invariant p h)
