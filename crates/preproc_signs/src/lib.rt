@@ -13,17 +13,19 @@ ghost use Rattle.preproc_signs.specs.Signs.{kinds, sign_in};
 
 use slices::class::{CLOSING, DASH, GAP_HIGH, GAP_LOW, OPENING, QUOTE, UNDERSCORE};
 
-// What b becomes, by its class; none where it stays. Most are letters, classes 10 and 11: they are told by two tests first, which is faster.
+// What b becomes, by its class; none where it stays. Most are letters, classes 10 and 11, and gaps: each is told by two tests first, which is faster.
 #[tactic(auto, using(crate::proofs::SignLaws::sign_of_class))]
 fn sign_of(class: &[u8; 256], b: u8) -> Option<u8>
     ensures { MatchOption result (sign_in kinds (get_or class.now b 0) ≡ 0) (λ s. (sign_in kinds (get_or class.now b 0) ≡ s) × (0 < s)) }
 {
     let c = class[b as usize];
-    if GAP_HIGH < c && c < UNDERSCORE {
+    if c <= GAP_HIGH {
+        return if GAP_LOW <= c { Some(b' ') } else { None };
+    }
+    if c < UNDERSCORE {
         return None;
     }
     match c {
-        GAP_LOW..=GAP_HIGH => Some(b' '),
         UNDERSCORE => Some(b'_'),
         QUOTE => Some(b'\''),
         DASH => Some(b'-'),

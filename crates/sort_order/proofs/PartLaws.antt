@@ -1,7 +1,7 @@
 -- Two parts, byte by byte.
 -- Assumes nothing.
 use mathlib.Core.Path.{◌≡◌, refl, sym, ap, ◌∙◌}
-use mathlib.Core.Bool.{Bool, true, false, cond}
+use mathlib.Core.Bool.{Bool, true, false, cond, not}
 use mathlib.Core.List.{List, [], ◌∷◌}
 use Prim.Native.Nat.{ℕ, suc, ◌+◌, ◌≤◌, ◌<◌}
 use native.Mathlib.Omega.{arith}
@@ -10,6 +10,16 @@ use lib.ListN.{length, take, drop, get_or, drop_of_length-le}
 use borrow.Author.Tests.{eq-eqb, ne_eqb, le-ltb, eqb-true, eqb-false, ltb-true, ltb-false}
 use Rattle.lists.proofs.SliceLaws.{drop-next}
 use Rattle.sort_spread.specs.Sort.{ends_part, marks_left, part_of, lex_later, part_later}
+
+-- a byte that is no mark
+module _ (m c x : ℕ) (n : x ≡ m → ⊥) where
+  pub unmarked : ends_part m c x ≡ false
+  unfolding ends_part
+  unmarked = rw (ne_eqb x m n)
+
+  pub marks_stay : marks_left m c x ≡ c
+  unfolding marks_left
+  marks_stay = rw (ne_eqb x m n)
 
 -- the part from i on, by its first byte
 module _ (m c : ℕ) (l : List ℕ) (i : ℕ) where
@@ -87,6 +97,43 @@ module _ (m c x : ℕ) (xs : List ℕ) where
 pub over-end : (m c : ℕ) (zs : List ℕ) → lex_later (part_of m c []) (part_of m c zs) ≡ false
 unfolding part_of lex_later
 over-end m c zs = refl
+
+-- the parts of one text from i and from j on
+module _ (m c : ℕ) (l : List ℕ) (i j : ℕ) where
+  pub none_later : length l ≤ i → part_later m c l i j ≡ false
+  unfolding part_later
+  none_later h = rw (drop_of_length-le l {i = i} h) (over-end m c (drop j l))
+
+  module _ (h : i < length l) where
+    pub ended_later : ends_part m c (get_or l i 0) ≡ true → part_later m c l i j ≡ false
+    unfolding part_later
+    ended_later e = rw (drop-next l i h) (over_mark m c (get_or l i 0) (drop (i + 1) l) (drop j l) e)
+
+    -- the text ends before j
+    pub alone_later : length l ≤ j → part_later m c l i j ≡ not (ends_part m c (get_or l i 0))
+    unfolding part_later
+    alone_later t = go (ends_part m c (get_or l i 0)) refl
+      where
+        go : (b : Bool) → ends_part m c (get_or l i 0) ≡ b → lex_later (part_of m c (drop i l)) (part_of m c (drop j l)) ≡ not b
+        go true e = ended_later e
+        go false e = rw (drop-next l i h, drop_of_length-le l {i = j} t) (other-end m c (get_or l i 0) (drop (i + 1) l) e)
+
+    module _ (e : ends_part m c (get_or l i 0) ≡ false) (k : j < length l) where
+      pub other_later : ends_part m c (get_or l j 0) ≡ true → part_later m c l i j ≡ true
+      unfolding part_later
+      other_later t = rw (drop-next l i h, drop-next l j k) (other_mark m c (get_or l i 0) (drop (i + 1) l) e (get_or l j 0) (drop (j + 1) l) t)
+
+      pub unlike_later : ends_part m c (get_or l j 0) ≡ false → (get_or l j 0 ≡ get_or l i 0 → ⊥) → part_later m c l i j ≡ ltb (get_or l j 0) (get_or l i 0)
+      unfolding part_later
+      unlike_later t n = rw (drop-next l i h, drop-next l j k) (unlike m c (get_or l i 0) (drop (i + 1) l) e (get_or l j 0) (drop (j + 1) l) t n)
+
+      pub alike_later : get_or l j 0 ≡ get_or l i 0 → part_later m c l i j ≡ part_later m (marks_left m c (get_or l i 0)) l (i + 1) (j + 1)
+      unfolding part_later
+      alike_later t = rw (drop-next l i h, drop-next l j k) (alike m c (get_or l i 0) (drop (i + 1) l) e (get_or l j 0) (drop (j + 1) l) t)
+
+    -- a byte that both have, and that is no mark
+    pub plain_later : (get_or l i 0 ≡ m → ⊥) → j < length l → get_or l j 0 ≡ get_or l i 0 → part_later m c l i j ≡ part_later m c l (i + 1) (j + 1)
+    plain_later n k t = rw (marks_stay m c (get_or l i 0) n) at (alike_later (unmarked m c (get_or l i 0) n) k t)
 
 -- of two lists at most one comes after the other
 no : false ≡ true → ⊥

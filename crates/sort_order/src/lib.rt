@@ -3,9 +3,7 @@
 #![tactic(auto)]
 
 ghost use Rattle.std.specs.Prelude.{◌≡◌, ◌+◌, length, drop};
-ghost use Rattle.sort_spread.specs.Sort.{ends_part, marks_left, part_of, lex_later, part_later};
-
-use slices::lead::rest;
+ghost use Rattle.sort_spread.specs.Sort.{ends_part, marks_left, part_of, part_later};
 
 // What ends a part: the byte `mark`, where as many as `times` of them are to come.
 #[derive(Clone, Copy)]
@@ -41,32 +39,26 @@ impl Cut {
         self
     }
 
-    // Whether the part that one slice begins with comes after the one that the other does.
-    fn is_after(self, first: &[u8], second: &[u8]) -> bool
-        ensures { result ≡ lex_later (part_of self.mark self.times first.now) (part_of self.mark self.times second.now) }
-    {
-        let mut cut = self;
-        let mut others = second.iter();
-        for x in first {
-            if cut.ends_at(*x) {
-                return false;
-            }
-            let Some(y) = others.next() else {
-                return true;
-            };
-            if *y != *x {
-                return cut.ends_at(*y) || *y < *x;
-            }
-            cut = cut.past(*x);
-        }
-        false
-    }
-
-    // Whether the part that starts at a comes after the one that starts at b.
+    // Whether the part that starts at a comes after the one that starts at b. Most bytes are alike and end nothing: two tests a byte.
     pub fn part_after(self, text: &[u8], a: usize, b: usize) -> bool
         ensures { result ≡ part_later self.mark self.times text.now a b }
     {
-        self.is_after(rest(text, a), rest(text, b))
+        let both = text.len().saturating_sub(a.max(b));
+        let mut cut = self;
+        for i in 0..both {
+            let x = text[a + i];
+            let y = text[b + i];
+            if y != x {
+                return !cut.ends_at(x) && (cut.ends_at(y) || y < x);
+            }
+            if x == cut.mark {
+                if cut.ends_at(x) {
+                    return false;
+                }
+                cut = cut.past(x);
+            }
+        }
+        a + both < text.len() && !cut.ends_at(text[a + both])
     }
 
     // Where the part that starts at a ends.
